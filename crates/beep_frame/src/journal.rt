@@ -1,0 +1,25 @@
+//! What happens in a session, item by item.
+
+use crate::head::Head;
+use crate::octets::Octets;
+use crate::seq::Seq;
+
+/// Which way a frame went, as one end sees it.
+#[derive(Clone, Copy, Debug, PartialEq, Eq)]
+pub enum Side {
+    /// From the peer to this end.
+    Received,
+    /// From this end to the peer.
+    Sent,
+}
+
+/// One thing that happened, at the octet that completes it.
+#[derive(Debug, Drop)]
+pub enum JournalItem {
+    /// The LF of a header: a data frame is begun.
+    Began(Side, Head),
+    /// The LF of a trailer: a data frame has passed, with its payload.
+    Passed(Side, Head, Octets),
+    /// The LF of a SEQ.
+    Told(Side, Seq),
+}
