@@ -1,0 +1,6 @@
+pub mod Counts
+pub mod Ended
+pub mod Planned
+pub mod Supply
+pub mod Tray
+pub mod Transfer

@@ -1,0 +1,40 @@
+//! A sink that keeps nothing.
+ghost use Rattle.std.specs.Prelude.{◌≡◌, ◌<◌, ◌≤◌, None, Ok, length, IfOk, OnErr};
+ghost use Rattle.std.specs.Io.KnownBytes.{WriteAppends};
+ghost use Rattle.beep_wires.specs.Counts.{Rose};
+
+use crate::failed::Failed;
+use crate::sink::Sink;
+
+/// A sink that takes each piece whole, and keeps nothing of it.
+#[derive(Clone, Copy, Debug)]
+pub struct NullSink;
+
+impl Sink for NullSink {
+    ghost written = { λ _. None };
+
+    ghost faults = { λ _. 0 };
+
+    fn write(&mut self, bytes: &[u8]) -> Result<usize, Failed>
+        requires { 0 < length bytes.now }
+        ensures whole { result ≡ Ok (length bytes.now) }
+        ensures within { IfOk result (λ n. (0 < n) × (n ≤ length bytes.now)) }
+        ensures octets { WriteAppends None None result bytes.now }
+        ensures failed { OnErr result (Rose 0 0) }
+        ensures kept { 0 ≤ 0 }
+    {
+        Ok(bytes.len())
+    }
+}
+
+#[cfg(test)]
+mod tests {
+    use super::*;
+
+    #[test]
+    fn each_piece_is_taken_whole(rt: HostRuntime) {
+        let mut sink = NullSink;
+        assert_eq!(rt; sink.write(b"MSG"), Ok(3));
+        assert_eq!(rt; sink.write(&[0; 4096]), Ok(4096));
+    }
+}
