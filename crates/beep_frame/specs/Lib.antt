@@ -1,2 +1,12 @@
 pub mod Held
 pub mod Frame
+pub mod Spelling
+pub mod Machine
+pub mod Line
+pub mod Stream
+pub mod Reading
+pub mod Finding
+pub mod Stands
+pub mod Decodes
+pub mod Telling
+pub mod Laws

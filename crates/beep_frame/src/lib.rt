@@ -5,16 +5,21 @@
 //! answer it however the stream is cut into reads.
 #![tactic(auto)]
 
+mod decoder;
+mod finder;
 mod head;
 mod journal;
 mod kind;
+pub mod laws;
+mod line;
 mod octets;
 mod role;
 mod rule;
 mod seq;
 mod tag;
 
-pub use head::Head;
+pub use decoder::{Decoder, Step};
+pub use head::{Head, MAX_NUMBER};
 pub use journal::{JournalItem, Side};
 pub use kind::Kind;
 pub use octets::{NoMemory, Octets};

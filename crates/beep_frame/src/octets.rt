@@ -71,6 +71,18 @@ impl Octets {
         self.bytes.push_reserved(byte);
     }
 
+    /// Appends `bytes` in the room that is there.
+    pub fn extend_spare(&mut self, bytes: &[u8])
+        requires { length bytes.now ≤ self.old.spare }
+        ensures appended { self.new.octets ≡ self.old.octets ++ bytes.now }
+        ensures room { self.old.spare ≤ self.new.spare + length bytes.now }
+    {
+        match self.extend(bytes) {
+            Ok(()) => {}
+            Err(NoMemory) => unreachable!(),
+        }
+    }
+
     /// The octets.
     pub fn as_slice(&self) -> &[u8]
         ensures { result.now ≡ self.now.octets }

@@ -1,0 +1,10 @@
+pub mod RunLemmas
+pub mod FindLemmas
+pub mod PartLemmas
+pub mod LineLemmas
+pub mod WholeLemmas
+pub mod StreamLemmas
+pub mod DeadLemmas
+pub mod AliveLemmas
+pub mod DecodeLemmas
+pub mod LawLemmas

@@ -1,0 +1,43 @@
+-- What the definitions of a stream and of a decoder mean, in words that need neither.
+use Rattle.std.specs.Prelude.{◌≡◌, ℕ, ◌≤◌, ◌⊎◌, List, [], ◌∷◌, ◌++◌, length}
+use Rattle.std.specs.List.{AllByRecursion}
+use Rattle.beep_frame.specs.declared.head.Head.{Head}
+use Rattle.beep_frame.specs.Frame.{Frame, IsFrame, IsHead}
+use Rattle.beep_frame.specs.Spelling.{header, spelling}
+use Rattle.beep_frame.specs.Stream.{Stream, IsAlive}
+use Rattle.beep_frame.specs.Stands.{DecoderState, IsWithin}
+
+-- the frames and the rest of a stream are unique
+abbrev pub OneReading : Type 0
+OneReading =
+    (octets : List ℕ) (fs gs : List Frame) (r s : List ℕ) → Stream octets fs r → Stream octets gs s → (fs ≡ gs) × (r ≡ s)
+
+-- no spelling is a proper prefix of another
+abbrev pub NoneBeginsAnother : Type 0
+NoneBeginsAnother =
+    (f g : Frame) (more : List ℕ) → IsFrame f → IsFrame g → spelling f ≡ spelling g ++ more → (f ≡ g) × (more ≡ [])
+
+-- what is alive stays alive in each prefix
+abbrev pub StaysAlive : Type 0
+StaysAlive = (octets more : List ℕ) → IsAlive (octets ++ more) → IsAlive octets
+
+-- no whole header begins these octets, which are at most the longest header but one
+pub record HasNoHead (rest : List ℕ) : Type 0 where
+  pub short : length rest ≤ 61
+  pub none : (head : Head) (more : List ℕ) → IsHead head → rest ≡ header head ++ more → ⊥
+
+-- this whole header begins these octets
+pub record HasHead (rest : List ℕ) (head : Head) : Type 0 where
+  pub is_head : IsHead head
+  pub more : List ℕ
+  pub begins : rest ≡ header head ++ more
+
+-- the header of the rest is among those told, where it is whole
+abbrev pub TellsHead : List ℕ → List Head → Type 0
+TellsHead rest heads = ((heads ≡ []) × HasNoHead rest) ⊎ ((head : Head) × (heads ≡ head ∷ []) × HasHead rest head)
+
+-- a decoder that stands so has read a stream of these frames and this rest, each within its limit
+pub record Means (decoder : DecoderState) (fed : List ℕ) (frames : List Frame) (rest : List ℕ) (heads : List Head) : Type 0 where
+  pub stream : Stream fed frames rest
+  pub within : AllByRecursion (IsWithin decoder.max) frames
+  pub tells : TellsHead rest heads

@@ -1,0 +1,41 @@
+-- What a stream of octets is: whole frames, and less than one more (RFC 3080, section 2.2.1).
+-- The definition is over the whole stream, so no cut of it into reads appears here.
+use Rattle.std.specs.Prelude.{◌≡◌, ℕ, ◌<◌, List, [], ◌∷◌, ◌++◌, take}
+use Rattle.std.specs.List.{flat_map, AllByRecursion}
+use Rattle.beep_frame.specs.declared.head.Head.{Head}
+use Rattle.beep_frame.specs.Frame.{Frame, framed, IsFrame}
+use Rattle.beep_frame.specs.Spelling.{spelling, header, trailer}
+
+-- less than a frame: the spelling of some frame has more octets after these
+pub record IsUnfinished (octets : List ℕ) : Type 0 where
+  pub frame : Frame
+  pub is_frame : IsFrame frame
+  pub next : ℕ
+  pub others : List ℕ
+  pub spelled : spelling frame ≡ octets ++ next ∷ others
+
+-- the octets are these frames, one after another, and then less than a frame
+pub record Stream (octets : List ℕ) (frames : List Frame) (rest : List ℕ) : Type 0 where
+  pub whole : octets ≡ flat_map spelling frames ++ rest
+  pub each : AllByRecursion IsFrame frames
+  pub unfinished : IsUnfinished rest
+
+-- some frames and some rest are these octets
+abbrev pub IsAlive : List ℕ → Type 0
+IsAlive octets = (frames : List Frame) × (rest : List ℕ) × Stream octets frames rest
+
+-- the octets are alive, and with this octet after them they aren't, whatever follows it
+pub record DiesAt (before : List ℕ) (octet : ℕ) : Type 0 where
+  pub alive : IsAlive before
+  pub dead : IsAlive (before ++ octet ∷ []) → ⊥
+
+-- the next octet is one of a trailer: whole frames, a header, its payload and fewer than five octets of the trailer came
+pub record InTrailer (before : List ℕ) : Type 0 where
+  pub frames : List Frame
+  pub head : Head
+  pub payload : List ℕ
+  pub count : ℕ
+  pub each : AllByRecursion IsFrame frames
+  pub is_frame : IsFrame (framed head payload)
+  pub fewer : count < 5
+  pub whole : before ≡ flat_map spelling frames ++ (header head ++ payload ++ take count trailer)

@@ -1,0 +1,48 @@
+-- What a decoder answers to what was found, and what it is then: for its proofs.
+use Rattle.std.specs.Prelude.{ℕ, ◌+◌, ◌==◌, nat_lt, if◌then◌else◌, Some}
+use Rattle.beep_frame.specs.declared.rule.Rule.{Rule}
+use Rattle.beep_frame.specs.declared.line.Line.{Line}
+use Rattle.beep_frame.specs.declared.decoder.Step.{Step}
+use Rattle.beep_frame.specs.declared.finder.Found.{Found}
+use Rattle.beep_frame.specs.declared.finder.Place.{Place}
+use Rattle.beep_frame.specs.Line.{line_start}
+use Rattle.beep_frame.specs.Stands.{DecoderState, told}
+
+-- so many octets were used, and led there
+abbrev pub moved : DecoderState → Place → Line → ℕ → DecoderState
+moved d place line count =
+    record d { place = place; line = line; left = told (d.left + count); used = told (d.used + count) }
+
+-- where the next octet stands behind a header
+abbrev pub behind_header : ℕ → Place
+behind_header size = if size == 0 then Place.Trailer 0 else Place.Payload size
+
+-- the number of the octet that was used last
+abbrev pub last_number : ℕ → ℕ
+last_number used = told (used + 18446744073709551615)
+
+abbrev pub broken_by : DecoderState → Rule → DecoderState
+broken_by d rule = record d { broken = Some (rule, last_number d.used) }
+
+-- the decoder between two frames
+abbrev pub renewed : DecoderState → DecoderState
+renewed d = record d { place = Place.Line; line = line_start; left = 0 }
+
+-- the answer
+abbrev pub step_of : DecoderState → Found → Step
+step_of d Found.More = Step.More
+step_of d (Found.Head head) = if nat_lt d.max head.size then Step.Broken Rule.Size (last_number d.used) else Step.Head head
+step_of d Found.Frame = Step.Frame
+step_of d (Found.Seq seq) = Step.Seq seq
+step_of d Found.BadLine = Step.Broken Rule.Header (last_number d.used)
+step_of d Found.BadTrailer = Step.Broken Rule.Trailer (last_number d.used)
+
+-- the decoder after it
+abbrev pub after_found : DecoderState → Found → DecoderState
+after_found d Found.More = d
+after_found d (Found.Head head) =
+    if nat_lt d.max head.size then broken_by d Rule.Size else record d { place = behind_header head.size }
+after_found d Found.Frame = renewed d
+after_found d (Found.Seq seq) = renewed d
+after_found d Found.BadLine = broken_by d Rule.Header
+after_found d Found.BadTrailer = broken_by d Rule.Trailer
