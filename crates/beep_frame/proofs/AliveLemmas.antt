@@ -148,6 +148,12 @@ unfinished_trailer octets h payload count w fewer e =
     let spelled : spelling (framed h payload) ≡ octets ++ get_or trailer count 0 ∷ drop (count + 1) trailer = ap (λ x. (header h ++ payload) ++ x) (sym parts) ∙ sym (append_assoc (header h ++ payload) (take count trailer) (get_or trailer count 0 ∷ drop (count + 1) trailer)) ∙ ap (λ x. x ++ get_or trailer count 0 ∷ drop (count + 1) trailer) (sym e) in
     record { frame = framed h payload; is_frame = w; next = get_or trailer count 0; others = drop (count + 1) trailer; spelled = spelled }
 
+-- a header without its last octet
+pub unfinished_header : (octets : List ℕ) (octet : ℕ) (h : Head) → IsHead h → octets ++ octet ∷ [] ≡ header h → IsUnfinished octets
+unfinished_header octets octet h w e =
+    let payload : List ℕ = replicate h.size 0 in
+    record { frame = framed h payload; is_frame = (w, length-replicate h.size 0); next = octet; others = payload ++ trailer; spelled = append_assoc (header h) payload trailer ∙ ap (λ x. x ++ (payload ++ trailer)) (sym e) ∙ append_assoc octets (octet ∷ []) (payload ++ trailer) }
+
 -- ---- the octet at which a stream dies
 
 -- a stream that goes on with what no frame has is dead there

@@ -1,7 +1,7 @@
 -- What a decoder answers is what the stream says.
-use Rattle.std.proofs.Common.{◌≡◌, ℕ, ◌+◌, ◌-◌, ◌<◌, ◌≤◌, Bool, true, false, ◌==◌, nat_lt, cond, List, [], ◌∷◌, ◌++◌, length, take, inl, inr, refl, ap, sym, ◌∙◌, arith, subst, append_assoc, append-nil, length-append}
+use Rattle.std.proofs.Common.{◌≡◌, ℕ, ◌+◌, ◌-◌, ◌<◌, ◌≤◌, Bool, true, false, ◌==◌, nat_lt, cond, List, [], ◌∷◌, ◌++◌, length, take, get_or, inl, inr, refl, ap, sym, ◌∙◌, arith, subst, append_assoc, append-nil, length-append}
 use Rattle.std.specs.List.{flat_map, AllByRecursion}
-use Rattle.std.proofs.lemmas.List.{length-take-le, take_all}
+use Rattle.std.proofs.lemmas.List.{length-take-le, take_all, take_more}
 use Rattle.std.proofs.lemmas.List.Concat.{flat_map-append}
 use Rattle.std.proofs.lemmas.Bool.Decides.{nat_tests}
 use Rattle.beep_frame.specs.declared.head.Head.{Head}
@@ -12,14 +12,15 @@ use Rattle.beep_frame.specs.declared.finder.Place.{Place}
 use Rattle.beep_frame.specs.declared.finder.Found.{Found}
 use Rattle.beep_frame.specs.declared.decoder.Step.{Step}
 use Rattle.beep_frame.specs.Frame.{Frame, framed, seq_frame, IsFrame, IsHead, IsSeq}
-use Rattle.beep_frame.specs.Spelling.{header, header_line, line_end, spelling}
-use Rattle.beep_frame.specs.Stream.{DiesAt, InTrailer}
+use Rattle.beep_frame.specs.Spelling.{header, spelling}
+use Rattle.beep_frame.specs.Stream.{IsUnfinished, Stream, DiesAt, InTrailer}
 use Rattle.beep_frame.specs.Reading.{At}
 use Rattle.beep_frame.specs.Finding.{Finds, EndsFrame, EndsInLine, EndsInTrailer}
 use Rattle.beep_frame.specs.Stands.{DecoderState, Stands, IsBroken, IsWithin, told}
-use Rattle.beep_frame.specs.Decodes.{Decodes, GivesMore, GivesHead, GivesFrame, GivesSeq, Dies, IsTooLarge}
+use Rattle.beep_frame.specs.Decodes.{Decodes, GivesMore, GivesHead, GivesFrame, GivesSeq, Breaks}
 use Rattle.beep_frame.specs.Telling.{moved, behind_header, last_number, broken_by, renewed, step_of, after_found}
-use Rattle.beep_frame.proofs.AliveLemmas.{dies_in_line, dies_in_trailer, not_in_trailer}
+use Rattle.beep_frame.proofs.AliveLemmas.{dies_in_line, dies_in_trailer, not_in_trailer, unfinished_line, unfinished_trailer, unfinished_header}
+use Rattle.beep_frame.proofs.LawLemmas.{tells_head, no_head}
 
 -- one more that has the property
 all_push : {X : Type 0} (P : X → Type 0) (xs : List X) (x : X) → AllByRecursion P xs → P x → AllByRecursion P (xs ++ x ∷ [])
@@ -81,28 +82,49 @@ module _ (d : DecoderState) (place : Place) (line : Line) (n : ℕ) (octets fed 
   gives_head head f small =
       record { first = f.0; is_head = f.1; within = small; whole = f.2; stands = record { goes_on = s.goes_on; whole = grown (take n octets); each = s.each; within = s.within; at = at_payload head f.1 f.2 _ refl; heads_within = (small, tt); used = used_now; left = left_now } }
 
-  too_large : (head : Head) → (heads ≡ []) × IsHead head × (rest ++ take n octets ≡ header head) → d.max < head.size → IsTooLarge d.max (last_number (told (d.used + n))) fed rest (take n octets)
-  too_large head f above =
-      let some : 0 < length fed + n = omega (arith, ap length s.whole, length-append (flat_map spelling frames) rest, length-append rest (take n octets), ap length f.2, length-append (header_line head) line_end, count) in
-      let place : length fed + n - 1 ≡ length fed + length (take n octets) - 1 = omega (arith, count) in
-      record { head = head; is_head = f.1; above = above; whole = f.2; place_is = last_now some ∙ ap told place }
-
   last_of : (before : List ℕ) (octet : ℕ) → take n octets ≡ before ++ octet ∷ [] → last_number (told (d.used + n)) ≡ told (length (fed ++ before))
   last_of before octet e =
       let one : n ≡ length before + 1 = omega (arith, sym count, ap length e, length-append before (octet ∷ [])) in
       let place : length fed + n - 1 ≡ length (fed ++ before) = omega (arith, length-append fed before) in
       last_now (omega arith) ∙ ap told place
 
-  dies_line : EndsInLine rest (take n octets) → Dies (last_number (told (d.used + n))) fed (take n octets) (λ before. InTrailer before → ⊥)
+  -- the stream up to the octet at which it breaks a rule
+  stream_to : (before : List ℕ) → IsUnfinished (rest ++ before) → Stream (fed ++ before) frames (rest ++ before)
+  stream_to before u = record { whole = grown before; each = s.each; unfinished = u }
+
+  dies_line : EndsInLine rest (take n octets) → Breaks Rule.Header (last_number (told (d.used + n))) d.max fed frames rest (take n octets)
   dies_line f =
       let whole : fed ++ f.before ≡ flat_map spelling frames ++ (rest ++ f.before) = grown f.before in
-      record { before = f.before; octet = f.octet; taken_is = f.taken_is; dies = subst (λ x. DiesAt x f.octet) (sym whole) (dies_in_line frames (rest ++ f.before) f.octet s.each f.dies); place_is = last_of f.before f.octet f.taken_is; spot = subst (λ x. InTrailer x → ⊥) (sym whole) (not_in_trailer frames (rest ++ f.before) f.dies.line s.each f.dies.inside) }
+      let dies : DiesAt (fed ++ f.before) f.octet = subst (λ x. DiesAt x f.octet) (sym whole) (dies_in_line frames (rest ++ f.before) f.octet s.each f.dies) in
+      let spot : InTrailer (fed ++ f.before) → ⊥ = subst (λ x. InTrailer x → ⊥) (sym whole) (not_in_trailer frames (rest ++ f.before) f.dies.line s.each f.dies.inside) in
+      record { before = f.before; octet = f.octet; taken_is = f.taken_is; place_is = last_of f.before f.octet f.taken_is; stream = stream_to f.before (unfinished_line (rest ++ f.before) f.dies.line f.dies.inside); by = inl (refl, dies, spot) }
 
-  dies_trailer : EndsInTrailer rest (take n octets) → Dies (last_number (told (d.used + n))) fed (take n octets) InTrailer
+  dies_trailer : EndsInTrailer rest (take n octets) → Breaks Rule.Trailer (last_number (told (d.used + n))) d.max fed frames rest (take n octets)
   dies_trailer f =
       let whole : fed ++ f.before ≡ flat_map spelling frames ++ (rest ++ f.before) = grown f.before in
+      let dies : DiesAt (fed ++ f.before) f.octet = subst (λ x. DiesAt x f.octet) (sym whole) (dies_in_trailer frames (rest ++ f.before) f.octet s.each f.dies) in
       let spot : InTrailer (fed ++ f.before) = record { frames = frames; head = f.dies.head; payload = f.dies.payload; count = f.dies.count; each = s.each; is_frame = f.dies.is_frame; fewer = f.dies.fewer; whole = whole ∙ ap (λ x. flat_map spelling frames ++ x) f.dies.whole } in
-      record { before = f.before; octet = f.octet; taken_is = f.taken_is; dies = subst (λ x. DiesAt x f.octet) (sym whole) (dies_in_trailer frames (rest ++ f.before) f.octet s.each f.dies); place_is = last_of f.before f.octet f.taken_is; spot = spot }
+      record { before = f.before; octet = f.octet; taken_is = f.taken_is; place_is = last_of f.before f.octet f.taken_is; stream = stream_to f.before (unfinished_trailer (rest ++ f.before) f.dies.head f.dies.payload f.dies.count f.dies.is_frame f.dies.fewer f.dies.whole); by = inr (inl (refl, dies, spot)) }
+
+  -- a header that is whole now wasn't before
+  some_taken : (head : Head) → heads ≡ [] → IsHead head → rest ++ take n octets ≡ header head → (b : Bool) → nat_lt 0 n ≡ b → 0 < n
+  some_taken head first is_head whole true e = grind (arith, nat_tests)
+  some_taken head first is_head whole false e =
+      let none : n ≡ 0 = grind (arith, nat_tests) in
+      let nothing : take n octets ≡ [] = ap (λ k. take k octets) none in
+      let begins : rest ≡ header head ++ [] = sym (append-nil rest) ∙ ap (λ x. rest ++ x) (sym nothing) ∙ whole ∙ sym (append-nil (header head)) in
+      absurd (no_head rest heads (tells_head d.place d.line rest heads s.at) first head [] is_head begins)
+
+  too_large : (head : Head) → (heads ≡ []) × IsHead head × (rest ++ take n octets ≡ header head) → d.max < head.size → Breaks Rule.Size (last_number (told (d.used + n))) d.max fed frames rest (take n octets)
+  too_large head f above =
+      let some : 0 < n = some_taken head f.0 f.1 f.2 _ refl in
+      let before : List ℕ = take (n - 1) octets in
+      let octet : ℕ = get_or octets (n - 1) 0 in
+      let one : n - 1 + 1 ≡ n = omega arith in
+      let taken : take n octets ≡ before ++ octet ∷ [] = subst (λ k. take k octets ≡ before ++ octet ∷ []) one (take_more octets (n - 1) 0 (omega arith)) in
+      let line : (rest ++ before) ++ octet ∷ [] ≡ header head = append_assoc rest before (octet ∷ []) ∙ ap (λ x. rest ++ x) (sym taken) ∙ f.2 in
+      let whole : (fed ++ before) ++ octet ∷ [] ≡ flat_map spelling frames ++ header head = ap (λ x. x ++ octet ∷ []) (grown before) ∙ append_assoc (flat_map spelling frames) (rest ++ before) (octet ∷ []) ∙ ap (λ x. flat_map spelling frames ++ x) line in
+      record { before = before; octet = octet; taken_is = taken; place_is = last_of before octet taken; stream = stream_to before (unfinished_header (rest ++ before) octet head f.1 line); by = inr (inr (refl, head, f.1, above, whole)) }
 
   left_then : told (d.left + n) ≡ told (length rest + n)
   left_then = told-more d.left n (length rest) s.left
@@ -114,7 +136,7 @@ module _ (d : DecoderState) (place : Place) (line : Line) (n : ℕ) (octets fed 
       → Decodes (cond b (Step.Broken Rule.Size (last_number (told (d.used + n)))) (Step.Head head)) (cond b (broken_by (moved d place line n) Rule.Size) (record (moved d place line n) { place = behind_header head.size })) fed frames rest heads octets n
   decodes_head head f true e =
       let above : d.max < head.size = grind (arith, nat_tests) in
-      (inr (inr (refl, too_large head f above)), is_broken Rule.Size)
+      (too_large head f above, is_broken Rule.Size)
   decodes_head head f false e =
       let small : head.size ≤ d.max = grind (arith, nat_tests) in
       gives_head head f small
@@ -125,8 +147,8 @@ module _ (d : DecoderState) (place : Place) (line : Line) (n : ℕ) (octets fed 
   decodes (Found.Head head) f = decodes_head head f _ refl
   decodes Found.Frame f = gives_frame f
   decodes (Found.Seq seq) f = gives_seq seq f
-  decodes Found.BadLine f = (inl (refl, dies_line f), is_broken Rule.Header)
-  decodes Found.BadTrailer f = (inr (inl (refl, dies_trailer f)), is_broken Rule.Trailer)
+  decodes Found.BadLine f = (dies_line f, is_broken Rule.Header)
+  decodes Found.BadTrailer f = (dies_trailer f, is_broken Rule.Trailer)
 
   pub decodes_as : (found : Found) (step : Step) (new : DecoderState) → step ≡ step_of (moved d place line n) found → new ≡ after_found (moved d place line n) found → Finds found place line rest heads octets n → Decodes step new fed frames rest heads octets n
   decodes_as found step new e g f =

@@ -86,13 +86,18 @@ line_short rest line e =
     let whole : run (at_line line_start) (rest ++ f.octet ∷ f.others) ≡ f.end = run-append (at_line line_start) rest (f.octet ∷ f.others) ∙ ap (λ t. run t (f.octet ∷ f.others)) e ∙ f.run_is in
     omega (arith, ends_short f.end (rest ++ f.octet ∷ f.others) f.is_end (reads f.end (rest ++ f.octet ∷ f.others) whole), length-append rest (f.octet ∷ f.others))
 
-tells_head : (place : Place) (line : Line) (rest : List ℕ) (heads : List Head) → At place line rest heads → TellsHead rest heads
+pub tells_head : (place : Place) (line : Line) (rest : List ℕ) (heads : List Head) → At place line rest heads → TellsHead rest heads
 tells_head Place.Line line rest heads at =
     inl (at.1, record { short = line_short rest line at.0; none = λ head more w e. no_line_behind_header head more line w (ap (run (at_line line_start)) (sym e) ∙ at.0) })
 tells_head (Place.Payload left) line rest heads at =
     inr (at.0, at.2.heads_are, record { is_head = at.2.is_head; more = at.1; begins = at.2.rest_is })
 tells_head (Place.Trailer count) line rest heads at =
     inr (at.0, at.2.heads_are, record { is_head = at.2.is_head; more = at.1 ++ take count trailer; begins = at.2.rest_is })
+
+-- no header begins a rest of which none was told
+pub no_head : (rest : List ℕ) (heads : List Head) → TellsHead rest heads → heads ≡ [] → (head : Head) (more : List ℕ) → IsHead head → rest ≡ header head ++ more → ⊥
+no_head rest heads (inl w) e head more i b = w.1.none head more i b
+no_head rest heads (inr w) e head more i b = let two : w.0 ∷ [] ≡ [] = sym w.1 ∙ e in cc
 
 unfinished_at : (place : Place) (line : Line) (rest : List ℕ) (heads : List Head) → At place line rest heads → IsUnfinished rest
 unfinished_at Place.Line line rest heads at = unfinished_line rest line at.0

@@ -1,4 +1,4 @@
--- The one spelling of a frame (RFC 3080, section 2.2.1; RFC 3081, section 3.1.4).
+-- The one spelling of a frame (RFC 3080, section 2.2.1; RFC 3081, section 3.1).
 -- Choice: numbers have no leading zero (docs/DECISIONS.md, "Leading zeros"). The decoder knows no text of a whole frame.
 use Rattle.std.specs.Prelude.{ℕ, Bool, true, false, List, [], ◌∷◌, ◌++◌, codes}
 use Rattle.std.specs.Fmt.{decimal}

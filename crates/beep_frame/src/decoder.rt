@@ -1,5 +1,5 @@
 //! A decoder that finds the frames of a stream, however the stream is cut into reads (RFC 3080,
-//! section 2.2.1; RFC 3081, section 3.1.4).
+//! section 2.2.1; RFC 3081, section 3.1).
 //!
 //! ```text
 //!          header, size above 0        last octet of the payload
@@ -9,7 +9,7 @@
 //!   +----------------- whole SEQ, or last octet of the trailer ------+
 //!   from each place: an octet that can't stand there, or a size above the limit --> Broken
 //! ```
-ghost use Rattle.std.specs.Prelude.{◌≡◌, ℕ, ◌%◌, ◌^◌, ◌≤◌, List, [], length, IfOk, IsOk};
+ghost use Rattle.std.specs.Prelude.{◌≡◌, ◌⊎◌, ℕ, ◌<◌, ◌≤◌, List, [], length, IfOk, IsTrue};
 ghost use Rattle.beep_frame.specs.Frame.{Frame};
 ghost use Rattle.beep_frame.specs.declared.head.Head.{Head as header_type};
 ghost use Rattle.beep_frame.specs.declared.rule.Rule.{Rule as rule_type};
@@ -76,7 +76,7 @@ impl Decoder {
     ghost use Rattle.std.specs.Prelude.{Some};
     ghost use Rattle.beep_frame.specs.declared.decoder.Step.{Step as step_type};
     ghost use Rattle.beep_frame.specs.Stands.{Stands, IsBroken, told};
-    ghost use Rattle.beep_frame.specs.Decodes.{Decodes};
+    ghost use Rattle.beep_frame.specs.Decodes.{Decodes, is_broken};
     ghost use Rattle.beep_frame.specs.Telling.{step_of, after_found, renewed, broken_by, last_number, behind_header};
 
     /// A decoder of a stream of which no octet has come, that takes payloads of at most `max` octets.
@@ -102,6 +102,7 @@ impl Decoder {
             → Decodes result.1 self.new fed frames rest heads bytes.now result.0 }
         ensures broken { (rule : rule_type) (place left : ℕ) → IsBroken self.old rule place left
             → (result.0 ≡ 0) × (result.1 ≡ Step.Broken rule place) × (self.new ≡ self.old) }
+        ensures progress { 0 < length bytes.now → (0 < result.0) ⊎ IsTrue (is_broken result.1) }
         ensures kept { self.new.max ≡ self.old.max }
     {
         if let Some((rule, place)) = self.broken {

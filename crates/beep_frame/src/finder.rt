@@ -45,6 +45,7 @@ static TRAILER: [u8; 5] = *b"END\r\n";
 pub(crate) fn find(place: &mut Place, line: &mut Line, bytes: &[u8]) -> (usize, Found)
     requires { is_place place.old ≡ true }
     ensures within { result.0 ≤ length bytes.now }
+    ensures progress { 0 < length bytes.now → 0 < result.0 }
     ensures place { is_place place.new ≡ true }
     ensures found { (rest : List ℕ) (heads : List header_type)
         → At place.old line.old rest heads
@@ -60,6 +61,7 @@ pub(crate) fn find(place: &mut Place, line: &mut Line, bytes: &[u8]) -> (usize, 
 /// Goes on in a line.
 fn find_line(line: &mut Line, bytes: &[u8]) -> (usize, Found)
     ensures within { result.0 ≤ length bytes.now }
+    ensures progress { 0 < length bytes.now → 0 < result.0 }
     ensures found { (rest : List ℕ) (heads : List header_type)
         → At Place.Line line.old rest heads
         → Finds result.1 Place.Line line.new rest heads bytes.now result.0 }
@@ -92,6 +94,7 @@ fn read_line(line: &mut Line, bytes: &[u8]) -> (usize, LineTurn)
 fn find_payload(place: &mut Place, left: u32, bytes: &[u8]) -> (usize, Found)
     requires { 0 < left }
     ensures within { result.0 ≤ length bytes.now }
+    ensures progress { 0 < length bytes.now → 0 < result.0 }
     ensures place { is_place place.old ≡ true → is_place place.new ≡ true }
     ensures found { (rest : List ℕ) (heads : List header_type) (line : line_type)
         → At (Place.Payload left) line rest heads
@@ -111,6 +114,7 @@ fn find_payload(place: &mut Place, left: u32, bytes: &[u8]) -> (usize, Found)
 fn find_trailer(place: &mut Place, at: usize, bytes: &[u8]) -> (usize, Found)
     requires { at < 5 }
     ensures within { result.0 ≤ length bytes.now }
+    ensures progress { 0 < length bytes.now → 0 < result.0 }
     ensures place { is_place place.old ≡ true → is_place place.new ≡ true }
     ensures found { (rest : List ℕ) (heads : List header_type) (line : line_type)
         → At (Place.Trailer at) line rest heads

@@ -1,5 +1,5 @@
 //! The text line that a frame begins with: a header, or a whole SEQ (RFC 3080, section 2.2.1.1;
-//! RFC 3081, section 3.1.4).
+//! RFC 3081, section 3.1).
 //!
 //! A line is a list of parts, which its keyword fixes. Each part is a fixed octet, one of two flags,
 //! or a number with the octet that ends it, so that each octet either goes on with its part, completes

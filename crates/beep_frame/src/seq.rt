@@ -1,4 +1,4 @@
-//! The SEQ frame of the TCP mapping as a value (RFC 3081, section 3.1.4).
+//! The SEQ frame of the TCP mapping as a value (RFC 3081, section 3.1).
 
 /// What a SEQ says: up to which octet a channel's peer may send.
 #[derive(Clone, Copy, Debug, PartialEq, Eq)]

@@ -1,0 +1,5 @@
+pub mod ListingLemmas
+pub mod PassLemmas
+pub mod GoLemmas
+pub mod EndLemmas
+pub mod WordLemmas

@@ -1,0 +1,6 @@
+pub mod CommandSet
+pub mod Texts
+pub mod Show
+pub mod Listing
+pub mod Passing
+pub mod LastLine
