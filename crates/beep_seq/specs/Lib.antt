@@ -1,0 +1,4 @@
+pub mod Wire
+pub mod Due
+pub mod Sending
+pub mod Receiving

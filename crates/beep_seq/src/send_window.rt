@@ -1,0 +1,88 @@
+//! The window of the peer, as a sender sees it (RFC 3081, section 3.1).
+ghost use Rattle.std.specs.Prelude.{◌≡◌, ◌≤◌, ◌↔◌, List, [], ◌∷◌, IsOk, OnOk, OnErr, is_err};
+ghost use Rattle.beep_seq.specs.Due.{breaks_bad_ack, HasCountBetween};
+ghost use Rattle.beep_seq.specs.Sending.{SendCall, spent, acked, octets_acked, octets_sent, open_octets_after, Stands};
+
+use crate::limits::INITIAL_WINDOW;
+use crate::seq_no::SeqNo;
+use std::marker::Model;
+
+/// The peer acknowledged what wasn't sent, or less than before. The same call is refused again.
+#[derive(Clone, Copy, Debug, PartialEq, Eq)]
+pub struct BadAck;
+
+/// How much may be sent in one life of a channel.
+#[derive(Debug, Drop)]
+pub struct SendWindow {
+    last_ackno: SeqNo,
+    unacked: u32,
+    room: u32,
+}
+
+impl Model for SendWindow {
+    ghost use Rattle.std.specs.Prelude.{◌+◌, ◌<◌, ◌^◌};
+    ghost use Rattle.beep_seq.specs.Sending.{Sender};
+
+    ghost Value = { Sender };
+
+    ghost view = { λ w. record { last_ackno = w.last_ackno; unacked = w.unacked; room = w.room } };
+
+    ghost invariant = { λ w. w.unacked + w.room < 2 ^ 32 };
+}
+
+impl SendWindow {
+    /// The window of a life in which nothing was sent.
+    pub fn new() -> SendWindow
+        ensures { Stands result [] }
+    {
+        SendWindow {
+            last_ackno: SeqNo::new(0),
+            unacked: 0,
+            room: INITIAL_WINDOW,
+        }
+    }
+
+    /// The open octets: how many may be sent before the peer opens its window further.
+    pub fn room(&self) -> u32
+        ensures value { result ≡ self.now.room }
+        ensures counted { (past : List SendCall) → Stands self.now past
+            → result ≡ open_octets_after past }
+    {
+        self.room
+    }
+
+    /// Notes that a frame with `n` octets of payload was sent.
+    pub fn spend(&mut self, n: u32)
+        requires { n ≤ self.old.room }
+        ensures { (past : List SendCall) → Stands self.old past → Stands self.new (spent n ∷ past) }
+    {
+        self.unacked += n;
+        self.room -= n;
+    }
+
+    /// Obeys a SEQ with this `ackno` and `window`, also one that moves the window's end to the left.
+    pub fn acked(&mut self, ackno: u32, window: u32) -> Result<(), BadAck>
+        ensures ok { (past : List SendCall) → Stands self.old past
+            → OnOk result (Stands self.new (acked ackno window ∷ past)) }
+
+        // The ackno is the number of a count from the last ackno to the next octet to be sent.
+        ensures accepted { (past : List SendCall) → Stands self.old past
+            → IsOk result ↔ HasCountBetween (octets_acked past) (octets_sent past) ackno }
+        ensures refused { (past : List SendCall) → Stands self.old past
+            → is_err result ≡ breaks_bad_ack (octets_acked past) (octets_sent past) ackno }
+        ensures err { OnErr result (self.new ≡ self.old) }
+    {
+        let ackno = SeqNo::new(ackno);
+        let newly = ackno.minus(self.last_ackno);
+        if newly > self.unacked {
+            return Err(BadAck);
+        }
+        self.last_ackno = ackno;
+        self.unacked -= newly;
+        self.room = window.saturating_sub(self.unacked);
+        Ok(())
+    }
+}
+
+#[cfg(test)]
+mod tests;
