@@ -1,2 +1,5 @@
 pub mod Held
 pub mod Frame
+pub mod Journal
+pub mod Marks
+pub mod Broken
