@@ -1,2 +1,8 @@
 pub mod AnswersLemmas
 pub mod RulesLemmas
+pub mod ListsLemmas
+pub mod StepsLemmas
+pub mod KeptLemmas
+pub mod SoundLemmas
+pub mod UnbrokenLemmas
+pub mod PassedLemmas
