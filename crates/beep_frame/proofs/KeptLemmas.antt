@@ -1,15 +1,15 @@
 -- What a header keeps where it breaks no rule of the exchange: each test is false.
-use Rattle.std.proofs.Common.{◌≡◌, ℕ, ◌==◌, nat_lt, nat_le, Bool, true, false, not, ◌&&◌, ◌||◌, if◌then◌else◌, List, [], ◌∷◌, length, take, Option, Some, None, refl, sym, ◌∙◌}
+use Rattle.std.proofs.Common.{◌≡◌, ℕ, ◌==◌, nat_lt, nat_le, Bool, true, false, not, ◌&&◌, ◌||◌, if◌then◌else◌, List, [], length, take, Option, Some, None, refl}
 use Rattle.std.specs.List.{list_any, find}
 use Rattle.std.specs.Option.{option_map_or, is_none}
 use Rattle.beep_frame.specs.declared.head.Head.{Head}
 use Rattle.beep_frame.specs.declared.rule.Rule.{Rule}
 use Rattle.beep_frame.specs.declared.journal.Side.{Side}
 use Rattle.beep_frame.specs.declared.limits.TheConstants.{MAX_REQUESTS, MAX_ANSWERS}
-use Rattle.beep_frame.specs.Frame.{is_msg, is_ans, is_nul, is_reply, same_kind}
+use Rattle.beep_frame.specs.Frame.{is_ans, is_nul, is_reply, same_kind}
 use Rattle.beep_frame.specs.Journal.{Item, other}
-use Rattle.beep_frame.specs.Marks.{first, previous, Request, goes_on, begins_request, requests, latest, is_whole, reply, is_answered, waiting, unfinished, begins_answer}
-use Rattle.beep_frame.specs.Broken.{first_of, exchange_rule, breaks_nul_shape, breaks_not_continued, breaks_kind_changed, breaks_number_in_use, breaks_never_asked, breaks_early_reply, breaks_already_answered, breaks_out_of_turn, breaks_nul_not_after_ans, breaks_nul_too_soon, breaks_empty_answer, breaks_too_many_requests, breaks_too_many_answers}
+use Rattle.beep_frame.specs.Marks.{first, Request, requests, latest, is_whole, reply, is_answered, waiting, unfinished, begins_answer}
+use Rattle.beep_frame.specs.Broken.{exchange_rule, breaks_nul_shape, breaks_not_continued, breaks_kind_changed, breaks_number_in_use, breaks_never_asked, breaks_early_reply, breaks_already_answered, breaks_out_of_turn, breaks_nul_not_after_ans, breaks_nul_too_soon, breaks_empty_answer, breaks_too_many_requests, breaks_too_many_answers}
 
 -- each rule of the exchange is kept
 pub record Kept (side : Side) (past : List Item) (head : Head) : Type 0 where
@@ -48,9 +48,19 @@ kept side past head e =
     let m = pass _ _ _ l.1 in
     let n = pass _ _ _ m.1 in
     record {
-      nul_shape = a.0; not_continued = b.0; kind_changed = c.0; number_in_use = d.0; never_asked = f.0; early_reply = g.0;
-      already_answered = h.0; out_of_turn = i.0; nul_not_after_ans = j.0; nul_too_soon = k.0; empty_answer = l.0;
-      too_many_requests = m.0; too_many_answers = n.0
+      nul_shape = a.0;
+      not_continued = b.0;
+      kind_changed = c.0;
+      number_in_use = d.0;
+      never_asked = f.0;
+      early_reply = g.0;
+      already_answered = h.0;
+      out_of_turn = i.0;
+      nul_not_after_ans = j.0;
+      nul_too_soon = k.0;
+      empty_answer = l.0;
+      too_many_requests = m.0;
+      too_many_answers = n.0;
     }
 
 -- ---- a reply, by the side whose request it names
@@ -67,7 +77,7 @@ pub record KeptReply (asker : Side) (past : List Item) (head : Head) : Type 0 wh
   pub turn : option_map_or (λ (request : Request). list_any (λ earlier. nat_lt earlier.position request.position) (waiting asker past)) (latest asker head.msgno past) false ≡ false
   pub same : is_nul head.kind ≡ false → option_map_or
       (λ (request : Request). not (is_answered asker request.position past)
-       && list_any (λ frame. not (same_kind frame.kind head.kind)) (reply asker request.position past)) (latest asker head.msgno past) false ≡ false
+      && list_any (λ frame. not (same_kind frame.kind head.kind)) (reply asker request.position past)) (latest asker head.msgno past) false ≡ false
   pub after : is_nul head.kind ≡ true → option_map_or (λ before. not (is_ans before.kind)) (first (so_far asker head.msgno past)) false ≡ false
   pub complete : is_nul head.kind ≡ true → nat_lt 0 (length (unfinished (so_far asker head.msgno past))) ≡ false
   pub room : (begins_answer (so_far asker head.msgno past) head && nat_le MAX_ANSWERS (length (unfinished (so_far asker head.msgno past)))) ≡ false
@@ -100,7 +110,7 @@ kept_reply Side.Received past head k r = record {
   after = λ n. after-true _ _ n k.nul_not_after_ans;
   complete = λ n. after-true _ _ n k.nul_too_soon;
   room = k.too_many_answers;
-  alone = λ n. or-left _ _ (after-true _ _ n k.nul_shape)
+  alone = λ n. or-left _ _ (after-true _ _ n k.nul_shape);
 }
 kept_reply Side.Sent past head k r = record {
   asked = after-true _ _ r k.never_asked;
@@ -111,5 +121,5 @@ kept_reply Side.Sent past head k r = record {
   after = λ n. after-true _ _ n k.nul_not_after_ans;
   complete = λ n. after-true _ _ n k.nul_too_soon;
   room = k.too_many_answers;
-  alone = λ n. or-left _ _ (after-true _ _ n k.nul_shape)
+  alone = λ n. or-left _ _ (after-true _ _ n k.nul_shape);
 }

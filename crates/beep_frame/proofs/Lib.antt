@@ -6,3 +6,6 @@ pub mod KeptLemmas
 pub mod SoundLemmas
 pub mod UnbrokenLemmas
 pub mod PassedLemmas
+pub mod MomentsLemmas
+pub mod MarksLemmas
+pub mod OrderLemmas

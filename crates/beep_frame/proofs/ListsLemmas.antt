@@ -1,8 +1,7 @@
 -- Lists of requests: what a search finds, and which of them wait where the earlier ones are answered.
-use Rattle.std.proofs.Common.{◌≡◌, ℕ, zero, suc, ⊎_elim, ◌+◌, ◌-◌, ◌<◌, ◌≤◌, ◌==◌, eqb, ltb, nat_lt, Bool, true, false, cond, not, ◌&&◌, ◌||◌, List, [], ◌∷◌, length, take, map, Option, Some, None, refl, sym, ap, ◌∙◌, arith}
+use Rattle.std.proofs.Common.{◌≡◌, ℕ, zero, suc, ⊎_elim, ◌-◌, ◌<◌, ◌≤◌, ltb, nat_lt, Bool, true, false, cond, not, ◌||◌, List, [], ◌∷◌, length, take, Option, Some, refl, sym, arith}
 use Rattle.std.specs.List.{list_any, filter, find}
-use Rattle.std.proofs.lemmas.Bool.{ltb-true, ltb-false, lt-ltb, le-ltb, cases_lt}
-use Rattle.std.proofs.lemmas.Bool.Decides.{nat_tests}
+use Rattle.std.proofs.lemmas.Bool.{lt-ltb, le-ltb, cases_lt}
 use Rattle.beep_frame.specs.Marks.{Request}
 
 -- ---- any list
@@ -28,16 +27,16 @@ find-any-step : {X : Type 0} (q : X → Bool) (x r : X) (kept : List X) (rest : 
 find-any-step q x r kept rest true true passes later found none =
     let same : x ≡ r = cc in rw (← same) (or-false-left (q x) (list_any q kept) none)
   where
-  or-false-left : (y z : Bool) → (y || z) ≡ false → y ≡ false
-  or-false-left true z e = e
-  or-false-left false z e = refl
+    or-false-left : (y z : Bool) → (y || z) ≡ false → y ≡ false
+    or-false-left true z e = e
+    or-false-left false z e = refl
 find-any-step q x r kept rest true false passes later found none =
     let same : r ≡ x = cc in let bad : false ≡ true = passes same in cc
 find-any-step q x r kept rest false true passes later found none = later found (or-false-right (q x) (list_any q kept) none)
   where
-  or-false-right : (y z : Bool) → (y || z) ≡ false → z ≡ false
-  or-false-right true z e = cc
-  or-false-right false z e = e
+    or-false-right : (y z : Bool) → (y || z) ≡ false → z ≡ false
+    or-false-right true z e = cc
+    or-false-right false z e = e
 find-any-step q x r kept rest false false passes later found none = later found none
 
 -- what is found, and kept by a filter, fails a test that none of the kept passes

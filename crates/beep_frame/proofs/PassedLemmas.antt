@@ -1,22 +1,21 @@
 -- What holds of the requests and replies of a side stays so as a frame passes, and so of each history without a broken rule.
-use Rattle.std.proofs.Common.{◌≡◌, ℕ, zero, suc, ◌+◌, ◌-◌, ◌<◌, ◌≤◌, ◌==◌, eqb, ltb, nat_lt, Bool, true, false, not, ◌&&◌, ◌||◌, if◌then◌else◌, List, [], ◌∷◌, length, take, map, Option, Some, None, refl, sym, ap, ◌∙◌, arith, subst, ⊎_elim}
+use Rattle.std.proofs.Common.{◌≡◌, ℕ, zero, suc, ◌+◌, ◌-◌, ◌<◌, ◌≤◌, ◌==◌, nat_lt, Bool, true, false, not, ◌&&◌, ◌||◌, if◌then◌else◌, List, [], ◌∷◌, length, take, Some, None, refl, sym, ◌∙◌, arith, ⊎_elim}
 use Rattle.std.specs.List.{list_any}
-use Rattle.std.specs.Option.{option_map_or}
 use Rattle.std.proofs.lemmas.Bool.{lt-ltb, le-ltb, cases_Bool}
 use Rattle.std.proofs.lemmas.Bool.Decides.{nat_tests}
 use Rattle.beep_frame.specs.declared.head.Head.{Head}
 use Rattle.beep_frame.specs.declared.kind.Kind.{Kind}
 use Rattle.beep_frame.specs.declared.seq.Seq.{Seq}
 use Rattle.beep_frame.specs.declared.journal.Side.{Side}
-use Rattle.beep_frame.specs.declared.limits.TheConstants.{MAX_REQUESTS, MAX_ANSWERS}
+use Rattle.beep_frame.specs.declared.limits.TheConstants.{MAX_ANSWERS}
 use Rattle.beep_frame.specs.Frame.{is_msg, is_ans, is_nul, is_reply}
 use Rattle.beep_frame.specs.Journal.{Item, began, passed, told, other}
-use Rattle.beep_frame.specs.Marks.{first, frames, previous, Request, requests, latest, is_whole, reply, ends_reply, is_answered, unfinished, begins_answer}
+use Rattle.beep_frame.specs.Marks.{frames, previous, requests, is_whole, reply, ends_reply, unfinished, begins_answer}
 use Rattle.beep_frame.specs.Broken.{under_way, IsUnbroken}
 use Rattle.beep_frame.proofs.AnswersLemmas.{has, after_frame, length_after, IsApart-unfinished}
 use Rattle.beep_frame.proofs.KeptLemmas.{kept}
 use Rattle.beep_frame.proofs.StepsLemmas.{frames-passed-mine, frames-passed-theirs, under_way-passed-mine, under_way-passed-theirs, reply-passed-mine, reply-passed-theirs, whole-passed-mine, whole-passed-theirs, under_way-other-passed}
-use Rattle.beep_frame.proofs.SoundLemmas.{IsAlike, IsUniform, IsApartFirst, unfinished_request, is_open, numbers, IsDue, Sound}
+use Rattle.beep_frame.proofs.SoundLemmas.{IsApartFirst, unfinished_request, numbers, IsDue, Sound}
 use Rattle.beep_frame.proofs.UnbrokenLemmas.{began-mine, began-theirs}
 
 -- ---- a frame of this side
@@ -42,19 +41,22 @@ passed-mine side past head payload under s = record {
   uniform = rw (reply-passed-mine head payload past side s.oldest) s.uniform;
   few_answers = rw (reply-passed-mine head payload past side s.oldest) s.few_answers;
   whole = λ p. rw (whole-passed-mine head payload past side p, under_way-passed-mine head payload past side, frames-passed-mine head payload past side)
-    (whole-after (is_msg head.kind) head.more (unfinished_request (previous side past)) p (length (requests side past)) (is_whole side p past)
-     (s.quiet head under) (rw under at (s.whole p)));
+      (whole-after (is_msg head.kind) head.more (unfinished_request (previous side past)) p (length (requests side past)) (is_whole side p past)
+      (s.quiet head under) (rw under at (s.whole p)));
   quiet = λ g e m. let none : None ≡ Some g = sym (under_way-passed-mine head payload past side) ∙ e in cc;
   apart = s.apart;
   due = λ g e r.
-    let d = s.due g (sym (under_way-other-passed head payload past side) ∙ e) r in
-    record {
-      request = d.request; found = d.found; at = d.at; waits = d.waits;
-      whole = rw (whole-passed-mine head payload past side s.oldest) (or-true _ _ d.whole);
-      same = λ n. rw (reply-passed-mine head payload past side s.oldest) (d.same n);
-      room = rw (reply-passed-mine head payload past side s.oldest) d.room;
-      alone = d.alone
-    }
+      let d = s.due g (sym (under_way-other-passed head payload past side) ∙ e) r in
+      record {
+        request = d.request;
+        found = d.found;
+        at = d.at;
+        waits = d.waits;
+        whole = rw (whole-passed-mine head payload past side s.oldest) (or-true _ _ d.whole);
+        same = λ n. rw (reply-passed-mine head payload past side s.oldest) (d.same n);
+        room = rw (reply-passed-mine head payload past side s.oldest) d.room;
+        alone = d.alone;
+      };
 }
 
 -- ---- a frame of the other side
@@ -64,7 +66,7 @@ passed-theirs-request : (side : Side) (past : List Item) (head : Head) (payload 
     → Sound side (passed (other side) head payload ∷ past)
 passed-theirs-request side past head payload request s =
     let same : (p : ℕ) → reply side p (passed (other side) head payload ∷ past) ≡ reply side p past =
-      λ p. rw (reply-passed-theirs head payload past side p, request) in
+    λ p. rw (reply-passed-theirs head payload past side p, request) in
     record {
       oldest = s.oldest;
       within = s.within;
@@ -76,11 +78,11 @@ passed-theirs-request side past head payload request s =
       whole = λ p. rw (whole-passed-theirs head payload past side p, under_way-passed-theirs head payload past side, frames-passed-theirs head payload past side) (s.whole p);
       quiet = λ g e m. rw (frames-passed-theirs head payload past side) (s.quiet g (sym (under_way-passed-theirs head payload past side) ∙ e) m);
       apart = s.apart;
-      due = λ g e r. let none : None ≡ Some g = sym (under_way-passed-mine head payload past (other side)) ∙ e in cc
+      due = λ g e r. let none : None ≡ Some g = sym (under_way-passed-mine head payload past (other side)) ∙ e in cc;
     }
 
 -- the frames of the replies after a frame of the reply to the oldest
-reply-grown : (side : Side) (past : List Item) (head : Head) (payload : List ℕ) (oldest : ℕ) → is_reply head.kind ≡ true → IsDue side oldest past head
+pub reply-grown : (side : Side) (past : List Item) (head : Head) (payload : List ℕ) (oldest : ℕ) → is_reply head.kind ≡ true → IsDue side oldest past head
     → (p : ℕ) → reply side p (passed (other side) head payload ∷ past) ≡ (if oldest == p then head ∷ reply side p past else reply side p past)
 reply-grown side past head payload oldest r d p = rw (reply-passed-theirs head payload past side p, r, d.found, d.at)
 
@@ -118,7 +120,7 @@ passed-theirs-end : (side : Side) (past : List Item) (head : Head) (payload : Li
 passed-theirs-end side past head payload r ends s d =
     let grown = reply-grown side past head payload s.oldest r d in
     let gone : reply side (suc s.oldest) (passed (other side) head payload ∷ past) ≡ [] =
-      grown (suc s.oldest) ∙ other-place s.oldest (suc s.oldest) head _ (omega arith) (s.later (suc s.oldest) (omega arith)) in
+    grown (suc s.oldest) ∙ other-place s.oldest (suc s.oldest) head _ (omega arith) (s.later (suc s.oldest) (omega arith)) in
     record {
       oldest = suc s.oldest;
       within = d.waits;
@@ -130,21 +132,22 @@ passed-theirs-end side past head payload r ends s d =
       whole = λ p. rw (whole-passed-theirs head payload past side p, under_way-passed-theirs head payload past side, frames-passed-theirs head payload past side) (s.whole p);
       quiet = λ g e m. rw (frames-passed-theirs head payload past side) (s.quiet g (sym (under_way-passed-theirs head payload past side) ∙ e) m);
       apart = apart-fewer (length (requests side past)) s.oldest (numbers side past) d.waits s.apart;
-      due = λ g e h. let none : None ≡ Some g = sym (under_way-passed-mine head payload past (other side)) ∙ e in cc
+      due = λ g e h. let none : None ≡ Some g = sym (under_way-passed-mine head payload past (other side)) ∙ e in cc;
     }
   where
-  apart-fewer : (n oldest : ℕ) (ns : List ℕ) → oldest < n → IsApartFirst (n - oldest) ns → IsApartFirst (n - suc oldest) ns
-  apart-fewer n oldest ns waits apart =
-      let e : n - oldest ≡ suc (n - suc oldest) = omega arith in apart-less (n - suc oldest) ns (rw e at apart)
+    apart-fewer : (n oldest : ℕ) (ns : List ℕ) → oldest < n → IsApartFirst (n - oldest) ns → IsApartFirst (n - suc oldest) ns
+    apart-fewer n oldest ns waits apart =
+        let e : n - oldest ≡ suc (n - suc oldest) = omega arith in apart-less (n - suc oldest) ns (rw e at apart)
 
 bounded : (after before : ℕ) (more had : Bool) → after + (if had && not more then 1 else 0) ≡ before + (if more && not had then 1 else 0)
     → before ≤ MAX_ANSWERS → (not had ≡ true → before < MAX_ANSWERS) → after ≤ MAX_ANSWERS
 bounded after before more true e few room = ⊎_elim (λ (h : more ≡ true). bounded-same h) (λ (h : more ≡ false). bounded-less h) (cases_Bool more)
   where
-  bounded-same : more ≡ true → after ≤ MAX_ANSWERS
-  bounded-same h = let g = rw h at e in omega (arith, g)
-  bounded-less : more ≡ false → after ≤ MAX_ANSWERS
-  bounded-less h = let g = rw h at e in omega (arith, g)
+    bounded-same : more ≡ true → after ≤ MAX_ANSWERS
+    bounded-same h = let g = rw h at e in omega (arith, g)
+
+    bounded-less : more ≡ false → after ≤ MAX_ANSWERS
+    bounded-less h = let g = rw h at e in omega (arith, g)
 bounded after before true false e few room = let g : before < MAX_ANSWERS = room refl in omega (arith, g, e)
 bounded after before false false e few room = omega (arith, few, e)
 
@@ -153,7 +156,7 @@ few-after-by : (head : Head) (frames : List Head) (b : Bool) → is_ans head.kin
     → length (unfinished (head ∷ frames)) ≤ MAX_ANSWERS
 few-after-by head frames true answer few room =
     rw answer (bounded (length (after_frame head.more head.ansno (unfinished frames))) (length (unfinished frames)) head.more (has head.ansno (unfinished frames))
-      (length_after head.ansno head.more (unfinished frames) (IsApart-unfinished frames)) few room)
+    (length_after head.ansno head.more (unfinished frames) (IsApart-unfinished frames)) few room)
 few-after-by head frames false answer few room = rw answer few
 
 few-after : (head : Head) (frames : List Head) → length (unfinished frames) ≤ MAX_ANSWERS
@@ -178,7 +181,7 @@ passed-theirs-on : (side : Side) (past : List Item) (head : Head) (payload : Lis
 passed-theirs-on side past head payload r on s d =
     let grown = reply-grown side past head payload s.oldest r d in
     let longer : reply side s.oldest (passed (other side) head payload ∷ past) ≡ head ∷ reply side s.oldest past =
-      grown s.oldest ∙ here s.oldest _ _ in
+    grown s.oldest ∙ here s.oldest _ _ in
     let alive : is_nul head.kind ≡ false = not-nul-by head (is_nul head.kind) refl d.alone on in
     record {
       oldest = s.oldest;
@@ -191,28 +194,43 @@ passed-theirs-on side past head payload r on s d =
       whole = λ p. rw (whole-passed-theirs head payload past side p, under_way-passed-theirs head payload past side, frames-passed-theirs head payload past side) (s.whole p);
       quiet = λ g e m. rw (frames-passed-theirs head payload past side) (s.quiet g (sym (under_way-passed-theirs head payload past side) ∙ e) m);
       apart = s.apart;
-      due = λ g e h. let none : None ≡ Some g = sym (under_way-passed-mine head payload past (other side)) ∙ e in cc
+      due = λ g e h. let none : None ≡ Some g = sym (under_way-passed-mine head payload past (other side)) ∙ e in cc;
     }
   where
-  here : (n : ℕ) (a b : List Head) → (if n == n then a else b) ≡ a
-  here n a b = grind (arith, nat_tests)
+    here : (n : ℕ) (a b : List Head) → (if n == n then a else b) ≡ a
+    here n a b = grind (arith, nat_tests)
 
 pub passed-theirs : (side : Side) (past : List Item) (head : Head) (payload : List ℕ) → under_way (other side) past ≡ Some head → Sound side past
     → Sound side (passed (other side) head payload ∷ past)
 passed-theirs side past head payload under s = by-kind (is_reply head.kind) refl (ends_reply head) refl
   where
-  by-kind : (b : Bool) → is_reply head.kind ≡ b → (c : Bool) → ends_reply head ≡ c → Sound side (passed (other side) head payload ∷ past)
-  by-kind false r c e = passed-theirs-request side past head payload r s
-  by-kind true r true e = passed-theirs-end side past head payload r e s (s.due head under r)
-  by-kind true r false e = passed-theirs-on side past head payload r e s (s.due head under r)
+    by-kind : (b : Bool) → is_reply head.kind ≡ b → (c : Bool) → ends_reply head ≡ c → Sound side (passed (other side) head payload ∷ past)
+    by-kind false r c e = passed-theirs-request side past head payload r s
+    by-kind true r true e = passed-theirs-end side past head payload r e s (s.due head under r)
+    by-kind true r false e = passed-theirs-on side past head payload r e s (s.due head under r)
 
 told-step : (side by : Side) (past : List Item) (seq : Seq) → Sound side past → Sound side (told by seq ∷ past)
 told-step side by past seq s = record {
-  oldest = s.oldest; within = s.within; few = s.few; answered = s.answered; later = s.later; uniform = s.uniform;
-  few_answers = s.few_answers; whole = s.whole; quiet = s.quiet; apart = s.apart;
+  oldest = s.oldest;
+  within = s.within;
+  few = s.few;
+  answered = s.answered;
+  later = s.later;
+  uniform = s.uniform;
+  few_answers = s.few_answers;
+  whole = s.whole;
+  quiet = s.quiet;
+  apart = s.apart;
   due = λ g e r. let d = s.due g e r in record {
-    request = d.request; found = d.found; at = d.at; waits = d.waits; whole = d.whole; same = d.same; room = d.room; alone = d.alone
-  }
+    request = d.request;
+    found = d.found;
+    at = d.at;
+    waits = d.waits;
+    whole = d.whole;
+    same = d.same;
+    room = d.room;
+    alone = d.alone;
+  };
 }
 
 -- each history without a broken rule is sound for each side
@@ -228,7 +246,7 @@ sound side [] unbroken = record {
   whole = λ p. sym (le-ltb _ _ (omega arith));
   quiet = λ g e m. refl;
   apart = tt;
-  due = λ g e r. cc
+  due = λ g e r. cc;
 }
 sound Side.Received (began Side.Received head ∷ past) u = began-mine Side.Received past head u.0 (kept _ _ _ u.1) (sound Side.Received past u.2)
 sound Side.Received (began Side.Sent head ∷ past) u = began-theirs Side.Received past head (kept _ _ _ u.1) (sound Side.Received past u.2)

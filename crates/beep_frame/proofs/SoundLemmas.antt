@@ -1,21 +1,19 @@
 -- What holds of the requests of one side, and of the replies to them, where no rule of the exchange was broken.
-use Rattle.std.proofs.Common.{◌≡◌, ℕ, zero, suc, ◌+◌, ◌-◌, ◌<◌, ◌≤◌, ◌==◌, eqb, ltb, nat_lt, nat_le, Bool, true, false, cond, not, ◌&&◌, ◌||◌, if◌then◌else◌, List, [], ◌∷◌, length, take, map, Option, Some, None, refl, sym, ap, ◌∙◌, arith, subst, ⊎_elim, length-take}
-use Rattle.std.specs.List.{list_any, filter, find}
+use Rattle.std.proofs.Common.{◌≡◌, ℕ, zero, suc, ◌+◌, ◌-◌, ◌<◌, ◌≤◌, ◌==◌, nat_lt, nat_le, Bool, true, false, not, ◌&&◌, ◌||◌, if◌then◌else◌, List, [], ◌∷◌, length, take, map, Option, Some, None, refl, sym, ap, ◌∙◌, arith, subst, ⊎_elim}
+use Rattle.std.specs.List.{list_any, find}
 use Rattle.std.specs.Option.{option_map_or, is_none}
-use Rattle.std.proofs.lemmas.Bool.{ltb-true, ltb-false, lt-ltb, le-ltb, leb-false, cases_lt, eqb-true, eqb-false, ne_eqb, not-false}
-use Rattle.std.proofs.lemmas.Bool.Decides.{nat_tests}
+use Rattle.std.proofs.lemmas.Bool.{ltb-false, le-ltb, leb-false, cases_lt, not-false}
 use Rattle.beep_frame.specs.declared.head.Head.{Head}
 use Rattle.beep_frame.specs.declared.kind.Kind.{Kind}
 use Rattle.beep_frame.specs.declared.journal.Side.{Side}
 use Rattle.beep_frame.specs.declared.limits.TheConstants.{MAX_REQUESTS, MAX_ANSWERS}
-use Rattle.beep_frame.specs.Frame.{is_msg, is_ans, is_nul, is_reply, same_kind}
+use Rattle.beep_frame.specs.Frame.{is_msg, is_nul, is_reply, same_kind}
 use Rattle.beep_frame.specs.Journal.{Item, began, passed, told, other}
-use Rattle.beep_frame.specs.Marks.{first, previous, Request, goes_on, begins_request, requests, latest, is_whole, reply, ends_reply, is_answered, waiting, unfinished, begins_answer}
-use Rattle.beep_frame.specs.Broken.{under_way, exchange_rule, breaks_not_continued, breaks_kind_changed, IsUnbroken}
+use Rattle.beep_frame.specs.Marks.{previous, Request, begins_request, requests, latest, is_whole, reply, is_answered, waiting, unfinished, begins_answer}
+use Rattle.beep_frame.specs.Broken.{under_way}
 use Rattle.beep_frame.proofs.AnswersLemmas.{has}
-use Rattle.beep_frame.proofs.ListsLemmas.{filter-agree, find-holds, find-any, find-take, IsNumbered, find-below, filter-newest, earlier-waits}
-use Rattle.beep_frame.proofs.KeptLemmas.{Kept, KeptReply, kept, kept_reply, so_far, after-true, or-left, or-right}
-use Rattle.beep_frame.proofs.StepsLemmas.{under_way-began-mine, under_way-began-theirs, requests-began-mine, requests-began-theirs, frames-passed-mine, frames-passed-theirs, under_way-passed-mine, under_way-passed-theirs, reply-passed-mine, reply-passed-theirs, whole-passed-mine, whole-passed-theirs, under_way-other-began, under_way-other-passed}
+use Rattle.beep_frame.proofs.ListsLemmas.{filter-agree, find-take, IsNumbered, find-below, filter-newest, earlier-waits}
+use Rattle.beep_frame.proofs.KeptLemmas.{KeptReply, so_far, after-true, or-left, or-right}
 
 -- each frame is of this kind
 abbrev pub IsAlike : Kind → List Head → Type 0
@@ -117,18 +115,18 @@ due-place : (asker : Side) (past : List Item) (head : Head) (oldest : ℕ) (r : 
     → (r.position ≡ oldest) × (oldest < length (requests asker past))
 due-place asker past head oldest r k answered found =
     let fresh : is_answered asker r.position past ≡ false =
-      sym (at-some (λ (x : Request). is_answered asker x.position past) (latest asker head.msgno past) r false found) ∙ k.fresh in
+    sym (at-some (λ (x : Request). is_answered asker x.position past) (latest asker head.msgno past) r false found) ∙ k.fresh in
     let lower : oldest ≤ r.position = ltb-false _ _ (sym (answered r.position) ∙ fresh) in
     let below : r.position < length (requests asker past) =
-      find-below (λ (x : Request). x.number == head.msgno) (requests asker past) r (requests-numbered asker past) found in
+    find-below (λ (x : Request). x.number == head.msgno) (requests asker past) r (requests-numbered asker past) found in
     let none : list_any (λ (e : Request). nat_lt e.position r.position) (waiting asker past) ≡ false =
-      sym (at-some (λ (x : Request). list_any (λ earlier. nat_lt earlier.position x.position) (waiting asker past)) (latest asker head.msgno past) r false found) ∙ k.turn in
+    sym (at-some (λ (x : Request). list_any (λ earlier. nat_lt earlier.position x.position) (waiting asker past)) (latest asker head.msgno past) r false found) ∙ k.turn in
     let newest = waiting-newest asker past oldest answered in
     let upper : r.position ≤ oldest = ⊎_elim
-      (λ (later : oldest < r.position). absurd (true≢false' _
-         (earlier-waits oldest r.position (requests asker past) (requests-numbered asker past) (omega arith) later)
-         (subst (λ (rs : List Request). list_any (λ (e : Request). nat_lt e.position r.position) rs ≡ false) newest none)))
-      (λ (h : r.position ≤ oldest). h) (cases_lt oldest r.position) in
+    (λ (later : oldest < r.position). absurd (true≢false' _
+    (earlier-waits oldest r.position (requests asker past) (requests-numbered asker past) (omega arith) later)
+    (subst (λ (rs : List Request). list_any (λ (e : Request). nat_lt e.position r.position) rs ≡ false) newest none)))
+    (λ (h : r.position ≤ oldest). h) (cases_lt oldest r.position) in
     (omega arith, omega arith)
 
 due-room : (frames : List Head) (head : Head) → (begins_answer frames head && nat_le MAX_ANSWERS (length (unfinished frames))) ≡ false
@@ -147,7 +145,7 @@ due_of asker past head oldest k answered =
     let found : latest asker head.msgno past ≡ Some some.0 = find-take (λ (x : Request). x.number == head.msgno) MAX_REQUESTS (requests asker past) some.0 some.1 in
     let place = due-place asker past head oldest some.0 k answered found in
     let frames : so_far asker head.msgno past ≡ reply asker oldest past =
-      at-some (λ (x : Request). reply asker x.position past) (latest asker head.msgno past) some.0 [] found ∙ ap (λ (p : ℕ). reply asker p past) place.0 in
+    at-some (λ (x : Request). reply asker x.position past) (latest asker head.msgno past) some.0 [] found ∙ ap (λ (p : ℕ). reply asker p past) place.0 in
     let waits : is_answered asker some.0.position past ≡ false = answered some.0.position ∙ le-ltb _ _ (omega arith) in
     record {
       request = some.0;
@@ -155,12 +153,12 @@ due_of asker past head oldest k answered =
       at = place.0;
       waits = place.1;
       whole = subst (λ (p : ℕ). is_whole asker p past ≡ true) place.0
-        (not-false _ (sym (at-some (λ (x : Request). not (is_whole asker x.position past)) (latest asker head.msgno past) some.0 false found) ∙ k.whole));
+          (not-false _ (sym (at-some (λ (x : Request). not (is_whole asker x.position past)) (latest asker head.msgno past) some.0 false found) ∙ k.whole));
       same = λ n. alike-of head.kind (reply asker oldest past)
-        (subst (λ (p : ℕ). list_any (λ (frame : Head). not (same_kind frame.kind head.kind)) (reply asker p past) ≡ false) place.0
-         (not-both _ _ waits
+          (subst (λ (p : ℕ). list_any (λ (frame : Head). not (same_kind frame.kind head.kind)) (reply asker p past) ≡ false) place.0
+          (not-both _ _ waits
           (sym (at-some (λ (x : Request). not (is_answered asker x.position past) && list_any (λ (frame : Head). not (same_kind frame.kind head.kind)) (reply asker x.position past))
-                (latest asker head.msgno past) some.0 false found) ∙ k.same n)));
+          (latest asker head.msgno past) some.0 false found) ∙ k.same n)));
       room = due-room (reply asker oldest past) head (subst (λ (f : List Head). (begins_answer f head && nat_le MAX_ANSWERS (length (unfinished f))) ≡ false) frames k.room);
-      alone = k.alone
+      alone = k.alone;
     }

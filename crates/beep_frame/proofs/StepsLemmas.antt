@@ -1,11 +1,11 @@
 -- What one item of a side, or of the other, adds to what a history tells of a side.
-use Rattle.std.proofs.Common.{◌≡◌, ℕ, ◌+◌, ◌==◌, Bool, true, false, not, ◌&&◌, ◌||◌, if◌then◌else◌, List, [], ◌∷◌, length, Option, Some, None, refl}
+use Rattle.std.proofs.Common.{◌≡◌, ℕ, ◌+◌, ◌==◌, false, not, ◌&&◌, ◌||◌, if◌then◌else◌, List, ◌∷◌, length, Some, None, refl}
 use Rattle.std.specs.Option.{option_map_or}
 use Rattle.beep_frame.specs.declared.head.Head.{Head}
 use Rattle.beep_frame.specs.declared.journal.Side.{Side}
 use Rattle.beep_frame.specs.Frame.{is_msg, is_reply}
-use Rattle.beep_frame.specs.Journal.{Item, began, passed, same_side, other}
-use Rattle.beep_frame.specs.Marks.{frames, Request, begins_request, requests, latest, is_whole, reply}
+use Rattle.beep_frame.specs.Journal.{Item, began, passed, other}
+use Rattle.beep_frame.specs.Marks.{frames, begins_request, requests, latest, is_whole, reply}
 use Rattle.beep_frame.specs.Broken.{under_way}
 
 module _ (head : Head) (past : List Item) where
@@ -19,8 +19,8 @@ module _ (head : Head) (past : List Item) where
 
   pub requests-began-mine : (side : Side) → requests side (began side head ∷ past)
       ≡ (if begins_request side past head
-         then record { position = length (requests side past); number = head.msgno } ∷ requests side past
-         else requests side past)
+      then record { position = length (requests side past); number = head.msgno } ∷ requests side past
+      else requests side past)
   requests-began-mine Side.Received = refl
   requests-began-mine Side.Sent = refl
 
@@ -51,8 +51,8 @@ module _ (head : Head) (payload : List ℕ) (past : List Item) where
 
   pub reply-passed-theirs : (side : Side) (p : ℕ) → reply side p (passed (other side) head payload ∷ past)
       ≡ (if is_reply head.kind && option_map_or (λ request. request.position == p) (latest side head.msgno past) false
-         then head ∷ reply side p past
-         else reply side p past)
+      then head ∷ reply side p past
+      else reply side p past)
   reply-passed-theirs Side.Received p = refl
   reply-passed-theirs Side.Sent p = refl
 

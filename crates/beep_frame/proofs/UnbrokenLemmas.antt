@@ -1,23 +1,22 @@
 -- A history in which no rule of the exchange was broken is sound for both sides, by one item after the other.
-use Rattle.std.proofs.Common.{◌≡◌, ℕ, zero, suc, min, ◌+◌, ◌-◌, ◌<◌, ◌≤◌, ◌==◌, eqb, ltb, nat_lt, nat_le, Bool, true, false, cond, not, ◌&&◌, ◌||◌, if◌then◌else◌, List, [], ◌∷◌, length, take, map, Option, Some, None, refl, sym, ap, ◌∙◌, arith, subst, ⊎_elim, length-take}
-use Rattle.std.specs.List.{list_any, filter, find}
+use Rattle.std.proofs.Common.{◌≡◌, ℕ, zero, suc, min, ◌+◌, ◌-◌, ◌<◌, ◌≤◌, ◌==◌, nat_lt, Bool, true, false, not, ◌&&◌, ◌||◌, if◌then◌else◌, List, [], ◌∷◌, length, take, map, Option, Some, None, refl, sym, ap, ◌∙◌, arith, subst, length-take}
+use Rattle.std.specs.List.{list_any}
 use Rattle.std.specs.Option.{option_map_or}
-use Rattle.std.proofs.lemmas.Bool.{ltb-true, ltb-false, lt-ltb, le-ltb, leb-false, eqb-true, not-false}
+use Rattle.std.proofs.lemmas.Bool.{lt-ltb, le-ltb, leb-false}
 use Rattle.std.proofs.lemmas.Bool.Decides.{nat_tests}
 use Rattle.beep_frame.specs.declared.head.Head.{Head}
 use Rattle.beep_frame.specs.declared.kind.Kind.{Kind}
-use Rattle.beep_frame.specs.declared.seq.Seq.{Seq}
 use Rattle.beep_frame.specs.declared.journal.Side.{Side}
-use Rattle.beep_frame.specs.declared.limits.TheConstants.{MAX_REQUESTS, MAX_ANSWERS}
-use Rattle.beep_frame.specs.Frame.{is_msg, is_ans, is_nul, is_reply, same_kind}
-use Rattle.beep_frame.specs.Journal.{Item, began, passed, told, other}
-use Rattle.beep_frame.specs.Marks.{previous, Request, goes_on, begins_request, requests, latest, is_whole, reply, ends_reply, is_answered, waiting, unfinished, begins_answer}
-use Rattle.beep_frame.specs.Broken.{under_way, exchange_rule, IsUnbroken}
-use Rattle.beep_frame.proofs.AnswersLemmas.{has, length_after, IsApart-unfinished}
+use Rattle.beep_frame.specs.declared.limits.TheConstants.{MAX_REQUESTS}
+use Rattle.beep_frame.specs.Frame.{is_msg, is_nul, is_reply, same_kind}
+use Rattle.beep_frame.specs.Journal.{Item, began, other}
+use Rattle.beep_frame.specs.Marks.{previous, Request, goes_on, begins_request, requests, is_whole, is_answered, waiting}
+use Rattle.beep_frame.specs.Broken.{under_way}
+use Rattle.beep_frame.proofs.AnswersLemmas.{has}
 use Rattle.beep_frame.proofs.ListsLemmas.{find-holds, find-any, IsNumbered}
-use Rattle.beep_frame.proofs.KeptLemmas.{Kept, KeptReply, kept, kept_reply, after-true}
-use Rattle.beep_frame.proofs.StepsLemmas.{under_way-began-mine, under_way-began-theirs, requests-began-mine, requests-began-theirs, frames-passed-mine, frames-passed-theirs, under_way-passed-mine, under_way-passed-theirs, reply-passed-mine, reply-passed-theirs, whole-passed-mine, whole-passed-theirs, under_way-other-began, under_way-other-passed}
-use Rattle.beep_frame.proofs.SoundLemmas.{IsAlike, IsUniform, IsApartFirst, unfinished_request, is_open, numbers, IsDue, Sound, requests-numbered, waiting-newest, due_of}
+use Rattle.beep_frame.proofs.KeptLemmas.{Kept, kept_reply, after-true}
+use Rattle.beep_frame.proofs.StepsLemmas.{under_way-began-mine, under_way-began-theirs, requests-began-mine, requests-began-theirs, under_way-other-began}
+use Rattle.beep_frame.proofs.SoundLemmas.{IsApartFirst, unfinished_request, is_open, numbers, IsDue, Sound, requests-numbered, waiting-newest, due_of}
 
 -- ---- the frame before and the frame under way
 
@@ -73,8 +72,8 @@ quiet-at false true true true false rest d n k = cc
 quiet-of : (head : Head) (before : Option Head) (rest : Bool) → is_msg head.kind ≡ false
     → option_map_or (λ (b : Head). b.more && not (b.msgno == head.msgno)) before false ≡ false
     → (if is_nul head.kind
-       then option_map_or (λ (b : Head). goes_on head b && is_msg b.kind) before false
-       else option_map_or (λ (b : Head). goes_on head b && not (same_kind b.kind head.kind)) before false || rest) ≡ false
+    then option_map_or (λ (b : Head). goes_on head b && is_msg b.kind) before false
+    else option_map_or (λ (b : Head). goes_on head b && not (same_kind b.kind head.kind)) before false || rest) ≡ false
     → unfinished_request before ≡ false
 quiet-of head None rest m n k = refl
 quiet-of head (Some b) rest m n k =
@@ -93,7 +92,7 @@ due-began-theirs side oldest past head g d = record {
   whole = d.whole;
   same = d.same;
   room = d.room;
-  alone = d.alone
+  alone = d.alone;
 }
 
 some-same : (a b : Head) (o : Option Head) → o ≡ Some a → o ≡ Some b → a ≡ b
@@ -113,10 +112,10 @@ began-theirs side past head k s = record {
   quiet = λ g e. s.quiet g (sym (under_way-began-theirs head past side) ∙ e);
   apart = rw (requests-began-theirs head past side) s.apart;
   due = λ g e r.
-    let same : head ≡ g = some-same head g (under_way (other side) (began (other side) head ∷ past)) (under_way-began-mine head past (other side)) e in
-    let r' : is_reply head.kind ≡ true = subst (λ (x : Head). is_reply x.kind ≡ true) (sym same) r in
-    due-began-theirs side s.oldest past head g
-      (subst (λ (x : Head). IsDue side s.oldest past x) same (due_of side past head s.oldest (kept_reply side past head k r') s.answered))
+      let same : head ≡ g = some-same head g (under_way (other side) (began (other side) head ∷ past)) (under_way-began-mine head past (other side)) e in
+      let r' : is_reply head.kind ≡ true = subst (λ (x : Head). is_reply x.kind ≡ true) (sym same) r in
+      due-began-theirs side s.oldest past head g
+      (subst (λ (x : Head). IsDue side s.oldest past x) same (due_of side past head s.oldest (kept_reply side past head k r') s.answered));
 }
 
 -- ---- a header of this side
@@ -134,7 +133,7 @@ began-mine-on : (side : Side) (past : List Item) (head : Head) → under_way sid
 began-mine-on side past head idle on k s =
     let same : requests side (began side head ∷ past) ≡ requests side past = rw (requests-began-mine head past side, on) in
     let open_same : is_open (under_way side (began side head ∷ past)) (previous side past) ≡ is_open (under_way side past) (previous side past) =
-      rw (under_way-began-mine head past side, idle) (open-same head (previous side past) on) in
+    rw (under_way-began-mine head past side, idle) (open-same head (previous side past) on) in
     record {
       oldest = s.oldest;
       within = rw same s.within;
@@ -147,11 +146,17 @@ began-mine-on side past head idle on k s =
       quiet = quiet-began side past head k;
       apart = rw same s.apart;
       due = λ g e r.
-        let d = s.due g (sym (under_way-other-began head past side) ∙ e) r in
-        record {
-          request = d.request; found = rw same d.found; at = d.at; waits = rw same d.waits; whole = d.whole; same = d.same;
-          room = d.room; alone = d.alone
-        }
+          let d = s.due g (sym (under_way-other-began head past side) ∙ e) r in
+          record {
+            request = d.request;
+            found = rw same d.found;
+            at = d.at;
+            waits = rw same d.waits;
+            whole = d.whole;
+            same = d.same;
+            room = d.room;
+            alone = d.alone;
+          };
     }
 
 any-whole : (n : ℕ) (f : ℕ → Bool) (w : ℕ) (rs : List Request) → IsNumbered rs → ((p : ℕ) → p < length rs → f p ≡ true)
@@ -163,9 +168,9 @@ any-whole n f (suc w) (r ∷ rs) numbered all =
     let rest = any-whole n f w rs numbered.1 (λ p h. all p (omega arith)) in
     rw (here, rest) (and-true (r.number == n) (has n (take w (map (λ (x : Request). x.number) rs))))
   where
-  and-true : (a b : Bool) → ((a && true) || b) ≡ (a || b)
-  and-true true b = refl
-  and-true false b = refl
+    and-true : (a b : Bool) → ((a && true) || b) ≡ (a || b)
+    and-true true b = refl
+    and-true false b = refl
 
 and-first : (a b : Bool) → (a && b) ≡ true → a ≡ true
 and-first true b e = refl
@@ -191,18 +196,18 @@ new-request side past head idle new k s =
     let whole : (p : ℕ) → is_whole side p past ≡ nat_lt p (length R) = λ p. rw closed at (s.whole p) ∙ ap (λ (n : ℕ). nat_lt n (length R)) (omega arith) in
     let newest = waiting-newest side past s.oldest s.answered in
     let unused : list_any (λ (r : Request). r.number == head.msgno && is_whole side r.position past) (waiting side past) ≡ false =
-      after-true _ _ new k.number_in_use in
+    after-true _ _ new k.number_in_use in
     let room : length (waiting side past) < MAX_REQUESTS = leb-false _ _ (after-true _ _ new k.too_many_requests) in
     let count : length (waiting side past) ≡ length R - s.oldest =
-      ap length newest ∙ length-take (length R - s.oldest) R ∙ min-less (length R) s.oldest in
+    ap length newest ∙ length-take (length R - s.oldest) R ∙ min-less (length R) s.oldest in
     record {
       grown = rw (requests-began-mine head past side, new);
       is_request = and-first _ _ new;
       whole = whole;
       unused = unused;
       fresh = sym (any-whole head.msgno (λ p. is_whole side p past) (length R - s.oldest) R (requests-numbered side past) (λ p h. whole p ∙ lt-ltb _ _ h))
-        ∙ subst (λ (rs : List Request). list_any (λ (r : Request). r.number == head.msgno && is_whole side r.position past) rs ≡ false) newest unused;
-      few = omega (arith, room, count, s.within)
+          ∙ subst (λ (rs : List Request). list_any (λ (r : Request). r.number == head.msgno && is_whole side r.position past) rs ≡ false) newest unused;
+      few = omega (arith, room, count, s.within);
     }
 
 lt-more : (p n : ℕ) → nat_lt (p + 1) (suc n) ≡ nat_lt p n
@@ -215,8 +220,8 @@ due-new side past head s new g d =
     let waits : is_answered side d.request.position past ≡ false = s.answered d.request.position ∙ le-ltb _ _ (omega (arith, d.at)) in
     let whole : is_whole side d.request.position past ≡ true = subst (λ (p : ℕ). is_whole side p past ≡ true) (sym d.at) d.whole in
     let other_number : (d.request.number == head.msgno && is_whole side d.request.position past) ≡ false =
-      find-any (λ (r : Request). r.number == g.msgno) (λ (r : Request). r.number == head.msgno && is_whole side r.position past)
-      (λ (r : Request). not (is_answered side r.position past)) (requests side past) d.request d.found (ap not waits) new.unused in
+    find-any (λ (r : Request). r.number == g.msgno) (λ (r : Request). r.number == head.msgno && is_whole side r.position past)
+    (λ (r : Request). not (is_answered side r.position past)) (requests side past) d.request d.found (ap not waits) new.unused in
     let named : (d.request.number == g.msgno) ≡ true = find-holds (λ (r : Request). r.number == g.msgno) (requests side past) d.request d.found in
     let apart : (head.msgno == g.msgno) ≡ false = apart-numbers d.request.number head.msgno g.msgno _ whole other_number named in
     record {
@@ -227,11 +232,11 @@ due-new side past head s new g d =
       whole = d.whole;
       same = d.same;
       room = d.room;
-      alone = d.alone
+      alone = d.alone;
     }
   where
-  apart-numbers : (a b c : ℕ) (whole : Bool) → whole ≡ true → ((a == b) && whole) ≡ false → (a == c) ≡ true → (b == c) ≡ false
-  apart-numbers a b c whole w o n = grind (arith, nat_tests)
+    apart-numbers : (a b c : ℕ) (whole : Bool) → whole ≡ true → ((a == b) && whole) ≡ false → (a == c) ≡ true → (b == c) ≡ false
+    apart-numbers a b c whole w o n = grind (arith, nat_tests)
 
 began-mine-new : (side : Side) (past : List Item) (head : Head) → Kept side past head → (s : Sound side past) → NewRequest side past head s.oldest
     → Sound side (began side head ∷ past)
@@ -247,18 +252,18 @@ began-mine-new side past head k s new =
       whole = λ p. rw (new.grown, under_way-began-mine head past side, new.is_request) (new.whole p ∙ sym (lt-more p (length (requests side past))));
       quiet = quiet-began side past head k;
       apart = rw new.grown (apart-new (length (requests side past)) s.oldest head.msgno (numbers side past) s.within new.fresh s.apart);
-      due = λ g e r. due-new side past head s new g (s.due g (sym (under_way-other-began head past side) ∙ e) r)
+      due = λ g e r. due-new side past head s new g (s.due g (sym (under_way-other-began head past side) ∙ e) r);
     }
   where
-  apart-new : (n oldest number : ℕ) (ns : List ℕ) → oldest ≤ n → has number (take (n - oldest) ns) ≡ false → IsApartFirst (n - oldest) ns
-      → IsApartFirst (suc n - oldest) (number ∷ ns)
-  apart-new n oldest number ns within fresh apart =
-      let more : suc n - oldest ≡ suc (n - oldest) = omega arith in rw more (fresh, apart)
+    apart-new : (n oldest number : ℕ) (ns : List ℕ) → oldest ≤ n → has number (take (n - oldest) ns) ≡ false → IsApartFirst (n - oldest) ns
+        → IsApartFirst (suc n - oldest) (number ∷ ns)
+    apart-new n oldest number ns within fresh apart =
+        let more : suc n - oldest ≡ suc (n - oldest) = omega arith in rw more (fresh, apart)
 
 pub began-mine : (side : Side) (past : List Item) (head : Head) → under_way side past ≡ None → Kept side past head → Sound side past
     → Sound side (began side head ∷ past)
 began-mine side past head idle k s = began-mine-by (begins_request side past head) refl
   where
-  began-mine-by : (b : Bool) → begins_request side past head ≡ b → Sound side (began side head ∷ past)
-  began-mine-by true e = began-mine-new side past head k s (new-request side past head idle e k s)
-  began-mine-by false e = began-mine-on side past head idle e k s
+    began-mine-by : (b : Bool) → begins_request side past head ≡ b → Sound side (began side head ∷ past)
+    began-mine-by true e = began-mine-new side past head k s (new-request side past head idle e k s)
+    began-mine-by false e = began-mine-on side past head idle e k s

@@ -3,3 +3,4 @@ pub mod Frame
 pub mod Journal
 pub mod Marks
 pub mod Broken
+pub mod Moments

@@ -10,6 +10,7 @@ mod head;
 mod history;
 mod journal;
 mod kind;
+pub mod laws;
 mod limits;
 mod octets;
 mod role;
