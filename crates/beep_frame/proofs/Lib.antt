@@ -8,3 +8,14 @@ pub mod DeadLemmas
 pub mod AliveLemmas
 pub mod DecodeLemmas
 pub mod LawLemmas
+pub mod AnswersLemmas
+pub mod RulesLemmas
+pub mod ListsLemmas
+pub mod StepsLemmas
+pub mod KeptLemmas
+pub mod SoundLemmas
+pub mod UnbrokenLemmas
+pub mod PassedLemmas
+pub mod MomentsLemmas
+pub mod MarksLemmas
+pub mod OrderLemmas

@@ -1,6 +1,6 @@
 -- What a frame is: a header and its payload, or a SEQ (RFC 3080, section 2.2.1; RFC 3081, section 3.1).
 -- The decoder never holds a frame: it tells a header when it has ended, and counts the payload.
-use Rattle.std.specs.Prelude.{◌≡◌, ℕ, ◌^◌, ◌<◌, ◌≤◌, Bool, List, length}
+use Rattle.std.specs.Prelude.{◌≡◌, ℕ, ◌^◌, ◌<◌, ◌≤◌, ◌==◌, Bool, true, false, not, List, length}
 use Rattle.beep_frame.specs.declared.kind.Kind.{Kind}
 use Rattle.beep_frame.specs.declared.head.Head.{Head}
 use Rattle.beep_frame.specs.declared.seq.Seq.{Seq}
@@ -42,3 +42,45 @@ pub data Frame : Type 0 where
 abbrev pub IsFrame : Frame → Type 0
 IsFrame (framed head payload) = IsHead head × (length payload ≡ head.size)
 IsFrame (seq_frame seq) = IsSeq seq
+
+-- ---- kinds
+
+-- it belongs to a request
+abbrev pub is_msg : Kind → Bool
+is_msg Kind.Msg = true
+is_msg Kind.Rpy = false
+is_msg Kind.Err = false
+is_msg Kind.Ans = false
+is_msg Kind.Nul = false
+
+-- it is one answer of a reply in many messages
+abbrev pub is_ans : Kind → Bool
+is_ans Kind.Msg = false
+is_ans Kind.Rpy = false
+is_ans Kind.Err = false
+is_ans Kind.Ans = true
+is_ans Kind.Nul = false
+
+-- it ends a reply in many messages
+abbrev pub is_nul : Kind → Bool
+is_nul Kind.Msg = false
+is_nul Kind.Rpy = false
+is_nul Kind.Err = false
+is_nul Kind.Ans = false
+is_nul Kind.Nul = true
+
+-- it belongs to a reply
+abbrev pub is_reply : Kind → Bool
+is_reply kind = not (is_msg kind)
+
+-- the place of a kind among the kinds
+abbrev pub kind_index : Kind → ℕ
+kind_index Kind.Msg = 0
+kind_index Kind.Rpy = 1
+kind_index Kind.Err = 2
+kind_index Kind.Ans = 3
+kind_index Kind.Nul = 4
+
+-- two kinds are one
+abbrev pub same_kind : Kind → Kind → Bool
+same_kind a b = kind_index a == kind_index b

@@ -10,3 +10,7 @@ pub mod Stands
 pub mod Decodes
 pub mod Telling
 pub mod Laws
+pub mod Journal
+pub mod Marks
+pub mod Broken
+pub mod Moments

@@ -13,6 +13,31 @@ pub enum Side {
     Sent,
 }
 
+impl Side {
+    ghost use Rattle.std.specs.Prelude.{◌≡◌};
+    ghost use Rattle.beep_frame.specs.Journal.{same_side, other};
+
+    /// Whether it is this side.
+    pub fn is_same(self, side: Side) -> bool
+        ensures { result ≡ same_side self side }
+    {
+        match self {
+            Side::Received => matches!(side, Side::Received),
+            Side::Sent => matches!(side, Side::Sent),
+        }
+    }
+
+    /// The side that answers this one.
+    pub fn other(self) -> Side
+        ensures { result ≡ other self }
+    {
+        match self {
+            Side::Received => Side::Sent,
+            Side::Sent => Side::Received,
+        }
+    }
+}
+
 /// One thing that happened, at the octet that completes it.
 #[derive(Debug, Drop)]
 pub enum JournalItem {

@@ -14,3 +14,58 @@ pub enum Kind {
     /// The end of a reply in many messages.
     Nul,
 }
+
+impl Kind {
+    ghost use Rattle.std.specs.Prelude.{◌≡◌};
+    ghost use Rattle.beep_frame.specs.Frame.{is_msg, is_ans, is_nul, is_reply, same_kind};
+
+    /// Whether it belongs to a request.
+    pub fn is_msg(self) -> bool
+        ensures { result ≡ is_msg self }
+    {
+        match self {
+            Kind::Msg => true,
+            Kind::Rpy | Kind::Err | Kind::Ans | Kind::Nul => false,
+        }
+    }
+
+    /// Whether it is one answer of a reply in many messages.
+    pub fn is_ans(self) -> bool
+        ensures { result ≡ is_ans self }
+    {
+        match self {
+            Kind::Ans => true,
+            Kind::Msg | Kind::Rpy | Kind::Err | Kind::Nul => false,
+        }
+    }
+
+    /// Whether it ends a reply in many messages.
+    pub fn is_nul(self) -> bool
+        ensures { result ≡ is_nul self }
+    {
+        match self {
+            Kind::Nul => true,
+            Kind::Msg | Kind::Rpy | Kind::Err | Kind::Ans => false,
+        }
+    }
+
+    /// Whether it belongs to a reply.
+    pub fn is_reply(self) -> bool
+        ensures { result ≡ is_reply self }
+    {
+        !self.is_msg()
+    }
+
+    /// Whether it is this kind.
+    pub fn is_same(self, kind: Kind) -> bool
+        ensures { result ≡ same_kind self kind }
+    {
+        match self {
+            Kind::Msg => matches!(kind, Kind::Msg),
+            Kind::Rpy => matches!(kind, Kind::Rpy),
+            Kind::Err => matches!(kind, Kind::Err),
+            Kind::Ans => matches!(kind, Kind::Ans),
+            Kind::Nul => matches!(kind, Kind::Nul),
+        }
+    }
+}

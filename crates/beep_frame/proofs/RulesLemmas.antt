@@ -1,0 +1,51 @@
+-- The first broken rule of one list of rules before another.
+use Rattle.std.proofs.Common.{◌≡◌, ℕ, Bool, true, false, List, [], ◌∷◌, ◌++◌, Some, None, refl, ◌∙◌}
+use Rattle.beep_frame.specs.declared.rule.Rule.{Rule}
+use Rattle.beep_frame.specs.declared.head.Head.{Head}
+use Rattle.beep_frame.specs.declared.journal.Side.{Side}
+use Rattle.beep_frame.specs.Journal.{Item}
+use Rattle.beep_frame.specs.Broken.{first_of, shape_rules, octet_rules, limit_rules, broken_within, exchange_rule}
+
+-- a rule that the first list breaks is the answer
+pub first_of-some : (xs ys : List (Rule × Bool)) (rule : Rule) → first_of xs ≡ Some rule → first_of (xs ++ ys) ≡ Some rule
+first_of-some [] ys rule e = cc
+first_of-some ((r, true) ∷ xs) ys rule e = e
+first_of-some ((r, false) ∷ xs) ys rule e = first_of-some xs ys rule e
+
+-- where the first list breaks none, the second answers
+pub first_of-none : (xs ys : List (Rule × Bool)) → first_of xs ≡ None → first_of (xs ++ ys) ≡ first_of ys
+first_of-none [] ys e = refl
+first_of-none ((r, true) ∷ xs) ys e = cc
+first_of-none ((r, false) ∷ xs) ys e = first_of-none xs ys e
+
+-- ---- the rules of one life
+
+module _ (edge : ℕ) (side : Side) (past : List Item) (head : Head) where
+  pub within-shape : (rule : Rule) → first_of (shape_rules side past head) ≡ Some rule → broken_within edge side past head ≡ Some rule
+  unfolding broken_within
+  within-shape rule e =
+      first_of-some (shape_rules side past head ++ octet_rules edge side past head) (limit_rules side past head) rule
+      (first_of-some (shape_rules side past head) (octet_rules edge side past head) rule e)
+
+  pub within-octets : (rule : Rule) → first_of (shape_rules side past head) ≡ None → first_of (octet_rules edge side past head) ≡ Some rule
+      → broken_within edge side past head ≡ Some rule
+  unfolding broken_within
+  within-octets rule e f =
+      first_of-some (shape_rules side past head ++ octet_rules edge side past head) (limit_rules side past head) rule
+      (first_of-none (shape_rules side past head) (octet_rules edge side past head) e ∙ f)
+
+  pub within-limits : first_of (shape_rules side past head) ≡ None → first_of (octet_rules edge side past head) ≡ None
+      → broken_within edge side past head ≡ first_of (limit_rules side past head)
+  unfolding broken_within
+  within-limits e f =
+      first_of-none (shape_rules side past head ++ octet_rules edge side past head) (limit_rules side past head)
+      (first_of-none (shape_rules side past head) (octet_rules edge side past head) e ∙ f)
+
+module _ (side : Side) (past : List Item) (head : Head) where
+  pub exchange-shape : (rule : Rule) → first_of (shape_rules side past head) ≡ Some rule → exchange_rule side past head ≡ Some rule
+  unfolding exchange_rule
+  exchange-shape rule e = first_of-some (shape_rules side past head) (limit_rules side past head) rule e
+
+  pub exchange-limits : first_of (shape_rules side past head) ≡ None → exchange_rule side past head ≡ first_of (limit_rules side past head)
+  unfolding exchange_rule
+  exchange-limits e = first_of-none (shape_rules side past head) (limit_rules side past head) e
