@@ -17,7 +17,7 @@ use Rattle.beep_frame.specs.Stream.{Stream}
 use Rattle.beep_frame.specs.Laws.{TellsHead}
 use Rattle.beep_frame.proofs.LawLemmas.{means, length-header_line, length-seq_line}
 use Rattle.beep_cmd.specs.declared.listing.Lister.{Lister}
-use Rattle.beep_cmd.specs.declared.show.TheConstants.{MAX_PAYLOAD}
+use Rattle.beep_frame.specs.declared.limits.TheConstants.{MAX_PAYLOAD}
 use Rattle.beep_cmd.specs.Show.{IsRead}
 use Rattle.beep_cmd.specs.Texts.{frame_line, listing}
 use Rattle.beep_cmd.specs.Listing.{Gathers, Gathered, SameLines, EndsFrame, Follows, Holds, Lists, ListsTo, ListsSoFar}

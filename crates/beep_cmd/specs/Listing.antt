@@ -8,7 +8,7 @@ use Rattle.beep_frame.specs.Frame.{Frame}
 use Rattle.beep_frame.specs.Spelling.{header}
 use Rattle.beep_frame.specs.Stands.{Stands, told}
 use Rattle.beep_cmd.specs.declared.listing.Lister.{Lister}
-use Rattle.beep_cmd.specs.declared.show.TheConstants.{MAX_PAYLOAD}
+use Rattle.beep_frame.specs.declared.limits.TheConstants.{MAX_PAYLOAD}
 use Rattle.beep_cmd.specs.declared.listing.TheConstants.{LINE_ROOM, OUT_ROOM}
 use Rattle.beep_cmd.specs.Texts.{listing}
 use Rattle.beep_frame.specs.Decodes.{BreaksBy}

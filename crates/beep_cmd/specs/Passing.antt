@@ -10,7 +10,8 @@ use Rattle.beep_wires.specs.Counts.{Rose}
 use Rattle.beep_wires.specs.Transfer.{AppendsPrefix}
 use Rattle.beep_cmd.specs.declared.listing.Lister.{Lister}
 use Rattle.beep_cmd.specs.declared.show.Ending.{Ending}
-use Rattle.beep_cmd.specs.declared.show.TheConstants.{OCTETS, MAX_PAYLOAD}
+use Rattle.beep_frame.specs.declared.limits.TheConstants.{MAX_PAYLOAD}
+use Rattle.beep_cmd.specs.declared.show.TheConstants.{OCTETS}
 use Rattle.beep_cmd.specs.Texts.{listing}
 use Rattle.beep_cmd.specs.Show.{IsRead}
 use Rattle.beep_cmd.specs.Listing.{Reads, IsClear}

@@ -8,7 +8,8 @@ use Rattle.beep_frame.specs.Frame.{Frame}
 use Rattle.beep_frame.specs.Stream.{Stream}
 use Rattle.beep_frame.specs.Decodes.{BreaksBy}
 use Rattle.beep_frame.specs.Stands.{IsWithin}
-use Rattle.beep_cmd.specs.declared.show.TheConstants.{OCTETS, MAX_PAYLOAD}
+use Rattle.beep_frame.specs.declared.limits.TheConstants.{MAX_PAYLOAD}
+use Rattle.beep_cmd.specs.declared.show.TheConstants.{OCTETS}
 use Rattle.beep_wires.specs.Counts.{Rose}
 use Rattle.beep_wires.specs.Transfer.{AppendsPrefix}
 use Rattle.beep_cmd.specs.Texts.{listing, totals, usage_line, read_fault_line, cut_line, spent_line, broken_line}

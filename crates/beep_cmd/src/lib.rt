@@ -7,4 +7,4 @@ mod show;
 mod text;
 
 pub use run::beep_run;
-pub use show::{MAX_PAYLOAD, OCTETS};
+pub use show::OCTETS;

@@ -5,9 +5,8 @@ ghost use Rattle.beep_frame.specs.Held.{KeepsRoom};
 ghost use Rattle.beep_frame.specs.declared.head.Head.{Head as header_type};
 ghost use Rattle.beep_cmd.specs.Listing.{Gathered, EndsLine};
 
-use crate::show::MAX_PAYLOAD;
 use crate::text::append;
-use beep_frame::{Decoder, NoMemory, Octets, Rule, Step};
+use beep_frame::{Decoder, MAX_PAYLOAD, NoMemory, Octets, Rule, Step};
 use std::alloc::Global;
 
 /// The longest header with its CRLF, in octets (RFC 3080, section 2.2.1).

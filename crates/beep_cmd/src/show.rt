@@ -17,9 +17,6 @@ use std::alloc::Global;
 /// that never ends.
 pub const OCTETS: usize = 1073741824;
 
-/// The largest payload of a frame that a peer may send, in octets (docs/DECISIONS.md, "Large payloads").
-pub const MAX_PAYLOAD: u32 = 65536;
-
 /// What ended the reading.
 #[derive(Clone, Copy, Debug, PartialEq, Eq)]
 pub(crate) enum Ending {
