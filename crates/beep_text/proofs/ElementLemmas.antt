@@ -90,19 +90,22 @@ are_attrs-push [] a are named allowed new = both _ true (both _ true (both _ _ n
 are_attrs-push (b ∷ attrs) a are named allowed new =
     let three = left_of _ (are_attrs attrs) are in
     let apart : has_name b.name (attrs ++ a ∷ []) ≡ false = has_name-push b.name attrs a
-        ∙ both_false _ _ (is_false _ (right_of (is_name b.name && list_all is_allowed b.value) _ three)) (bytes_eq-comm a.name b.name ∙ left_false _ _ new) in
+    ∙ both_false _ _ (is_false _ (right_of (is_name b.name && list_all is_allowed b.value) _ three)) (bytes_eq-comm a.name b.name ∙ left_false _ _ new) in
     both _ _ (both _ _ (left_of _ (not (has_name b.name attrs)) three) (not-false _ apart))
-        (are_attrs-push attrs a (right_of (is_name b.name && list_all is_allowed b.value && not (has_name b.name attrs)) _ are) named allowed (right_false (bytes_eq b.name a.name) _ new))
+    (are_attrs-push attrs a (right_of (is_name b.name && list_all is_allowed b.value && not (has_name b.name attrs)) _ are) named allowed (right_false (bytes_eq b.name a.name) _ new))
 
 -- one more part keeps an element lawful
 pub IsElement-next : (e : Tree) (item : Item) → IsElement e → IsNext e.items item → IsItem item
     → IsElement (record { name = e.name; attrs = e.attrs; items = with_item e.items item })
 IsElement-next e (Item.Chars cs) is next part = record {
-  named = is.named; attrs = is.attrs; nested = is.nested;
+  named = is.named;
+  attrs = is.attrs;
+  nested = is.nested;
   items = both _ _ (both _ _ (both _ _ is.items (not-false _ next.0)) (lt-ltb 0 (length cs) next.1)) next.2;
 }
 IsElement-next e (Item.Child child) is next part = record {
-  named = is.named; attrs = is.attrs;
+  named = is.named;
+  attrs = is.attrs;
   nested = (let one = is.nested in let two = next in omega arith);
   items = both _ _ (both _ _ (both _ _ is.items part.named) part.attrs) part.items;
 }

@@ -1,3 +1,5 @@
+mod CanonicalLemmas
 mod ElementLemmas
 mod SplitLemmas
 mod TextLemmas
+mod WrittenLemmas

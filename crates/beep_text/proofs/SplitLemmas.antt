@@ -27,4 +27,4 @@ header_len-line payload rest line at len within before here fits first next is =
     let whole : drop at payload ≡ rest = sym (here ∙ take_rest payload at) in
     let behind : drop len rest ≡ drop (at + len) payload = ap (drop len) (sym whole) ∙ drop-drop len at payload in
     ap (header_len within) (ap (lines_after []) whole ∙ next)
-        ∙ (rw (← first, ← is, behind, ap length first ∙ length-take-le len rest fits) refl)
+    ∙ (rw (← first, ← is, behind, ap length first ∙ length-take-le len rest fits) refl)

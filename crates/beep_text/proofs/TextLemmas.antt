@@ -18,5 +18,5 @@ chars-push bs c utf8 is = chars-append bs (encode_utf8 c) utf8 ∙ ap (λ x. cha
 pub bytes_eq-chars : (a b : List ℕ) → IsUtf8 a → IsUtf8 b → bytes_eq a b ≡ bytes_eq (chars a) (chars b)
 bytes_eq-chars a b first second =
     let by_chars : Decides (bytes_eq (chars a) (chars b)) (a ≡ b) =
-        (λ e. sym (encodes-chars a first) ∙ ap encode_utf8_all ((bytes_eq-Decides (chars a) (chars b)).0 e) ∙ encodes-chars b second, λ e. (bytes_eq-Decides (chars a) (chars b)).1 (ap chars e)) in
+    (λ e. sym (encodes-chars a first) ∙ ap encode_utf8_all ((bytes_eq-Decides (chars a) (chars b)).0 e) ∙ encodes-chars b second, λ e. (bytes_eq-Decides (chars a) (chars b)).1 (ap chars e)) in
     same_from_decides _ _ (bytes_eq-Decides a b) by_chars

@@ -60,8 +60,8 @@ built_back (with_chars items cs) ups rest = built_back items ups ((0, (cs, [])) 
 built_back (with_child items name attrs inside) ups rest =
     let closing : Token = (2, (name, map pair_of attrs)) in
     built_back items ups ((1, ([], [])) ∷ tokens inside (closing ∷ rest))
-        ∙ built_back inside (items ∷ ups) (closing ∷ rest)
-        ∙ ap (λ settings. built (with_child items name settings inside) ups rest) (attrs_back attrs)
+    ∙ built_back inside (items ∷ ups) (closing ∷ rest)
+    ∙ ap (λ settings. built (with_child items name settings inside) ups rest) (attrs_back attrs)
 
 abbrev pub tree_code : Coded Tree
 tree_code =

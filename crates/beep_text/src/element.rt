@@ -3,13 +3,11 @@ ghost use Rattle.std.specs.Prelude.{◌≡◌, ◌==◌, ℕ, false, [], ◌∷�
 ghost use Rattle.std.specs.List.{list_all};
 ghost use Rattle.beep_text.specs.Lawful.{IsItem};
 
-use std::alloc::Global;
-use std::marker::Model;
-
-use beep_frame::NoMemory;
-
 use crate::attr::Attr;
 use crate::text::Text;
+use beep_frame::NoMemory;
+use std::alloc::Global;
+use std::marker::Model;
 
 /// A part of what an element holds.
 #[cycle(element)]
@@ -25,9 +23,9 @@ pub enum Item {
 #[cycle(element)]
 #[derive(Debug, Drop)]
 pub struct Element {
-    name: Text,
-    attrs: Vec<Attr>,
-    items: Vec<Item>,
+    pub(crate) name: Text,
+    pub(crate) attrs: Vec<Attr>,
+    pub(crate) items: Vec<Item>,
 }
 
 impl Model for Element {
@@ -68,6 +66,11 @@ impl Element {
             attrs: Vec::new(alloc),
             items: Vec::new(alloc),
         }
+    }
+
+    /// Where its memory comes from.
+    pub(crate) fn alloc(&self) -> Global {
+        *self.attrs.allocator()
     }
 
     /// The name.

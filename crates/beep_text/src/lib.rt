@@ -11,8 +11,10 @@ mod element;
 mod limits;
 mod split;
 mod text;
+mod write;
 
 pub use element::{Element, Item};
 pub use limits::{MAX_NAME, MAX_NESTED, MAX_TEXT};
 pub use split::split_entity;
 pub use text::Text;
+pub use write::write_element;

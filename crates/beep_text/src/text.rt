@@ -1,10 +1,9 @@
 //! A list of characters, kept as text.
 ghost use Rattle.std.specs.Prelude.{◌≡◌, [], ◌∷◌, ◌++◌, length, chars, slice_get, bytes_eq, OnOk, OnErr};
 
+use beep_frame::NoMemory;
 use std::alloc::Global;
 use std::marker::Model;
-
-use beep_frame::NoMemory;
 
 /// A list of characters that grows at its end.
 #[derive(Debug, Drop)]
