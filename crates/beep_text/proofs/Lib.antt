@@ -1,5 +1,10 @@
 mod CanonicalLemmas
+mod CharLemmas
 mod ElementLemmas
+mod ReachedLemmas
+mod ReadingLemmas
+mod RunLemmas
 mod SplitLemmas
+mod StepLemmas
 mod TextLemmas
 mod WrittenLemmas

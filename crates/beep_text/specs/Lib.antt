@@ -6,3 +6,4 @@ pub mod Lawful
 pub mod Elements
 pub mod Canonical
 pub mod Split
+pub mod Machine

@@ -9,6 +9,7 @@
 mod attr;
 mod element;
 mod limits;
+mod mode;
 mod split;
 mod text;
 mod write;
