@@ -1,6 +1,7 @@
 mod CanonicalLemmas
 mod CharLemmas
 mod ElementLemmas
+mod LawLemmas
 mod ReachedLemmas
 mod ReadingLemmas
 mod RunLemmas

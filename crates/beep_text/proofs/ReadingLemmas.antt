@@ -36,16 +36,16 @@ lt-leb-false w k low = grind (arith, nat_tests)
 
 -- ---- characters above one octet, by steps that are those of the octets
 
-first_high : (b : ℕ) → 128 ≤ b → char_taken Part.Fresh b ≡ first_taken b
+pub first_high : (b : ℕ) → 128 ≤ b → char_taken Part.Fresh b ≡ first_taken b
 first_high b high = rw (ne_eqb b 38 (λ same. absurd (omega (arith, same)))) refl
 
 module _ (f : Part → ℕ → Taken) (first : (b : ℕ) → 128 ≤ b → f Part.Fresh b ≡ first_taken b)
     (one : (v b : ℕ) → f (Part.One v) b ≡ taken_after (Part.One v) b) (two : (v b : ℕ) → f (Part.Two v) b ≡ taken_after (Part.Two v) b) (three : (v b : ℕ) → f (Part.Three v) b ≡ taken_after (Part.Three v) b) where
 
-  reads_one : (v b c : ℕ) → is_tail b ≡ true → grown v b ≡ c → is_allowed c ≡ true → Reading f (Part.One v) (b ∷ []) c
+  pub reads_one : (v b c : ℕ) → is_tail b ≡ true → grown v b ≡ c → is_allowed c ≡ true → Reading f (Part.One v) (b ∷ []) c
   reads_one v b c tail same allowed = last b c (one v b ∙ (rw tail (allowed_whole (grown v b) c same allowed)))
 
-  reads_two : (v b d w c : ℕ) → is_tail b ≡ true → is_tail d ≡ true → grown v b ≡ w → 32 ≤ w → w < 17408 → (w < 864) ⊎ (896 ≤ w) → grown w d ≡ c → is_allowed c ≡ true → Reading f (Part.Two v) (b ∷ d ∷ []) c
+  pub reads_two : (v b d w c : ℕ) → is_tail b ≡ true → is_tail d ≡ true → grown v b ≡ w → 32 ≤ w → w < 17408 → (w < 864) ⊎ (896 ≤ w) → grown w d ≡ c → is_allowed c ≡ true → Reading f (Part.Two v) (b ∷ d ∷ []) c
   reads_two v b d w c tail tail2 same over under scalar same2 allowed = more b c (d ∷ []) (Part.One w)
       (two v b ∙ (rw (tail, same, le-leb 32 w over, lt-ltb w 17408 under) (⊎_elim (λ low. rw (leb_less w 864 low) refl) (λ high. (rw (le-ltb w 896 high) (stays_false (nat_le 864 w) (Part.One w)))) scalar)))
       refl (reads_one w d c tail2 same2 allowed)
@@ -56,7 +56,7 @@ module _ (f : Part → ℕ → Taken) (first : (b : ℕ) → 128 ≤ b → f Par
     stays_false true p = refl
     stays_false false p = refl
 
-  reads_three : (v b d e w u c : ℕ) → is_tail b ≡ true → is_tail d ≡ true → is_tail e ≡ true → grown v b ≡ w → 16 ≤ w → w < 272 → grown w d ≡ u → 32 ≤ u → u < 17408 → (u < 864) ⊎ (896 ≤ u) → grown u e ≡ c
+  pub reads_three : (v b d e w u c : ℕ) → is_tail b ≡ true → is_tail d ≡ true → is_tail e ≡ true → grown v b ≡ w → 16 ≤ w → w < 272 → grown w d ≡ u → 32 ≤ u → u < 17408 → (u < 864) ⊎ (896 ≤ u) → grown u e ≡ c
       → is_allowed c ≡ true → Reading f (Part.Three v) (b ∷ d ∷ e ∷ []) c
   reads_three v b d e w u c tail tail2 tail3 same over under same2 over2 under2 scalar same3 allowed = more b c (d ∷ e ∷ []) (Part.Two w)
       (three v b ∙ (rw (tail, same, le-leb 16 w over, lt-ltb w 272 under) refl)) refl (reads_two w d e u c tail2 tail3 same2 over2 under2 scalar same3 allowed)
@@ -132,7 +132,7 @@ reads_digits hex any n (d ∷ digits) c are some value allowed =
     (reads_digits hex true next digits c (right_of (is_digit_in hex d) _ are) refl value allowed)
 
 -- each of the five names
-named_cases : (c : ℕ) → has_reference c ≡ true → (P : ℕ → Type 0) → P 60 → P 62 → P 38 → P 39 → P 34 → P c
+pub named_cases : (c : ℕ) → has_reference c ≡ true → (P : ℕ → Type 0) → P 60 → P 62 → P 38 → P 39 → P 34 → P c
 named_cases c is P lt gt amp apos quot =
     or_case (c == 60 || c == 62 || c == 38 || c == 39) (c == 34) is (λ four.
     or_case (c == 60 || c == 62 || c == 38) (c == 39) four (λ three.

@@ -8,6 +8,7 @@
 
 mod attr;
 mod element;
+pub mod laws;
 mod limits;
 mod mode;
 mod split;
