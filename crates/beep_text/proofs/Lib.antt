@@ -1,9 +1,11 @@
 mod CanonicalLemmas
 mod CharLemmas
 mod ElementLemmas
+mod FinishLemmas
 mod LawLemmas
 mod ReachedLemmas
 mod ReadingLemmas
+mod RoomLemmas
 mod RunLemmas
 mod SplitLemmas
 mod StepLemmas

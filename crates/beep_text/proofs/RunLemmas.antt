@@ -63,7 +63,7 @@ and_false : (x y : Bool) → (x ≡ true → y ≡ false) → (x && y) ≡ false
 and_false true y next = next refl
 and_false false y next = refl
 
-value-char : (q : ℕ) (below : List Tree) (top : Tree) (attr value : List ℕ) (part : Part) (bs : List ℕ) (c : ℕ) → Reading char_taken part bs c → (is_fresh part ≡ true → First q bs × First 60 bs)
+pub value-char : (q : ℕ) (below : List Tree) (top : Tree) (attr value : List ℕ) (part : Part) (bs : List ℕ) (c : ℕ) → Reading char_taken part bs c → (is_fresh part ≡ true → First q bs × First 60 bs)
     → Goes (st below top attr value (Mode.Value q part)) bs (st below top attr (value ++ c ∷ []) (Mode.Value q Part.Fresh))
 value-char q below top attr value part bs c (last b _ taken) first =
     rw (and_false (is_fresh part) (b == q) (λ f. (first f).0), and_false (is_fresh part) (b == 60) (λ f. (first f).1), taken) refl
@@ -71,7 +71,7 @@ value-char q below top attr value part bs c (more b _ rest next taken other read
     rw (and_false (is_fresh part) (b == q) (λ f. (first f).0), and_false (is_fresh part) (b == 60) (λ f. (first f).1), taken)
     (value-char q below top attr value next rest c reading (λ f. absurd (cc f)))
 
-content-char : (below : List Tree) (name : List ℕ) (attrs : List Attr) (items : Items) (attr value : List ℕ) (part : Part) (bs : List ℕ) (c : ℕ) → Reading char_taken part bs c → (is_fresh part ≡ true → First 60 bs)
+pub content-char : (below : List Tree) (name : List ℕ) (attrs : List Attr) (items : Items) (attr value : List ℕ) (part : Part) (bs : List ℕ) (c : ℕ) → Reading char_taken part bs c → (is_fresh part ≡ true → First 60 bs)
     → Goes (st below (tree name attrs items) attr value (Mode.Content part)) bs (st below (tree name attrs (put items c)) attr value (Mode.Content Part.Fresh))
 content-char below name attrs items attr value part bs c (last b _ taken) first = rw (and_false (is_fresh part) (b == 60) first, taken) refl
 content-char below name attrs items attr value part bs c (more b _ rest next taken other reading) first =
@@ -124,7 +124,7 @@ three_false false y z next = refl
 no_end : (k : ℕ) (part : Part) (b : ℕ) → (is_fresh part ≡ true → k ≡ 2 → (b == 62) ≡ false) → (is_fresh part && b == 62 && k == 2) ≡ false
 no_end k part b ends = three_false (is_fresh part) (b == 62) (k == 2) (λ f e. ends f (eqb-true k 2 e))
 
-section-char : (k : ℕ) (below : List Tree) (name : List ℕ) (attrs : List Attr) (items : Items) (attr value : List ℕ) (part : Part) (bs : List ℕ) (c : ℕ) → Reading taken_after part bs c
+pub section-char : (k : ℕ) (below : List Tree) (name : List ℕ) (attrs : List Attr) (items : Items) (attr value : List ℕ) (part : Part) (bs : List ℕ) (c : ℕ) → Reading taken_after part bs c
     → (is_fresh part ≡ true → First 93 bs) → (is_fresh part ≡ true → k ≡ 2 → First 62 bs) → (is_fresh part ≡ false → k ≡ 0)
     → Goes (st below (tree name attrs items) attr value (Mode.Section k part)) bs (st below (tree name attrs (put (fold put items (replicate k 93)) c)) attr value (Mode.Section 0 Part.Fresh))
 section-char k below name attrs items attr value part bs c (last b _ taken) first ends none =
@@ -140,7 +140,7 @@ section_rest xs ys within front back same = within (xs ++ front) back (ap (λ x.
   regroup a b c d = simp append_assoc
 
 -- a section up to its end
-abbrev SectionGoes : ℕ → List ℕ → Items → List Tree → List ℕ → List Attr → List ℕ → List ℕ → Type 0
+abbrev pub SectionGoes : ℕ → List ℕ → Items → List Tree → List ℕ → List Attr → List ℕ → List ℕ → Type 0
 SectionGoes k cs items below name attrs attr value =
     Goes (st below (tree name attrs items) attr value (Mode.Section k Part.Fresh)) (encode_utf8_all cs ++ codes "]]>") (st below (tree name attrs (fold put items (replicate k 93 ++ cs))) attr value (Mode.Content Part.Fresh))
 
@@ -238,7 +238,7 @@ room_prefix m [] attrs fits are new = by_test (λ (x : Bool). x ≡ true) (nat_l
 room_prefix m (c ∷ []) attrs fits are new = room_one m c attrs (left_of (is_name_char c) _ are) (omega arith) new
 room_prefix m (c ∷ d ∷ rest) attrs fits are new = rw (lt-ltb (length m) 63 (omega arith)) refl
 
-attr-more : (cs : List ℕ) (below : List Tree) (top : Tree) (m value : List ℕ) → length m + length cs ≤ 64 → list_all is_name_char cs ≡ true → has_name (m ++ cs) top.attrs ≡ false
+pub attr-more : (cs : List ℕ) (below : List Tree) (top : Tree) (m value : List ℕ) → length m + length cs ≤ 64 → list_all is_name_char cs ≡ true → has_name (m ++ cs) top.attrs ≡ false
     → Goes (st below top m value Mode.Attr) cs (st below top (m ++ cs) value Mode.Attr)
 attr-more [] below top m value fits are new = ap (λ x. Some (st below top x value Mode.Attr)) (sym (append-nil m))
 attr-more (b ∷ cs) below top m value fits are new =
@@ -290,7 +290,7 @@ before-run below top attr value (b ∷ before) new are =
       rw (space_apart b space, new, space) (spaces_stay (st below top attr value Mode.Equals) (λ x is. rw is refl) before (right_of (is_space b) _ are)),
       refl)
 
-quote_cases : (q : ℕ) → (q == 34 || q == 39) ≡ true → (is_space q ≡ false) × (q < 128) × ((38 == q) ≡ false)
+pub quote_cases : (q : ℕ) → (q == 34 || q == 39) ≡ true → (is_space q ≡ false) × (q < 128) × ((38 == q) ≡ false)
 quote_cases q is = (grind (arith, nat_tests), grind (arith, nat_tests), grind (arith, nat_tests))
 
 quote-run : (below : List Tree) (top : Tree) (attr value : List ℕ) (q : ℕ) (ws : List Written) → (q == 34 || q == 39) ≡ true → list_all (is_written q) ws ≡ true
@@ -302,7 +302,7 @@ quote-run below top attr value q ws is are =
   quoted : (q : ℕ) → is_space q ≡ false → (q == 34 || q == 39) ≡ true → step (st below top attr value Mode.Quote) q ≡ Some (st below top attr [] (Mode.Value q Part.Fresh))
   quoted q apart is = rw (apart, is) refl
 
-unquote-run : (below : List Tree) (name : List ℕ) (attrs : List Attr) (items : Items) (attr value : List ℕ) (q : ℕ)
+pub unquote-run : (below : List Tree) (name : List ℕ) (attrs : List Attr) (items : Items) (attr value : List ℕ) (q : ℕ)
     → Goes (st below (tree name attrs items) attr value (Mode.Value q Part.Fresh)) (q ∷ []) (st below (tree name (attrs ++ record { name = attr; value = value } ∷ []) items) attr value (Mode.Tag false))
 unquote-run below name attrs items attr value q = rw (eq-eqb q q refl) refl
 
@@ -365,7 +365,7 @@ tag-run s below top attr value t begins is room =
 tag-opens : (below : List Tree) (top : Tree) (attr value : List ℕ) (mode : Mode) → IsTagMode mode → step (st below top attr value mode) 62 ≡ Some (st below top attr value (Mode.Content Part.Fresh))
 tag-opens below top attr value mode is = tag_any (λ m. step (st below top attr value m) 62 ≡ Some (st below top attr value (Mode.Content Part.Fresh))) mode is refl (λ spaced. refl)
 
-tag-closes : (below : List Tree) (up top : Tree) (attr value : List ℕ) (mode : Mode) → IsTagMode mode → run (Some (st (up ∷ below) top attr value mode)) (47 ∷ 62 ∷ []) ≡ ended_in (up ∷ below) top attr value
+pub tag-closes : (below : List Tree) (up top : Tree) (attr value : List ℕ) (mode : Mode) → IsTagMode mode → run (Some (st (up ∷ below) top attr value mode)) (47 ∷ 62 ∷ []) ≡ ended_in (up ∷ below) top attr value
 tag-closes below up top attr value mode is = tag_any (λ m. run (Some (st (up ∷ below) top attr value m)) (47 ∷ 62 ∷ []) ≡ ended_in (up ∷ below) top attr value) mode is refl (λ spaced. refl)
 
 -- the mode behind an element
@@ -380,7 +380,7 @@ alone-run s below name attrs items attr value t begins is room =
     (tag.2.0, tag.2.1, goes_on s (st (tree name attrs items ∷ below) (tree t.name (map attr_said t.attrs) nothing) tag.2.0 tag.2.1 tag.0) _ (tag_text t) (codes "/>") tag.2.2
       (tag-closes below (tree name attrs items) (tree t.name (map attr_said t.attrs) nothing) tag.2.0 tag.2.1 tag.0 tag.1))
 
-closing-run : (rest front : List ℕ) (below : List Tree) (top : Tree) (attr value : List ℕ) → top.name ≡ front ++ rest
+pub closing-run : (rest front : List ℕ) (below : List Tree) (top : Tree) (attr value : List ℕ) → top.name ≡ front ++ rest
     → Goes (st below top attr value (Mode.Closing (length front))) rest (st below top attr value (Mode.Closing (length top.name)))
 closing-run [] front below top attr value is = ap (λ n. Some (st below top attr value (Mode.Closing n))) (sym (ap length (is ∙ append-nil front)))
 closing-run (b ∷ rest) front below top attr value is =
@@ -392,7 +392,7 @@ closing-run (b ∷ rest) front below top attr value is =
 closing-whole : (below : List Tree) (top : Tree) (attr value : List ℕ) (n b : ℕ) → nat_lt n (length top.name) ≡ false → step (st below top attr value (Mode.Closing n)) b ≡ closed_step (st below top attr value (Mode.Closing n)) b
 closing-whole below top attr value n b is = rw is refl
 
-end-gap : (below : List Tree) (top : Tree) (attr value gap : List ℕ) → list_all is_space gap ≡ true → run (Some (st below top attr value (Mode.Closing (length top.name)))) (gap ++ 62 ∷ []) ≡ ended_in below top attr value
+pub end-gap : (below : List Tree) (top : Tree) (attr value gap : List ℕ) → list_all is_space gap ≡ true → run (Some (st below top attr value (Mode.Closing (length top.name)))) (gap ++ 62 ∷ []) ≡ ended_in below top attr value
 end-gap below top attr value [] are = closing-whole below top attr value (length top.name) 62 (le-ltb (length top.name) (length top.name) (omega arith))
 end-gap below top attr value (b ∷ gap) are =
     let space = left_of (is_space b) _ are in
@@ -432,7 +432,7 @@ around-run s below name attrs items attr value t inner gap begins is room spaces
 
 -- ---- what an element holds
 
-cdata-begins : (below : List Tree) (up top : Tree) (attr value : List ℕ) → Goes (st (up ∷ below) top attr value (Mode.Content Part.Fresh)) (codes "<![CDATA[") (st (up ∷ below) top attr value (Mode.Section 0 Part.Fresh))
+pub cdata-begins : (below : List Tree) (up top : Tree) (attr value : List ℕ) → Goes (st (up ∷ below) top attr value (Mode.Content Part.Fresh)) (codes "<![CDATA[") (st (up ∷ below) top attr value (Mode.Section 0 Part.Fresh))
 cdata-begins below up top attr value = refl
 
 -- pieces, from the beginning of an element
