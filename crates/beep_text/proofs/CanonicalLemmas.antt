@@ -1,17 +1,17 @@
-use Rattle.std.proofs.Common.{◌≡◌, ℕ, suc, ◌+◌, ◌<◌, ◌≤◌, Bool, true, false, ◌&&◌, ◌||◌, not, ◌==◌, cond, if◌then◌else◌, List, [], ◌∷◌, ◌++◌, length, fold, map, flat_map, take, get_or, IsTrue, chars, codes, encode_utf8, encode_utf8_all, IsUtf8, IsAscii, refl, sym, ap, subst, ◌∙◌, append_assoc, append-nil, arith, ne_eqb, zero}
+use Rattle.std.proofs.Common.{◌≡◌, ℕ, suc, ◌+◌, ◌<◌, Bool, true, false, ◌&&◌, ◌==◌, cond, List, [], ◌∷◌, ◌++◌, length, fold, flat_map, take, get_or, chars, encode_utf8_all, IsUtf8, refl, sym, ap, ◌∙◌, append_assoc, append-nil, arith, ne_eqb, zero}
 use Rattle.std.specs.List.{list_all}
 use Rattle.std.proofs.lemmas.Str.{encodes-chars, encode_ascii}
 use Rattle.std.proofs.lemmas.List.Folds.{flat_map-map}
-use Rattle.std.proofs.lemmas.List.Sums.{fold_push, fold_more}
+use Rattle.std.proofs.lemmas.List.Sums.{fold_more}
 use Rattle.std.proofs.lemmas.Bool.Decides.{nat_tests}
 use Rattle.beep_text.specs.declared.attr.Attr.{Attr}
 use Rattle.beep_text.specs.declared.element.Item.{Item}
-use Rattle.beep_text.specs.Characters.{is_name, is_begun_name, is_name_start, is_name_char, is_digit, is_allowed}
-use Rattle.beep_text.specs.Tree.{Items, Tree, nothing, with_chars, with_child}
+use Rattle.beep_text.specs.Characters.{is_name, is_begun_name, is_name_start, is_name_char, is_allowed}
+use Rattle.beep_text.specs.Tree.{Items, nothing}
 use Rattle.beep_text.specs.Listed.{with_item, items_listed, tree_of}
 use Rattle.beep_text.specs.Lawful.{are_attrs}
 use Rattle.beep_text.specs.Elements.{Pieces, no_pieces, character, alone, around, pieces_text, written_text, attr_text, tag_text}
-use Rattle.beep_text.specs.Canonical.{written_as, attr_as, tag_as, chars_as, child_as, pieces_as, element_text, items_text, item_text, is_nothing}
+use Rattle.beep_text.specs.Canonical.{written_as, attr_as, tag_as, chars_as, pieces_as, element_text, items_text, item_text, is_nothing}
 use Rattle.beep_text.proofs.ElementLemmas.{left_of, right_of, both}
 
 -- ---- names are ASCII

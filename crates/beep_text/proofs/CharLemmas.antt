@@ -1,5 +1,5 @@
 -- What of a character was read, as octets.
-use Rattle.std.proofs.Common.{◌≡◌, ℕ, suc, ◌+◌, ◌-◌, ◌*◌, ◌/◌, ◌%◌, ◌<◌, ◌≤◌, ◌⊎◌, Bool, true, false, ◌&&◌, ◌||◌, not, ◌==◌, nat_lt, nat_le, cond, if◌then◌else◌, List, [], ◌∷◌, ◌++◌, length, codes, inl, inr, Option, Some, None, refl, sym, ap, ap₂, subst, ◌∙◌, append_assoc, arith, length-append, ⊎_elim, ne_eqb, eqb-true, ltb-true, ltb-false, leb-true, leb-false, le-ltb, lt-ltb}
+use Rattle.std.proofs.Common.{◌≡◌, ℕ, ◌+◌, ◌-◌, ◌*◌, ◌/◌, ◌%◌, ◌<◌, ◌≤◌, ◌⊎◌, Bool, true, false, ◌&&◌, not, ◌==◌, nat_lt, nat_le, if◌then◌else◌, List, [], ◌∷◌, ◌++◌, length, codes, inl, inr, Option, Some, None, refl, sym, ap, ap₂, subst, ◌∙◌, append_assoc, arith, length-append, ⊎_elim, ne_eqb, eqb-true, ltb-true, ltb-false, leb-true, leb-false, le-ltb, lt-ltb}
 use Rattle.std.specs.List.{list_all}
 use Rattle.std.proofs.lemmas.Str.{encode_ascii}
 use Rattle.std.proofs.lemmas.List.Folds.{list_all-append}
@@ -9,9 +9,9 @@ use lib.Utf8.{encode}
 use Rattle.beep_text.specs.declared.mode.Letters.{Letters}
 use Rattle.beep_text.specs.declared.mode.Part.{Part}
 use Rattle.beep_text.specs.declared.mode.Taken.{Taken}
-use Rattle.beep_text.specs.Characters.{is_allowed, is_digit}
-use Rattle.beep_text.specs.Elements.{Written, plain, named, decimal, hexadecimal, written_text, written_char, is_reference, is_written, is_hex_digit, digit_of, number_of}
-use Rattle.beep_text.specs.Machine.{letter_after, letters_taken, is_no_letter, allowed_taken, is_tail, grown, first_taken, base_of, is_digit_in, digit_taken, named_taken, taken_after, char_taken, is_fresh}
+use Rattle.beep_text.specs.Characters.{is_allowed}
+use Rattle.beep_text.specs.Elements.{Written, plain, named, decimal, hexadecimal, written_text, written_char, is_reference, is_written, digit_of, number_of}
+use Rattle.beep_text.specs.Machine.{letter_after, letters_taken, is_no_letter, allowed_taken, is_tail, grown, first_taken, base_of, is_digit_in, named_taken, taken_after, char_taken, is_fresh}
 use Rattle.beep_text.proofs.ElementLemmas.{left_of, right_of, both, is_false}
 use Rattle.beep_text.proofs.WrittenLemmas.{by_test}
 
@@ -134,7 +134,9 @@ by_allowed P c yes_allowed other = by_test P (is_allowed c) yes_allowed (λ _. o
 one-first : (b : ℕ) → 194 ≤ b → b < 224 → IsOne (b - 192) (b ∷ [])
 one-first b low high = record {
   some = omega arith;
-  low = omega arith; high = omega arith; scalar = inl (omega arith);
+  low = omega arith;
+  high = omega arith;
+  scalar = inl (omega arith);
   text = λ r under. encode_two ((b - 192) * 64 + r) (omega arith) (omega arith) ∙ ap₂ (λ x y. x ∷ y ∷ []) (omega arith) (omega arith);
 }
 
@@ -173,11 +175,13 @@ one-more v b o is low high allowed = record {
 two-more : (v b : ℕ) (o : List ℕ) → IsTwo v o → 128 ≤ b → b < 192 → 32 ≤ grown v b → grown v b < 17408 → (grown v b < 864) ⊎ (896 ≤ grown v b) → IsOne (grown v b) (o ++ b ∷ [])
 two-more v b o is low high over under scalar = record {
   some = omega (arith, length-append o (b ∷ []));
-  low = omega arith; high = under; scalar = scalar;
+  low = omega arith;
+  high = under;
+  scalar = scalar;
   text = λ r small.
-    let same : (v * 64 + (b - 128)) * 64 + r ≡ v * 4096 + ((b - 128) * 64 + r) = omega arith in
-    ap encode same ∙ is.text ((b - 128) * 64 + r) (omega arith) (omega arith)
-        ∙ ap₂ (λ x y. o ++ x ∷ y ∷ []) (omega arith) (omega arith) ∙ sym (append_assoc o (b ∷ []) ((128 + r) ∷ []));
+      let same : (v * 64 + (b - 128)) * 64 + r ≡ v * 4096 + ((b - 128) * 64 + r) = omega arith in
+      ap encode same ∙ is.text ((b - 128) * 64 + r) (omega arith) (omega arith)
+      ∙ ap₂ (λ x y. o ++ x ∷ y ∷ []) (omega arith) (omega arith) ∙ sym (append_assoc o (b ∷ []) ((128 + r) ∷ []));
 }
 
 three-more : (v b : ℕ) (o : List ℕ) → IsThree v o → 128 ≤ b → b < 192 → 16 ≤ grown v b → grown v b < 272 → IsTwo (grown v b) (o ++ b ∷ [])
@@ -185,9 +189,9 @@ three-more v b o is low high over under = record {
   some = omega (arith, length-append o (b ∷ []));
   high = under;
   text = λ r small large.
-    let same : (v * 64 + (b - 128)) * 4096 + r ≡ v * 262144 + ((b - 128) * 4096 + r) = omega arith in
-    ap encode same ∙ is.text ((b - 128) * 4096 + r) (omega arith) (omega arith)
-        ∙ ap₂ (λ x ys. o ++ x ∷ ys) (omega arith) (ap₂ (λ x y. x ∷ y ∷ []) (omega arith) (omega arith)) ∙ sym (append_assoc o (b ∷ []) ((128 + r / 64) ∷ (128 + r % 64) ∷ []));
+      let same : (v * 64 + (b - 128)) * 4096 + r ≡ v * 262144 + ((b - 128) * 4096 + r) = omega arith in
+      ap encode same ∙ is.text ((b - 128) * 4096 + r) (omega arith) (omega arith)
+      ∙ ap₂ (λ x ys. o ++ x ∷ ys) (omega arith) (ap₂ (λ x y. x ∷ y ∷ []) (omega arith) (omega arith)) ∙ sym (append_assoc o (b ∷ []) ((128 + r / 64) ∷ (128 + r % 64) ∷ []));
 }
 
 -- a letter behind a reference
@@ -326,29 +330,29 @@ tail_high b is = ltb-true b 192 (right_of (nat_le 128 b) _ is)
 
 apart : (n low high : ℕ) → not (nat_le low n && nat_lt n high) ≡ true → (n < low) ⊎ (high ≤ n)
 apart n low high is = elim (nat_le low n) as (λ x. nat_le low n ≡ x → (n < low) ⊎ (high ≤ n)) [
-      true ↦ λ over. inr (ltb-false n high (rest (nat_le low n) (nat_lt n high) over (is_false _ is)))
-    | false ↦ λ under. inl (leb-false low n under)
-  ] refl
+  | true ↦ λ over. inr (ltb-false n high (rest (nat_le low n) (nat_lt n high) over (is_false _ is)))
+  | false ↦ λ under. inl (leb-false low n under)
+] refl
   where
-  rest : (x y : Bool) → x ≡ true → (x && y) ≡ false → y ≡ false
-  rest true y _ is = is
-  rest false y is _ = absurd (cc is)
+    rest : (x y : Bool) → x ≡ true → (x && y) ≡ false → y ≡ false
+    rest true y _ is = is
+    rest false y is _ = absurd (cc is)
 
 two-text : (v b : ℕ) (o : List ℕ) → IsTwo v o → PlainTaken (taken_after (Part.Two v) b) (o ++ b ∷ [])
 two-text v b o is =
     by_test (λ t. PlainTaken t (o ++ b ∷ [])) (is_tail b && nat_le 32 (grown v b) && nat_lt (grown v b) 17408 && not (nat_le 864 (grown v b) && nat_lt (grown v b) 896))
     (λ four. let three = left_of _ (not (nat_le 864 (grown v b) && nat_lt (grown v b) 896)) four in
-      let two = left_of _ (nat_lt (grown v b) 17408) three in
-      let one = left_of (is_tail b) _ two in
-      (two-more v b o is (tail_low b one) (tail_high b one) (leb-true _ _ (right_of (is_tail b) _ two)) (ltb-true _ _ (right_of (is_tail b && nat_le 32 (grown v b)) _ three)) (apart (grown v b) 864 896 (right_of (is_tail b && nat_le 32 (grown v b) && nat_lt (grown v b) 17408) _ four)), refl, refl))
+    let two = left_of _ (nat_lt (grown v b) 17408) three in
+    let one = left_of (is_tail b) _ two in
+    (two-more v b o is (tail_low b one) (tail_high b one) (leb-true _ _ (right_of (is_tail b) _ two)) (ltb-true _ _ (right_of (is_tail b && nat_le 32 (grown v b)) _ three)) (apart (grown v b) 864 896 (right_of (is_tail b && nat_le 32 (grown v b) && nat_lt (grown v b) 17408) _ four)), refl, refl))
     (λ _. tt)
 
 three-text : (v b : ℕ) (o : List ℕ) → IsThree v o → PlainTaken (taken_after (Part.Three v) b) (o ++ b ∷ [])
 three-text v b o is =
     by_test (λ t. PlainTaken t (o ++ b ∷ [])) (is_tail b && nat_le 16 (grown v b) && nat_lt (grown v b) 272)
     (λ three. let two = left_of _ (nat_lt (grown v b) 272) three in
-      let one = left_of (is_tail b) _ two in
-      (three-more v b o is (tail_low b one) (tail_high b one) (leb-true _ _ (right_of (is_tail b) _ two)) (ltb-true _ _ (right_of (is_tail b && nat_le 16 (grown v b)) _ three)), refl, refl))
+    let one = left_of (is_tail b) _ two in
+    (three-more v b o is (tail_low b one) (tail_high b one) (leb-true _ _ (right_of (is_tail b) _ two)) (ltb-true _ _ (right_of (is_tail b && nat_le 16 (grown v b)) _ three)), refl, refl))
     (λ _. tt)
 
 -- the same of a character that is no reference
@@ -396,11 +400,11 @@ pub plain-octet : (part : Part) (b c : ℕ) (o : List ℕ) → PartText part o �
 plain-octet part b c o text plain_is x low differs =
     ⊎_elim (λ single. only (is_fresh part) refl single) (λ high. ne_eqb c x (λ same. absurd (omega arith))) plain_is.single
   where
-  only : (f : Bool) → is_fresh part ≡ f → o ++ b ∷ [] ≡ c ∷ [] → (c == x) ≡ false
-  only true fresh single =
-      let same = same_from_push o [] b c single in
-      ap (λ y. y == x) (sym same.1) ∙ differs fresh
-  only false fresh single = absurd (omega (arith, part-some part o text fresh, ap length single, length-append o (b ∷ [])))
+    only : (f : Bool) → is_fresh part ≡ f → o ++ b ∷ [] ≡ c ∷ [] → (c == x) ≡ false
+    only true fresh single =
+        let same = same_from_push o [] b c single in
+        ap (λ y. y == x) (sym same.1) ∙ differs fresh
+    only false fresh single = absurd (omega (arith, part-some part o text fresh, ap length single, length-append o (b ∷ [])))
 
 -- a character that is whole, as it is written
 abbrev pub WrittenTaken : ℕ → Taken → List ℕ → Type 0
@@ -427,6 +431,6 @@ char-text stop part b o text low lt end =
     (λ amp. ap₂ (λ x y. x ++ y ∷ []) (fresh-text part o text (left_of _ _ amp)) (eqb-true b 38 (right_of (is_fresh part) _ amp)))
     (λ other. written-taken stop part b o (taken_after part b) text low (λ fresh. rest (is_fresh part) (b == 38) fresh other) lt end (taken-text part b o text))
   where
-  rest : (x y : Bool) → x ≡ true → (x && y) ≡ false → y ≡ false
-  rest true y _ is = is
-  rest false y is _ = absurd (cc is)
+    rest : (x y : Bool) → x ≡ true → (x && y) ≡ false → y ≡ false
+    rest true y _ is = is
+    rest false y is _ = absurd (cc is)

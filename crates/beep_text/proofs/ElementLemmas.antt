@@ -1,18 +1,17 @@
-use Rattle.std.proofs.Common.{◌≡◌, ℕ, suc, ◌+◌, ◌<◌, ◌≤◌, max, Bool, true, false, ◌&&◌, ◌||◌, not, ◌==◌, cond, List, [], ◌∷◌, ◌++◌, length, fold, Result, Ok, Err, OnOk, OnErr, IsTrue, Decides, refl, sym, ap, subst, ◌∙◌, append_assoc, append-nil, arith, lt-ltb}
-use Rattle.std.specs.List.{list_all, list_any, slice_get}
+use Rattle.std.proofs.Common.{◌≡◌, ℕ, Bool, true, false, ◌&&◌, ◌||◌, not, cond, List, [], ◌∷◌, ◌++◌, length, fold, Result, Ok, Err, OnOk, OnErr, IsTrue, Decides, refl, sym, ap, subst, ◌∙◌, append_assoc, append-nil, arith, lt-ltb}
+use Rattle.std.specs.List.{list_all, slice_get}
 use Rattle.std.specs.Slice.{IsItemAt}
 use Rattle.std.proofs.Common.{Option, Some, None, Bor, option_copied}
 use Rattle.std.proofs.lemmas.Option.{slice_get_past, slice_get_read}
 use Rattle.std.specs.Prelude.{bytes_eq}
-use Rattle.std.proofs.lemmas.List.Sums.{fold_push}
 use Rattle.std.proofs.lemmas.Slice.Eq.{bytes_eq-Decides}
 use Rattle.std.proofs.lemmas.Bool.Decides.{same_from_decides}
 use Rattle.beep_text.specs.declared.attr.Attr.{Attr}
 use Rattle.beep_text.specs.declared.element.Item.{Item}
 use Rattle.beep_text.specs.Characters.{is_name, is_allowed}
 use Rattle.beep_text.specs.Tree.{Items, Tree, nothing, with_chars, with_child}
-use Rattle.beep_text.specs.Listed.{with_item, items_listed, listed, tree_of}
-use Rattle.beep_text.specs.Lawful.{are_attrs, are_items, has_name, ends_in_chars, depth_of, IsElement, IsNext, IsItem}
+use Rattle.beep_text.specs.Listed.{with_item, items_listed, listed}
+use Rattle.beep_text.specs.Lawful.{are_attrs, has_name, IsElement, IsNext, IsItem}
 
 -- what holds of both outcomes holds of the one
 pub either_way : {T E A : Type 0} (P : A → Type 0) (r : Result T E) (new grown old : A) → OnOk r (new ≡ grown) → OnErr r (new ≡ old) → P grown → P old → P new

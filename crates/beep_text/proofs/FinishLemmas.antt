@@ -1,6 +1,5 @@
 -- Each state that a text leads to can be finished: some octets make the text a body.
-use Rattle.std.proofs.Common.{◌≡◌, ℕ, zero, suc, ◌+◌, ◌-◌, ◌*◌, ◌<◌, ◌≤◌, ◌⊎◌, Bool, true, false, ◌&&◌, ◌||◌, not, ◌==◌, nat_lt, nat_le, cond, if◌then◌else◌, List, [], ◌∷◌, ◌++◌, length, map, flat_map, take, drop, replicate, fold, codes, inl, inr, ⊎_elim, true≢false, Option, Some, None, refl, sym, ap, ap₂, subst, ◌∙◌, append_assoc, append-nil, arith, length-append, eq-eqb, eqb-true, le-leb, leb-true, leb-false, lt-ltb, ltb-true, ltb-false, length-take-le}
-use Rattle.std.specs.List.{list_all}
+use Rattle.std.proofs.Common.{◌≡◌, ℕ, zero, suc, ◌+◌, ◌*◌, ◌<◌, ◌≤◌, ◌⊎◌, Bool, true, false, ◌||◌, ◌==◌, nat_lt, nat_le, List, [], ◌∷◌, ◌++◌, length, map, flat_map, take, drop, replicate, fold, codes, inl, inr, ⊎_elim, true≢false, Option, Some, None, refl, sym, ap, subst, ◌∙◌, arith, length-append, eqb-true, leb-true, lt-ltb, ltb-true, ltb-false, length-take-le}
 use Rattle.std.proofs.lemmas.List.{take-append-drop}
 use Rattle.std.proofs.lemmas.Bool.{eqb-false}
 use Rattle.std.proofs.lemmas.Bool.Decides.{nat_tests}
@@ -9,18 +8,17 @@ use Rattle.beep_text.specs.declared.mode.Letters.{Letters}
 use Rattle.beep_text.specs.declared.mode.Part.{Part}
 use Rattle.beep_text.specs.declared.mode.Taken.{Taken}
 use Rattle.beep_text.specs.declared.mode.Mode.{Mode}
-use Rattle.beep_text.specs.Characters.{is_space, is_allowed, is_name, is_name_char}
-use Rattle.beep_text.specs.Lawful.{has_name}
-use Rattle.beep_text.specs.Tree.{Items, Tree, nothing, with_chars, with_child}
-use Rattle.beep_text.specs.Elements.{written_text, AttrText, attr_text, attr_said, IsAlive, IsBody, number_of, digit_of, put}
-use Rattle.beep_text.specs.Machine.{State, start, step, run, taken_after, char_taken, is_fresh, is_nil, has_room, ended_in, is_tail, grown, base_of, is_digit_in}
-use Rattle.beep_text.proofs.ElementLemmas.{left_of, right_of, both, is_false}
+use Rattle.beep_text.specs.Characters.{is_allowed}
+use Rattle.beep_text.specs.Tree.{Items, Tree, nothing, with_child}
+use Rattle.beep_text.specs.Elements.{written_text, AttrText, attr_text, attr_said, IsAlive, IsBody, number_of, put}
+use Rattle.beep_text.specs.Machine.{State, start, run, taken_after, char_taken, is_fresh, has_room, ended_in, grown, base_of, is_digit_in}
+use Rattle.beep_text.proofs.ElementLemmas.{right_of, both}
 use Rattle.beep_text.proofs.CharLemmas.{PartText, IsOne, IsTwo, IsThree, IsNumber, is_ref}
 use Rattle.beep_text.proofs.ReadingLemmas.{Reading, last, more, reads_one, reads_two, reads_three, reads_digits, first_high}
-use Rattle.beep_text.proofs.ReachedLemmas.{Inside, Opening, Naming, IsAttrName, IsEquals, IsQuote, IsValue, IsOpen, InSection, Then, ReachedIn, Reached}
+use Rattle.beep_text.proofs.ReachedLemmas.{Opening, Naming, IsAttrName, IsOpen, InSection, ReachedIn, Reached}
 use Rattle.beep_text.proofs.RoomLemmas.{names_len, longer}
-use Rattle.beep_text.proofs.RunLemmas.{st, tree, Goes, goes_on, value-char, content-char, section-char, attr-more, quote_cases, IsTagMode, tag-closes, after_child, closing-run, end-gap, end-run, run-append, unquote-run, section-run, cdata-begins, body-run}
-use Rattle.beep_text.proofs.StepLemmas.{Stepped, run-reached, read-reached, run-none}
+use Rattle.beep_text.proofs.RunLemmas.{st, tree, Goes, value-char, content-char, section-char, attr-more, IsTagMode, tag-closes, closing-run, end-gap, end-run, run-append, unquote-run, body-run}
+use Rattle.beep_text.proofs.StepLemmas.{Stepped, read-reached, run-none}
 
 -- ---- a character
 
@@ -32,7 +30,6 @@ one_allowed v low high scalar = ⊎_elim (λ a. grind (arith, nat_tests)) (λ b.
 
 module _ (f : Part → ℕ → Taken) (first : (b : ℕ) → 128 ≤ b → f Part.Fresh b ≡ taken_after Part.Fresh b)
     (one : (v b : ℕ) → f (Part.One v) b ≡ taken_after (Part.One v) b) (two : (v b : ℕ) → f (Part.Two v) b ≡ taken_after (Part.Two v) b) (three : (v b : ℕ) → f (Part.Three v) b ≡ taken_after (Part.Three v) b) where
-
   pub finish_one : (v : ℕ) (o : List ℕ) → IsOne v o → Readable f (Part.One v)
   finish_one v o is = (128 ∷ [], grown v 128, reads_one f first one two three v 128 (grown v 128) refl refl (one_allowed v is.low is.high is.scalar))
 
@@ -40,21 +37,26 @@ module _ (f : Part → ℕ → Taken) (first : (b : ℕ) → 128 ≤ b → f Par
   finish_two v o is =
       let high = is.high in
       elim (v == 0) as (λ b. (v == 0) ≡ b → Readable f (Part.Two v)) [
-        true ↦ λ e. (let zero_is = eqb-true v 0 e in (160 ∷ 128 ∷ [], 2048, reads_two f first one two three v 160 128 32 2048 refl refl (omega (arith, zero_is)) (omega arith) (omega arith) (inl (omega arith)) refl refl))
-      | false ↦ λ e. (let some = eqb-false v 0 e in
-          (128 ∷ 128 ∷ [], grown (grown v 128) 128, reads_two f first one two three v 128 128 (grown v 128) (grown (grown v 128) 128) refl refl refl (positive v some) (omega arith) (apart v) refl
-            (one_allowed (grown v 128) (at_least v some) (omega arith) (apart v))))
+        | true ↦ λ e. (let zero_is = eqb-true v 0 e in (160 ∷ 128 ∷ [], 2048, reads_two f first one two three v 160 128 32 2048 refl refl (omega (arith, zero_is)) (omega arith) (omega arith) (inl (omega arith)) refl refl))
+        | false ↦ λ e. (let some = eqb-false v 0 e in (
+          128 ∷ 128 ∷ [],
+          grown (grown v 128) 128,
+          reads_two f first one two three v 128 128 (grown v 128) (grown (grown v 128) 128) refl refl refl (positive v some) (omega arith) (apart v) refl
+              (one_allowed (grown v 128) (at_least v some) (omega arith) (apart v)),
+        ))
       ] refl
     where
-    positive : (v : ℕ) → (v ≡ 0 → ⊥) → 32 ≤ grown v 128
-    positive zero some = absurd (some refl)
-    positive (suc v) some = omega arith
-    at_least : (v : ℕ) → (v ≡ 0 → ⊥) → 2 ≤ grown v 128
-    at_least zero some = absurd (some refl)
-    at_least (suc v) some = omega arith
-    apart : (v : ℕ) → (grown v 128 < 864) ⊎ (896 ≤ grown v 128)
-    apart v = elim (nat_lt v 14) as (λ b. nat_lt v 14 ≡ b → (grown v 128 < 864) ⊎ (896 ≤ grown v 128)) [
-          true ↦ λ e. inl (let low = ltb-true v 14 e in omega arith)
+      positive : (v : ℕ) → (v ≡ 0 → ⊥) → 32 ≤ grown v 128
+      positive zero some = absurd (some refl)
+      positive (suc v) some = omega arith
+
+      at_least : (v : ℕ) → (v ≡ 0 → ⊥) → 2 ≤ grown v 128
+      at_least zero some = absurd (some refl)
+      at_least (suc v) some = omega arith
+
+      apart : (v : ℕ) → (grown v 128 < 864) ⊎ (896 ≤ grown v 128)
+      apart v = elim (nat_lt v 14) as (λ b. nat_lt v 14 ≡ b → (grown v 128 < 864) ⊎ (896 ≤ grown v 128)) [
+        | true ↦ λ e. inl (let low = ltb-true v 14 e in omega arith)
         | false ↦ λ e. inr (let low = ltb-false v 14 e in omega arith)
       ] refl
 
@@ -62,24 +64,30 @@ module _ (f : Part → ℕ → Taken) (first : (b : ℕ) → 128 ≤ b → f Par
   finish_three v o is =
       let high = is.high in
       elim (v == 0) as (λ b. (v == 0) ≡ b → Readable f (Part.Three v)) [
-        true ↦ λ e. (let zero_is = eqb-true v 0 e in (144 ∷ 128 ∷ 128 ∷ [], 65536, reads_three f first one two three v 144 128 128 16 1024 65536 refl refl refl (omega (arith, zero_is)) (omega arith) (omega arith) refl (omega arith) (omega arith) (inr (omega arith)) refl refl))
-      | false ↦ λ e. (let some = eqb-false v 0 e in
-          (128 ∷ 128 ∷ 128 ∷ [], grown (grown (grown v 128) 128) 128, reads_three f first one two three v 128 128 128 (grown v 128) (grown (grown v 128) 128) (grown (grown (grown v 128) 128) 128) refl refl refl refl (large v some) (omega arith) refl
-            (larger v some) (omega arith) (inr (largest v some)) refl (one_allowed (grown (grown v 128) 128) (at_least v some) (omega arith) (inr (largest v some)))))
+        | true ↦ λ e. (let zero_is = eqb-true v 0 e in (144 ∷ 128 ∷ 128 ∷ [], 65536, reads_three f first one two three v 144 128 128 16 1024 65536 refl refl refl (omega (arith, zero_is)) (omega arith) (omega arith) refl (omega arith) (omega arith) (inr (omega arith)) refl refl))
+        | false ↦ λ e. (let some = eqb-false v 0 e in (
+          128 ∷ 128 ∷ 128 ∷ [],
+          grown (grown (grown v 128) 128) 128,
+          reads_three f first one two three v 128 128 128 (grown v 128) (grown (grown v 128) 128) (grown (grown (grown v 128) 128) 128) refl refl refl refl (large v some) (omega arith) refl
+              (larger v some) (omega arith) (inr (largest v some)) refl (one_allowed (grown (grown v 128) 128) (at_least v some) (omega arith) (inr (largest v some))),
+        ))
       ] refl
     where
-    large : (v : ℕ) → (v ≡ 0 → ⊥) → 16 ≤ grown v 128
-    large zero some = absurd (some refl)
-    large (suc v) some = omega arith
-    larger : (v : ℕ) → (v ≡ 0 → ⊥) → 32 ≤ grown (grown v 128) 128
-    larger zero some = absurd (some refl)
-    larger (suc v) some = omega arith
-    largest : (v : ℕ) → (v ≡ 0 → ⊥) → 896 ≤ grown (grown v 128) 128
-    largest zero some = absurd (some refl)
-    largest (suc v) some = omega arith
-    at_least : (v : ℕ) → (v ≡ 0 → ⊥) → 2 ≤ grown (grown v 128) 128
-    at_least zero some = absurd (some refl)
-    at_least (suc v) some = omega arith
+      large : (v : ℕ) → (v ≡ 0 → ⊥) → 16 ≤ grown v 128
+      large zero some = absurd (some refl)
+      large (suc v) some = omega arith
+
+      larger : (v : ℕ) → (v ≡ 0 → ⊥) → 32 ≤ grown (grown v 128) 128
+      larger zero some = absurd (some refl)
+      larger (suc v) some = omega arith
+
+      largest : (v : ℕ) → (v ≡ 0 → ⊥) → 896 ≤ grown (grown v 128) 128
+      largest zero some = absurd (some refl)
+      largest (suc v) some = omega arith
+
+      at_least : (v : ℕ) → (v ≡ 0 → ⊥) → 2 ≤ grown (grown v 128) 128
+      at_least zero some = absurd (some refl)
+      at_least (suc v) some = omega arith
 
 finish_letters : (letters : Letters) → Readable char_taken (Part.Name letters)
 finish_letters Letters.Empty = (codes "lt;", 60, more 108 60 _ (Part.Name Letters.L) refl refl (more 116 60 _ (Part.Name Letters.Lt) refl refl (last 59 60 refl)))
@@ -137,28 +145,31 @@ or_true false = refl
 some_digits : (hex any : Bool) (v : ℕ) (o : List ℕ) → IsNumber hex any v o → 32 ≤ v → (any || false) ≡ true
 some_digits hex any v o is low = by_digits is.digits is.some is.value
   where
-  by_digits : (digits : List ℕ) → any ≡ nat_lt 0 (length digits) → v ≡ number_of (base_of hex) digits → (any || false) ≡ true
-  by_digits [] some value = absurd (omega (arith, value))
-  by_digits (d ∷ digits) some value = ap (λ x. x || false) (some ∙ lt-ltb 0 (length (d ∷ digits)) (omega arith))
+    by_digits : (digits : List ℕ) → any ≡ nat_lt 0 (length digits) → v ≡ number_of (base_of hex) digits → (any || false) ≡ true
+    by_digits [] some value = absurd (omega (arith, value))
+    by_digits (d ∷ digits) some value = ap (λ x. x || false) (some ∙ lt-ltb 0 (length (d ∷ digits)) (omega arith))
 
 finish_number : (hex any : Bool) (v : ℕ) (o : List ℕ) → IsNumber hex any v o → Readable char_taken (Part.Number hex any v)
 finish_number hex any v o is =
     elim (v == 0) as (λ b. (v == 0) ≡ b → Readable char_taken (Part.Number hex any v)) [
-      true ↦ λ e. (57 ∷ 59 ∷ [], base_of hex * v + 9, reads_digits hex any v (57 ∷ []) (base_of hex * v + 9) (both _ _ (nine_digit hex) refl) (or_true any) refl (ap (λ x. is_allowed (base_of hex * x + 9)) (eqb-true v 0 e) ∙ nine hex))
-    | false ↦ λ e. (let some = positive v (eqb-false v 0 e) in elim (nat_lt v 32) as (λ b. nat_lt v 32 ≡ b → Readable char_taken (Part.Number hex any v)) [
-        true ↦ λ low. (48 ∷ 48 ∷ 59 ∷ [], base_of hex * (base_of hex * v + 0) + 0,
-          reads_digits hex any v (48 ∷ 48 ∷ []) _ (both _ _ (zero_digit hex) (both _ _ (zero_digit hex) refl)) (or_true any) refl (times_low hex v some (ltb-true v 32 low)))
-      | false ↦ λ high. (let large = ltb-false v 32 high in elim (is_allowed v) as (λ b. is_allowed v ≡ b → Readable char_taken (Part.Number hex any v)) [
-          true ↦ λ allowed. (59 ∷ [], v, reads_digits hex any v [] v refl (some_digits hex any v o is large) refl allowed)
-        | false ↦ λ other. (let range = not_allowed v large is.small other in
-            (48 ∷ 59 ∷ [], base_of hex * v + 0, reads_digits hex any v (48 ∷ []) _ (both _ _ (zero_digit hex) refl) (or_true any) refl (times_high hex v range.0 range.1)))
+      | true ↦ λ e. (57 ∷ 59 ∷ [], base_of hex * v + 9, reads_digits hex any v (57 ∷ []) (base_of hex * v + 9) (both _ _ (nine_digit hex) refl) (or_true any) refl (ap (λ x. is_allowed (base_of hex * x + 9)) (eqb-true v 0 e) ∙ nine hex))
+      | false ↦ λ e. (let some = positive v (eqb-false v 0 e) in elim (nat_lt v 32) as (λ b. nat_lt v 32 ≡ b → Readable char_taken (Part.Number hex any v)) [
+        | true ↦ λ low. (
+          48 ∷ 48 ∷ 59 ∷ [],
+          base_of hex * (base_of hex * v + 0) + 0,
+          reads_digits hex any v (48 ∷ 48 ∷ []) _ (both _ _ (zero_digit hex) (both _ _ (zero_digit hex) refl)) (or_true any) refl (times_low hex v some (ltb-true v 32 low)),
+        )
+        | false ↦ λ high. (let large = ltb-false v 32 high in elim (is_allowed v) as (λ b. is_allowed v ≡ b → Readable char_taken (Part.Number hex any v)) [
+          | true ↦ λ allowed. (59 ∷ [], v, reads_digits hex any v [] v refl (some_digits hex any v o is large) refl allowed)
+          | false ↦ λ other. (let range = not_allowed v large is.small other in
+              (48 ∷ 59 ∷ [], base_of hex * v + 0, reads_digits hex any v (48 ∷ []) _ (both _ _ (zero_digit hex) refl) (or_true any) refl (times_high hex v range.0 range.1)))
         ] refl)
       ] refl)
     ] refl
   where
-  positive : (v : ℕ) → (v ≡ 0 → ⊥) → 1 ≤ v
-  positive zero some = absurd (some refl)
-  positive (suc v) some = omega arith
+    positive : (v : ℕ) → (v ≡ 0 → ⊥) → 1 ≤ v
+    positive zero some = absurd (some refl)
+    positive (suc v) some = omega arith
 
 -- a part of a character can be finished, by octets that stand in a value or in what an element holds
 pub finish_part : (part : Part) (o : List ℕ) → PartText part o → is_fresh part ≡ false → Readable char_taken part
@@ -236,8 +247,16 @@ finish_equals below top attr value gap t is = then_finishes _ (Some (st below to
 names_text : (attrs : List AttrText) → names_len (map attr_said attrs) ≤ length (flat_map attr_text attrs)
 names_text [] = omega arith
 names_text (a ∷ attrs) =
-    omega (arith, names_text attrs, length-append (attr_text a) (flat_map attr_text attrs), length-append (a.gap ++ a.name ++ a.before ++ 61 ∷ a.after ++ a.quote ∷ flat_map written_text a.value) (a.quote ∷ []),
-      length-append (a.gap ++ a.name ++ a.before ++ 61 ∷ a.after) (a.quote ∷ flat_map written_text a.value), length-append (a.gap ++ a.name ++ a.before) (61 ∷ a.after), length-append (a.gap ++ a.name) a.before, length-append a.gap a.name)
+    omega (
+      arith,
+      names_text attrs,
+      length-append (attr_text a) (flat_map attr_text attrs),
+      length-append (a.gap ++ a.name ++ a.before ++ 61 ∷ a.after ++ a.quote ∷ flat_map written_text a.value) (a.quote ∷ []),
+      length-append (a.gap ++ a.name ++ a.before ++ 61 ∷ a.after) (a.quote ∷ flat_map written_text a.value),
+      length-append (a.gap ++ a.name ++ a.before) (61 ∷ a.after),
+      length-append (a.gap ++ a.name) a.before,
+      length-append a.gap a.name,
+    )
 
 names_opening : (below : List Tree) (top : Tree) (gap t : List ℕ) → Opening below top gap t → names_len top.attrs ≤ length t
 names_opening [] top gap t is = absurd is
@@ -292,23 +311,23 @@ finish_in_value : (q : ℕ) (part : Part) (below : List Tree) (top : Tree) (attr
 finish_in_value q part below top attr value o is gap t opening = by_fresh part _
     (λ fresh. subst (λ (p : Part). Finishes (Some (st below top attr value (Mode.Value q p)))) (sym (fresh_is part fresh)) (finish_value below top.name top.attrs top.items attr value gap t q opening))
     (λ other. let r = finish_part part o is other in
-      then_finishes (Some (st below top attr value (Mode.Value q part))) _ r.0 (value-char q below top attr value part r.0 r.1 r.2 (λ f. absurd (true≢false (sym f ∙ other))))
-      (finish_value below top.name top.attrs top.items attr (value ++ r.1 ∷ []) gap t q opening))
+    then_finishes (Some (st below top attr value (Mode.Value q part))) _ r.0 (value-char q below top attr value part r.0 r.1 r.2 (λ f. absurd (true≢false (sym f ∙ other))))
+    (finish_value below top.name top.attrs top.items attr (value ++ r.1 ∷ []) gap t q opening))
 
 finish_in_content : (part : Part) (below : List Tree) (top : Tree) (attr value o : List ℕ) → PartText part o → IsOpen below → Finishes (Some (st below top attr value (Mode.Content part)))
 finish_in_content part below top attr value o is opened = by_fresh part _
     (λ fresh. subst (λ (p : Part). Finishes (Some (st below top attr value (Mode.Content p)))) (sym (fresh_is part fresh)) (finish_content below top attr value opened))
     (λ other. let r = finish_part part o is other in
-      then_finishes (Some (st below top attr value (Mode.Content part))) _ r.0 (content-char below top.name top.attrs top.items attr value part r.0 r.1 r.2 (λ f. absurd (true≢false (sym f ∙ other))))
-      (finish_content below (tree top.name top.attrs (put top.items r.1)) attr value opened))
+    then_finishes (Some (st below top attr value (Mode.Content part))) _ r.0 (content-char below top.name top.attrs top.items attr value part r.0 r.1 r.2 (λ f. absurd (true≢false (sym f ∙ other))))
+    (finish_content below (tree top.name top.attrs (put top.items r.1)) attr value opened))
 
 finish_in_section : (k : ℕ) (part : Part) (below : List Tree) (top : Tree) (attr value o t : List ℕ) → PartText part o → is_ref part ≡ false → InSection below top k (is_fresh part) t → Finishes (Some (st below top attr value (Mode.Section k part)))
 finish_in_section k part below top attr value o t is plain_is held = by_fresh part _
     (λ fresh. subst (λ (p : Part). Finishes (Some (st below top attr value (Mode.Section k p)))) (sym (fresh_is part fresh)) (finish_section k below top attr value held.few held.opened))
     (λ other. let r = finish_plain part o is plain_is other in
-      then_finishes (Some (st below top attr value (Mode.Section k part))) _ r.0
-        (section-char k below top.name top.attrs top.items attr value part r.0 r.1 r.2 (λ f. absurd (true≢false (sym f ∙ other))) (λ f _. absurd (true≢false (sym f ∙ other))) (λ f. held.part f))
-      (finish_section 0 below (tree top.name top.attrs (put (fold put top.items (replicate k 93)) r.1)) attr value (omega arith) held.opened))
+    then_finishes (Some (st below top attr value (Mode.Section k part))) _ r.0
+    (section-char k below top.name top.attrs top.items attr value part r.0 r.1 r.2 (λ f. absurd (true≢false (sym f ∙ other))) (λ f _. absurd (true≢false (sym f ∙ other))) (λ f. held.part f))
+    (finish_section 0 below (tree top.name top.attrs (put (fold put top.items (replicate k 93)) r.1)) attr value (omega arith) held.opened))
 
 bang_goes : (n : ℕ) → n < 7 → (below : List Tree) (top : Tree) (attr value : List ℕ) → run (Some (st below top attr value (Mode.Bang n))) (drop n (codes "[CDATA[")) ≡ Some (st below top attr value (Mode.Section 0 Part.Fresh))
 bang_goes zero small below top attr value = refl
@@ -369,5 +388,5 @@ alive-run t none alive =
     let stuck : run (Some start) (t ++ alive.0) ≡ None = run-append (Some start) t alive.0 ∙ ap (λ o. run o alive.0) none ∙ run-none alive.0 in
     some≢none _ (sym goes.2 ∙ stuck)
   where
-  some≢none : (s : State) → Some s ≡ None → ⊥
-  some≢none s same = absurd (cc same)
+    some≢none : (s : State) → Some s ≡ None → ⊥
+    some≢none s same = absurd (cc same)

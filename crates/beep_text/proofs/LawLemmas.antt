@@ -1,21 +1,20 @@
 -- What follows for whole texts.
-use Rattle.std.proofs.Common.{◌≡◌, ℕ, suc, ◌+◌, ◌-◌, ◌<◌, ◌≤◌, max, Bool, true, false, ◌&&◌, not, cond, nat_lt, List, [], ◌∷◌, ◌++◌, length, map, take, drop, fold, Option, Some, None, IsTrue, refl, sym, ap, ap₂, subst, ◌∙◌, append_assoc, append-nil, arith, length-append, lt-ltb, ltb-true, ltb-false, ◌==◌}
+use Rattle.std.proofs.Common.{◌≡◌, ℕ, suc, ◌+◌, ◌<◌, ◌≤◌, true, false, ◌&&◌, not, nat_lt, List, [], ◌∷◌, ◌++◌, length, map, take, drop, fold, Option, Some, None, refl, sym, ap, subst, ◌∙◌, append_assoc, append-nil, arith, length-append, lt-ltb, ltb-true, ltb-false, ◌==◌}
 use Rattle.std.specs.List.{list_all}
 use Rattle.std.proofs.lemmas.List.Folds.{list_all-append}
 use Rattle.std.proofs.lemmas.List.{take-append-drop, take-take, take_all}
 use Rattle.beep_text.specs.declared.attr.Attr.{Attr}
-use Rattle.beep_text.specs.declared.mode.Mode.{Mode}
 use Rattle.beep_text.specs.declared.limits.TheConstants.{MAX_NESTED}
 use Rattle.beep_text.specs.Characters.{is_allowed, is_name}
 use Rattle.beep_text.specs.Tree.{Items, Tree, nothing, with_chars, with_child}
-use Rattle.beep_text.specs.Lawful.{are_attrs, are_items, has_name, ends_in_chars, depth_of, IsElement}
-use Rattle.beep_text.specs.Elements.{Written, plain, named, decimal, hexadecimal, written_char, is_written, AttrText, attr_said, IsAttrText, AreAttrTexts, Tag, IsTag, Pieces, no_pieces, character, section, alone, around, items_of, put, IsPieces, is_one, IsBody, IsAlive, Stops}
+use Rattle.beep_text.specs.Lawful.{are_attrs, are_items, ends_in_chars, depth_of, IsElement}
+use Rattle.beep_text.specs.Elements.{Written, plain, named, decimal, hexadecimal, written_char, is_written, AttrText, attr_said, AreAttrTexts, Pieces, no_pieces, character, section, alone, around, items_of, put, IsPieces, IsBody, IsAlive, Stops}
 use Rattle.beep_text.specs.Canonical.{element_text}
-use Rattle.beep_text.specs.Machine.{State, start, run}
-use Rattle.beep_text.proofs.ElementLemmas.{left_of, right_of, both, is_false, not-false, are_attrs-push}
+use Rattle.beep_text.specs.Machine.{State}
+use Rattle.beep_text.proofs.ElementLemmas.{left_of, right_of, both, are_attrs-push}
 use Rattle.beep_text.proofs.WrittenLemmas.{canonical-body}
 use Rattle.beep_text.proofs.ReadingLemmas.{named_cases}
-use Rattle.beep_text.proofs.RunLemmas.{st, tree, body_of, body-run, run-append}
+use Rattle.beep_text.proofs.RunLemmas.{tree, body-run}
 
 -- ---- one value
 
@@ -55,10 +54,10 @@ not_before body p q first second less =
 pub one_place : (body : List ℕ) (p q : ℕ) → Stops body p → Stops body q → p ≡ q
 one_place body p q first second =
     elim (nat_lt p q) as (λ x. nat_lt p q ≡ x → p ≡ q) [
-      true ↦ λ is. absurd (not_before body p q first second (ltb-true p q is))
-    | false ↦ λ is. elim (nat_lt q p) as (λ x. nat_lt q p ≡ x → p ≡ q) [
-        true ↦ λ is2. absurd (not_before body q p second first (ltb-true q p is2))
-      | false ↦ λ is2. (let a = ltb-false p q is in let b = ltb-false q p is2 in omega (arith, a, b))
+      | true ↦ λ is. absurd (not_before body p q first second (ltb-true p q is))
+      | false ↦ λ is. elim (nat_lt q p) as (λ x. nat_lt q p ≡ x → p ≡ q) [
+        | true ↦ λ is2. absurd (not_before body q p second first (ltb-true q p is2))
+        | false ↦ λ is2. (let a = ltb-false p q is in let b = ltb-false q p is2 in omega (arith, a, b))
       ] refl
     ] refl
 
@@ -67,8 +66,8 @@ no_place body e q is stops =
     let within = stops.within in
     let whole : IsAlive (take (length body) body) = subst IsAlive (sym (take_all (length body) body (omega arith))) ([], e, subst (λ (x : List ℕ). IsBody x e) (sym (append-nil body)) is) in
     elim (nat_lt q (length body)) as (λ x. nat_lt q (length body) ≡ x → ⊥) [
-      true ↦ λ less. (let small = ltb-true q (length body) less in stops.dead small (take_alive body (suc q) (length body) (omega (arith, small)) whole))
-    | false ↦ λ more. (let large = ltb-false q (length body) more in stops.short (omega (arith, large)) e is)
+      | true ↦ λ less. (let small = ltb-true q (length body) less in stops.dead small (take_alive body (suc q) (length body) (omega (arith, small)) whole))
+      | false ↦ λ more. (let large = ltb-false q (length body) more in stops.short (omega (arith, large)) e is)
     ] refl
 
 -- ---- canonical text
@@ -92,7 +91,7 @@ attrs_lawful : (attrs : List AttrText) (before : List Attr) → are_attrs before
 attrs_lawful [] before are is = ap are_attrs (append-nil before) ∙ are
 attrs_lawful (a ∷ attrs) before are is =
     ap are_attrs (sym (append_assoc before (attr_said a ∷ []) (map attr_said attrs)))
-        ∙ attrs_lawful attrs (before ++ attr_said a ∷ []) (are_attrs-push before (attr_said a) are is.0.name (value_allowed a.quote a.value is.0.value) is.1) is.2
+    ∙ attrs_lawful attrs (before ++ attr_said a ∷ []) (are_attrs-push before (attr_said a) are is.0.name (value_allowed a.quote a.value is.0.value) is.1) is.2
 
 put_lawful : (items : Items) (c : ℕ) → are_items items ≡ true → is_allowed c ≡ true → are_items (put items c) ≡ true
 put_lawful nothing c are allowed = both _ _ (both _ _ refl refl) (both _ _ allowed refl)

@@ -1,21 +1,14 @@
 -- Which octets lead to a state of the machine, and that each step keeps it.
-use Rattle.std.proofs.Common.{◌≡◌, ℕ, suc, ◌+◌, ◌-◌, ◌<◌, ◌≤◌, ◌⊎◌, Bool, true, false, ◌&&◌, ◌||◌, not, ◌==◌, nat_lt, nat_le, cond, if◌then◌else◌, List, [], ◌∷◌, ◌++◌, length, map, flat_map, take, fold, replicate, get_or, codes, encode_utf8_all, inl, inr, Option, Some, None, refl, sym, ap, ap₂, subst, ◌∙◌, append_assoc, append-nil, arith, eqb-true, ltb-true, ltb-false, leb-true, le-ltb, lt-ltb}
+use Rattle.std.proofs.Common.{◌≡◌, ℕ, suc, ◌<◌, ◌≤◌, Bool, true, false, ◌&&◌, ◌||◌, ◌==◌, nat_lt, List, [], ◌∷◌, ◌++◌, length, map, flat_map, take, fold, replicate, codes, encode_utf8_all}
 use Rattle.std.specs.List.{list_all}
-use Rattle.std.proofs.lemmas.List.Folds.{list_all-append}
-use Rattle.std.proofs.lemmas.List.{take_more, take_all, map-append}
-use Rattle.std.proofs.lemmas.List.Concat.{flat_map-append}
-use Rattle.beep_text.specs.declared.attr.Attr.{Attr}
 use Rattle.beep_text.specs.declared.mode.Part.{Part}
-use Rattle.beep_text.specs.declared.mode.Taken.{Taken}
 use Rattle.beep_text.specs.declared.mode.Mode.{Mode}
-use Rattle.beep_text.specs.declared.limits.TheConstants.{MAX_NAME, MAX_NESTED}
-use Rattle.beep_text.specs.Characters.{is_space, is_allowed, is_name, is_begun_name, is_name_start, is_name_char}
+use Rattle.beep_text.specs.declared.limits.TheConstants.{MAX_NESTED}
+use Rattle.beep_text.specs.Characters.{is_space, is_allowed, is_name}
 use Rattle.beep_text.specs.Lawful.{has_name}
-use Rattle.beep_text.specs.Tree.{Items, Tree, nothing, with_chars, with_child}
-use Rattle.beep_text.specs.Elements.{Written, plain, written_text, written_char, is_written, AttrText, attr_text, attr_said, IsAttrText, AreAttrTexts, Tag, tag_text, IsTag, Pieces, no_pieces, character, section, alone, around, pieces_text, items_of, put, IsSection, IsPieces, IsBody, is_one}
-use Rattle.beep_text.specs.Machine.{State, start, at, step, step_in, run, taken_after, char_taken, is_fresh, is_nil, has_room, ended_in}
-use Rattle.beep_text.proofs.ElementLemmas.{left_of, right_of, both, is_false}
-use Rattle.beep_text.proofs.WrittenLemmas.{by_test}
+use Rattle.beep_text.specs.Tree.{Tree, nothing, with_child}
+use Rattle.beep_text.specs.Elements.{Written, written_text, written_char, is_written, AttrText, attr_text, attr_said, AreAttrTexts, Tag, tag_text, IsTag, Pieces, pieces_text, items_of, put, IsSection, IsPieces, IsBody}
+use Rattle.beep_text.specs.Machine.{State, is_fresh, is_nil, has_room}
 use Rattle.beep_text.proofs.CharLemmas.{PartText, is_ref}
 
 -- ---- where elements are open
@@ -88,7 +81,6 @@ pub record IsValue (below : List Tree) (top : Tree) (attr value : List ℕ) (quo
 -- the top element is no body
 abbrev pub IsOpen : List Tree → Type 0
 IsOpen below = is_nil below ≡ false
-
 
 pub record InSection (below : List Tree) (top : Tree) (k : ℕ) (fresh : Bool) (t : List ℕ) : Type 0 where
   pub front : List ℕ

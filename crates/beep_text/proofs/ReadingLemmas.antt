@@ -1,5 +1,5 @@
 -- What the machine does with the octets of a character.
-use Rattle.std.proofs.Common.{◌≡◌, ℕ, suc, ◌+◌, ◌-◌, ◌*◌, ◌/◌, ◌%◌, ◌<◌, ◌≤◌, ◌⊎◌, Bool, true, false, ◌&&◌, ◌||◌, not, ◌==◌, nat_lt, nat_le, cond, if◌then◌else◌, List, [], ◌∷◌, ◌++◌, length, fold, codes, inl, inr, ⊎_elim, Option, Some, None, refl, sym, ap, ap₂, subst, ◌∙◌, append_assoc, arith, length-append, eqb-true, ne_eqb, ltb-true, ltb-false, leb-true, leb-false, le-leb, le-ltb, lt-ltb, le_trans, one-mul, mul-le-mul_right}
+use Rattle.std.proofs.Common.{◌≡◌, ℕ, ◌+◌, ◌-◌, ◌*◌, ◌/◌, ◌%◌, ◌<◌, ◌≤◌, ◌⊎◌, Bool, true, false, ◌&&◌, ◌||◌, not, ◌==◌, nat_lt, nat_le, if◌then◌else◌, List, [], ◌∷◌, ◌++◌, length, fold, inr, ⊎_elim, refl, sym, ap, subst, ◌∙◌, arith, eqb-true, ne_eqb, ltb-true, ltb-false, le-leb, le-ltb, lt-ltb, le_trans, one-mul, mul-le-mul_right}
 use Rattle.std.specs.List.{list_all}
 use Rattle.std.proofs.lemmas.Str.{encode_ascii}
 use Rattle.std.proofs.lemmas.Bool.Decides.{nat_tests}
@@ -9,9 +9,8 @@ use Rattle.beep_text.specs.declared.mode.Part.{Part}
 use Rattle.beep_text.specs.declared.mode.Taken.{Taken}
 use Rattle.beep_text.specs.Characters.{is_allowed, is_digit}
 use Rattle.beep_text.specs.Elements.{Written, plain, named, decimal, hexadecimal, written_text, written_char, is_reference, has_reference, is_written, is_hex_digit, digit_of, number_of}
-use Rattle.beep_text.specs.Machine.{letter_after, letters_taken, is_no_letter, allowed_taken, is_tail, grown, first_taken, base_of, is_digit_in, digit_taken, named_taken, taken_after, char_taken, is_fresh}
+use Rattle.beep_text.specs.Machine.{allowed_taken, is_tail, grown, first_taken, base_of, is_digit_in, taken_after, char_taken, is_fresh}
 use Rattle.beep_text.proofs.ElementLemmas.{left_of, right_of, both, is_false}
-use Rattle.beep_text.proofs.WrittenLemmas.{by_test}
 use Rattle.beep_text.proofs.CharLemmas.{encode_two, encode_three, encode_four}
 
 -- the octets bring a part to a whole character, by a step
@@ -41,7 +40,6 @@ first_high b high = rw (ne_eqb b 38 (λ same. absurd (omega (arith, same)))) ref
 
 module _ (f : Part → ℕ → Taken) (first : (b : ℕ) → 128 ≤ b → f Part.Fresh b ≡ first_taken b)
     (one : (v b : ℕ) → f (Part.One v) b ≡ taken_after (Part.One v) b) (two : (v b : ℕ) → f (Part.Two v) b ≡ taken_after (Part.Two v) b) (three : (v b : ℕ) → f (Part.Three v) b ≡ taken_after (Part.Three v) b) where
-
   pub reads_one : (v b c : ℕ) → is_tail b ≡ true → grown v b ≡ c → is_allowed c ≡ true → Reading f (Part.One v) (b ∷ []) c
   reads_one v b c tail same allowed = last b c (one v b ∙ (rw tail (allowed_whole (grown v b) c same allowed)))
 
@@ -50,11 +48,12 @@ module _ (f : Part → ℕ → Taken) (first : (b : ℕ) → 128 ≤ b → f Par
       (two v b ∙ (rw (tail, same, le-leb 32 w over, lt-ltb w 17408 under) (⊎_elim (λ low. rw (leb_less w 864 low) refl) (λ high. (rw (le-ltb w 896 high) (stays_false (nat_le 864 w) (Part.One w)))) scalar)))
       refl (reads_one w d c tail2 same2 allowed)
     where
-    leb_less : (w k : ℕ) → w < k → nat_le k w ≡ false
-    leb_less w k low = lt-leb-false w k low
-    stays_false : (x : Bool) (p : Part) → (if not (x && false) then Taken.More p else Taken.Dead) ≡ Taken.More p
-    stays_false true p = refl
-    stays_false false p = refl
+      leb_less : (w k : ℕ) → w < k → nat_le k w ≡ false
+      leb_less w k low = lt-leb-false w k low
+
+      stays_false : (x : Bool) (p : Part) → (if not (x && false) then Taken.More p else Taken.Dead) ≡ Taken.More p
+      stays_false true p = refl
+      stays_false false p = refl
 
   pub reads_three : (v b d e w u c : ℕ) → is_tail b ≡ true → is_tail d ≡ true → is_tail e ≡ true → grown v b ≡ w → 16 ≤ w → w < 272 → grown w d ≡ u → 32 ≤ u → u < 17408 → (u < 864) ⊎ (896 ≤ u) → grown u e ≡ c
       → is_allowed c ≡ true → Reading f (Part.Three v) (b ∷ d ∷ e ∷ []) c
@@ -65,33 +64,35 @@ module _ (f : Part → ℕ → Taken) (first : (b : ℕ) → 128 ≤ b → f Par
   pub reads_high : (c : ℕ) → is_allowed c ≡ true → 128 ≤ c → Reading f Part.Fresh (encode c) c
   reads_high c allowed high =
       elim (nat_lt c 2048) as (λ x. nat_lt c 2048 ≡ x → Reading f Part.Fresh (encode c) c) [
-        true ↦ λ is. low (ltb-true c 2048 is)
-      | false ↦ λ is. elim (nat_lt c 65536) as (λ x. nat_lt c 65536 ≡ x → Reading f Part.Fresh (encode c) c) [
-          true ↦ λ is2. middle (ltb-false c 2048 is) (ltb-true c 65536 is2)
-        | false ↦ λ is2. top (ltb-false c 65536 is2)
+        | true ↦ λ is. low (ltb-true c 2048 is)
+        | false ↦ λ is. elim (nat_lt c 65536) as (λ x. nat_lt c 65536 ≡ x → Reading f Part.Fresh (encode c) c) [
+          | true ↦ λ is2. middle (ltb-false c 2048 is) (ltb-true c 65536 is2)
+          | false ↦ λ is2. top (ltb-false c 65536 is2)
         ] refl
       ] refl
     where
-    low : c < 2048 → Reading f Part.Fresh (encode c) c
-    low under = subst (λ (bs : List ℕ). Reading f Part.Fresh bs c) (sym (encode_two c high under))
-        (more (192 + c / 64) c ((128 + c % 64) ∷ []) (Part.One (192 + c / 64 - 192))
+      low : c < 2048 → Reading f Part.Fresh (encode c) c
+      low under = subst (λ (bs : List ℕ). Reading f Part.Fresh bs c) (sym (encode_two c high under))
+          (more (192 + c / 64) c ((128 + c % 64) ∷ []) (Part.One (192 + c / 64 - 192))
           (first (192 + c / 64) (omega arith) ∙ (rw (le-ltb (192 + c / 64) 128 (omega arith), le-ltb (192 + c / 64) 194 (omega arith), lt-ltb (192 + c / 64) 224 (omega arith)) refl)) refl
           (reads_one (192 + c / 64 - 192) (128 + c % 64) c (tail_of c) (omega arith) allowed))
-    middle : 2048 ≤ c → c < 65536 → Reading f Part.Fresh (encode c) c
-    middle over under = subst (λ (bs : List ℕ). Reading f Part.Fresh bs c) (sym (encode_three c over under))
-        (more (224 + c / 4096) c ((128 + (c / 64) % 64) ∷ (128 + c % 64) ∷ []) (Part.Two (224 + c / 4096 - 224))
+
+      middle : 2048 ≤ c → c < 65536 → Reading f Part.Fresh (encode c) c
+      middle over under = subst (λ (bs : List ℕ). Reading f Part.Fresh bs c) (sym (encode_three c over under))
+          (more (224 + c / 4096) c ((128 + (c / 64) % 64) ∷ (128 + c % 64) ∷ []) (Part.Two (224 + c / 4096 - 224))
           (first (224 + c / 4096) (omega arith)
-            ∙ (rw (le-ltb (224 + c / 4096) 128 (omega arith), le-ltb (224 + c / 4096) 194 (omega arith), le-ltb (224 + c / 4096) 224 (omega arith), lt-ltb (224 + c / 4096) 240 (omega arith)) refl)) refl
+          ∙ (rw (le-ltb (224 + c / 4096) 128 (omega arith), le-ltb (224 + c / 4096) 194 (omega arith), le-ltb (224 + c / 4096) 224 (omega arith), lt-ltb (224 + c / 4096) 240 (omega arith)) refl)) refl
           (reads_two (224 + c / 4096 - 224) (128 + (c / 64) % 64) (128 + c % 64) (c / 64) c (tail_of (c / 64)) (tail_of c) (omega arith) (omega arith) (omega arith) (scalar_of c allowed) (omega arith) allowed))
-    top : 65536 ≤ c → Reading f Part.Fresh (encode c) c
-    top over =
-        let small = allowed_high c allowed in
-        subst (λ (bs : List ℕ). Reading f Part.Fresh bs c) (sym (encode_four c over))
-        (more (240 + c / 262144) c ((128 + (c / 4096) % 64) ∷ (128 + (c / 64) % 64) ∷ (128 + c % 64) ∷ []) (Part.Three (240 + c / 262144 - 240))
+
+      top : 65536 ≤ c → Reading f Part.Fresh (encode c) c
+      top over =
+          let small = allowed_high c allowed in
+          subst (λ (bs : List ℕ). Reading f Part.Fresh bs c) (sym (encode_four c over))
+          (more (240 + c / 262144) c ((128 + (c / 4096) % 64) ∷ (128 + (c / 64) % 64) ∷ (128 + c % 64) ∷ []) (Part.Three (240 + c / 262144 - 240))
           (first (240 + c / 262144) (omega arith)
-            ∙ (rw (le-ltb (240 + c / 262144) 128 (omega arith), le-ltb (240 + c / 262144) 194 (omega arith), le-ltb (240 + c / 262144) 224 (omega arith), le-ltb (240 + c / 262144) 240 (omega arith), lt-ltb (240 + c / 262144) 245 (omega arith)) refl)) refl
+          ∙ (rw (le-ltb (240 + c / 262144) 128 (omega arith), le-ltb (240 + c / 262144) 194 (omega arith), le-ltb (240 + c / 262144) 224 (omega arith), le-ltb (240 + c / 262144) 240 (omega arith), lt-ltb (240 + c / 262144) 245 (omega arith)) refl)) refl
           (reads_three (240 + c / 262144 - 240) (128 + (c / 4096) % 64) (128 + (c / 64) % 64) (128 + c % 64) (c / 4096) (c / 64) c (tail_of (c / 4096)) (tail_of (c / 64)) (tail_of c)
-            (omega arith) (omega arith) (omega arith) (omega arith) (omega arith) (omega arith) (inr (omega arith)) (omega arith) allowed))
+          (omega arith) (omega arith) (omega arith) (omega arith) (omega arith) (omega arith) (inr (omega arith)) (omega arith) allowed))
 
 -- ---- any character that is written
 
@@ -103,8 +104,8 @@ number_goes base some n [] = omega arith
 number_goes base some n (d ∷ digits) =
     le_trans (le_trans (ap_le base some n) (omega arith)) (number_goes base some (base * n + digit_of d) digits)
   where
-  ap_le : (base : ℕ) → 1 ≤ base → (n : ℕ) → n ≤ base * n
-  ap_le base some n = subst (λ x. x ≤ base * n) (one-mul n) (mul-le-mul_right n some)
+    ap_le : (base : ℕ) → 1 ≤ base → (n : ℕ) → n ≤ base * n
+    ap_le base some n = subst (λ x. x ≤ base * n) (one-mul n) (mul-le-mul_right n some)
 
 digit_apart : (hex : Bool) (d : ℕ) → is_digit_in hex d ≡ true → ((d == 59) ≡ false) × ((d == 120 && not hex) ≡ false)
 digit_apart true d is = (grind (arith, nat_tests), grind (arith, nat_tests))
@@ -138,11 +139,11 @@ named_cases c is P lt gt amp apos quot =
     or_case (c == 60 || c == 62 || c == 38) (c == 39) four (λ three.
     or_case (c == 60 || c == 62) (c == 38) three (λ two.
     or_case (c == 60) (c == 62) two (λ e. subst P (sym (eqb-true c 60 e)) lt) (λ e. subst P (sym (eqb-true c 62 e)) gt)) (λ e. subst P (sym (eqb-true c 38 e)) amp))
-      (λ e. subst P (sym (eqb-true c 39 e)) apos)) (λ e. subst P (sym (eqb-true c 34 e)) quot)
+    (λ e. subst P (sym (eqb-true c 39 e)) apos)) (λ e. subst P (sym (eqb-true c 34 e)) quot)
   where
-  or_case : (x y : Bool) → (x || y) ≡ true → (x ≡ true → P c) → (y ≡ true → P c) → P c
-  or_case true y e first second = first refl
-  or_case false y e first second = second e
+    or_case : (x y : Bool) → (x || y) ≡ true → (x ≡ true → P c) → (y ≡ true → P c) → P c
+    or_case true y e first second = first refl
+    or_case false y e first second = second e
 
 reads_named : (c : ℕ) → has_reference c ≡ true → Reading char_taken Part.Fresh (written_text (named c)) c
 reads_named c is = named_cases c is (λ x. Reading char_taken Part.Fresh (written_text (named x)) x)
@@ -155,16 +156,16 @@ reads_named c is = named_cases c is (λ x. Reading char_taken Part.Fresh (writte
 -- a plain character, where it isn't `&`
 pub reads_plain : (c : ℕ) → is_allowed c ≡ true → (c == 38) ≡ false → Reading char_taken Part.Fresh (encode c) c
 reads_plain c allowed amp = elim (nat_lt c 128) as (λ x. nat_lt c 128 ≡ x → Reading char_taken Part.Fresh (encode c) c) [
-      true ↦ λ is. subst (λ (bs : List ℕ). Reading char_taken Part.Fresh bs c) (sym (encode_ascii c (ltb-true c 128 is))) (last c c (rw amp (low_first c (ltb-true c 128 is) allowed)))
-    | false ↦ λ is. reads_high char_taken first_high (λ v b. refl) (λ v b. refl) (λ v b. refl) c allowed (ltb-false c 128 is)
-  ] refl
+  | true ↦ λ is. subst (λ (bs : List ℕ). Reading char_taken Part.Fresh bs c) (sym (encode_ascii c (ltb-true c 128 is))) (last c c (rw amp (low_first c (ltb-true c 128 is) allowed)))
+  | false ↦ λ is. reads_high char_taken first_high (λ v b. refl) (λ v b. refl) (λ v b. refl) c allowed (ltb-false c 128 is)
+] refl
 
 -- the same where no reference is read
 pub reads_section : (c : ℕ) → is_allowed c ≡ true → Reading taken_after Part.Fresh (encode c) c
 reads_section c allowed = elim (nat_lt c 128) as (λ x. nat_lt c 128 ≡ x → Reading taken_after Part.Fresh (encode c) c) [
-      true ↦ λ is. subst (λ (bs : List ℕ). Reading taken_after Part.Fresh bs c) (sym (encode_ascii c (ltb-true c 128 is))) (last c c (low_first c (ltb-true c 128 is) allowed))
-    | false ↦ λ is. reads_high taken_after (λ b high. refl) (λ v b. refl) (λ v b. refl) (λ v b. refl) c allowed (ltb-false c 128 is)
-  ] refl
+  | true ↦ λ is. subst (λ (bs : List ℕ). Reading taken_after Part.Fresh bs c) (sym (encode_ascii c (ltb-true c 128 is))) (last c c (low_first c (ltb-true c 128 is) allowed))
+  | false ↦ λ is. reads_high taken_after (λ b high. refl) (λ v b. refl) (λ v b. refl) (λ v b. refl) c allowed (ltb-false c 128 is)
+] refl
 
 -- a character as it is written
 pub reads_written : (stop : ℕ) (w : Written) → is_written stop w ≡ true → Reading char_taken Part.Fresh (written_text w) (written_char w)
@@ -176,8 +177,8 @@ reads_written stop (named c) is = reads_named c is
 reads_written stop (decimal digits) is =
     let ref = left_of _ (is_allowed (number_of 10 digits)) is in
     more 38 _ _ (Part.Name Letters.Empty) refl refl (more 35 _ _ (Part.Number false false 0) refl refl
-      (reads_digits false false 0 digits _ (left_of (list_all is_digit digits) _ ref) (right_of (list_all is_digit digits) _ ref) refl (right_of (is_reference (decimal digits)) _ is)))
+    (reads_digits false false 0 digits _ (left_of (list_all is_digit digits) _ ref) (right_of (list_all is_digit digits) _ ref) refl (right_of (is_reference (decimal digits)) _ is)))
 reads_written stop (hexadecimal digits) is =
     let ref = left_of _ (is_allowed (number_of 16 digits)) is in
     more 38 _ _ (Part.Name Letters.Empty) refl refl (more 35 _ _ (Part.Number false false 0) refl refl (more 120 _ _ (Part.Number true false 0) refl refl
-      (reads_digits true false 0 digits _ (left_of (list_all is_hex_digit digits) _ ref) (right_of (list_all is_hex_digit digits) _ ref) refl (right_of (is_reference (hexadecimal digits)) _ is))))
+    (reads_digits true false 0 digits _ (left_of (list_all is_hex_digit digits) _ ref) (right_of (list_all is_hex_digit digits) _ ref) refl (right_of (is_reference (hexadecimal digits)) _ is))))

@@ -1,5 +1,5 @@
 -- A name of an attribute that has room can become a new one.
-use Rattle.std.proofs.Common.{◌≡◌, ℕ, zero, suc, ◌+◌, ◌-◌, ◌*◌, ◌/◌, ◌%◌, ◌<◌, ◌≤◌, ◌⊎◌, Bool, true, false, ◌&&◌, ◌||◌, not, ◌==◌, nat_lt, nat_le, cond, if◌then◌else◌, List, [], ◌∷◌, ◌++◌, length, replicate, inl, inr, ⊎_elim, refl, sym, ap, ap₂, subst, ◌∙◌, append_assoc, append-nil, arith, length-append, ltb-true, ltb-false, lt-ltb, Decides, Any}
+use Rattle.std.proofs.Common.{◌≡◌, ℕ, zero, suc, ◌+◌, ◌-◌, ◌*◌, ◌/◌, ◌%◌, ◌<◌, ◌≤◌, ◌⊎◌, Bool, true, false, ◌&&◌, ◌||◌, not, nat_lt, if◌then◌else◌, List, [], ◌∷◌, ◌++◌, length, replicate, inl, inr, ⊎_elim, refl, sym, ap, ◌∙◌, append-nil, arith, length-append, ltb-true}
 use Rattle.std.specs.Prelude.{bytes_eq}
 use Rattle.std.specs.List.{list_all, list_any, range_with_len}
 use Rattle.std.proofs.lemmas.Slice.Eq.{bytes_eq-Decides}
@@ -11,7 +11,7 @@ use Rattle.beep_text.specs.declared.limits.TheConstants.{MAX_NAME}
 use Rattle.beep_text.specs.Characters.{is_name_char}
 use Rattle.beep_text.specs.Lawful.{has_name}
 use Rattle.beep_text.specs.Machine.{has_room}
-use Rattle.beep_text.proofs.ElementLemmas.{left_of, right_of, both, is_false, left_false, right_false}
+use Rattle.beep_text.proofs.ElementLemmas.{left_of, right_of, both, is_false}
 
 -- ---- many names, all apart
 
@@ -72,20 +72,20 @@ no_hits m a k (suc n) same less low =
     let other : bytes_eq a.name (name_at m n) ≡ false = false_unless (bytes_eq a.name (name_at m n)) (λ e. (let is = name_apart m k n low (omega arith) (sym same ∙ (bytes_eq-Decides a.name (name_at m n)).0 e) in absurd (omega (arith, is)))) in
     rw other (omega (arith, before))
   where
-  false_unless : (b : Bool) → (b ≡ true → ⊥) → b ≡ false
-  false_unless true never = absurd (never refl)
-  false_unless false never = refl
+    false_unless : (b : Bool) → (b ≡ true → ⊥) → b ≡ false
+    false_unless true never = absurd (never refl)
+    false_unless false never = refl
 
 -- a name is hit once at most, and then it has 64 octets
 one_hit : (m : List ℕ) (a : Attr) (n : ℕ) → length m ≤ 62 → n ≤ 2704 → 64 * hits m a n ≤ length a.name
 one_hit m a zero fits low = omega arith
 one_hit m a (suc n) fits low = by_bit (bytes_eq a.name (name_at m n)) refl (one_hit m a n fits (omega arith))
   where
-  by_bit : (b : Bool) → bytes_eq a.name (name_at m n) ≡ b → 64 * hits m a n ≤ length a.name → 64 * (hits m a n + bit b) ≤ length a.name
-  by_bit false is before = omega (arith, before)
-  by_bit true is before =
-      let same = (bytes_eq-Decides a.name (name_at m n)).0 is in
-      omega (arith, no_hits m a n n same (omega arith) (omega arith), ap length same, length-name_at m n fits)
+    by_bit : (b : Bool) → bytes_eq a.name (name_at m n) ≡ b → 64 * hits m a n ≤ length a.name → 64 * (hits m a n + bit b) ≤ length a.name
+    by_bit false is before = omega (arith, before)
+    by_bit true is before =
+        let same = (bytes_eq-Decides a.name (name_at m n)).0 is in
+        omega (arith, no_hits m a n n same (omega arith) (omega arith), ap length same, length-name_at m n fits)
 
 bit_or : (x y : Bool) → bit (x || y) ≤ bit x + bit y
 bit_or true y = omega arith
@@ -108,9 +108,9 @@ free_or_all : (m : List ℕ) (attrs : List Attr) (n : ℕ) → ((i : ℕ) × (i 
 free_or_all m attrs zero = inr refl
 free_or_all m attrs (suc n) = ⊎_elim (λ f. inl (f.0, omega (arith, f.1), f.2)) (λ all. by_bit (has_name (name_at m n) attrs) refl all) (free_or_all m attrs n)
   where
-  by_bit : (b : Bool) → has_name (name_at m n) attrs ≡ b → taken_names m attrs n ≡ n → ((i : ℕ) × (i < suc n) × (has_name (name_at m i) attrs ≡ false)) ⊎ (taken_names m attrs n + bit (has_name (name_at m n) attrs) ≡ suc n)
-  by_bit false is all = inl (n, omega arith, is)
-  by_bit true is all = inr (rw is (omega (arith, all)))
+    by_bit : (b : Bool) → has_name (name_at m n) attrs ≡ b → taken_names m attrs n ≡ n → ((i : ℕ) × (i < suc n) × (has_name (name_at m i) attrs ≡ false)) ⊎ (taken_names m attrs n + bit (has_name (name_at m n) attrs) ≡ suc n)
+    by_bit false is all = inl (n, omega arith, is)
+    by_bit true is all = inr (rw is (omega (arith, all)))
 
 -- ---- a longer name that is new
 
@@ -127,9 +127,12 @@ too_many n taken len few all small is = absurd (omega arith)
 far_by : (n : ℕ) (m : List ℕ) (attrs : List Attr) → n ≡ 1025 → length m ≤ 62 → names_len attrs ≤ 65536 → Longer m attrs
 unfolding name_at
 far_by n m attrs is fits small = ⊎_elim
-    (λ f. (replicate (62 - length m) 97 ++ letter_of (f.0 / 52) ∷ letter_of (f.0 % 52) ∷ [],
+    (λ f. (
+      replicate (62 - length m) 97 ++ letter_of (f.0 / 52) ∷ letter_of (f.0 % 52) ∷ [],
       list_all-append is_name_char (replicate (62 - length m) 97) _ ∙ both _ _ (all_a (62 - length m)) (both _ _ (letter_char (f.0 / 52) (let low = f.1 in omega arith)) (both _ _ (letter_char (f.0 % 52) (omega arith)) refl)),
-      omega (arith, length-append (replicate (62 - length m) 97) (letter_of (f.0 / 52) ∷ letter_of (f.0 % 52) ∷ []), length-replicate {A = ℕ} (62 - length m) 97), f.2))
+      omega (arith, length-append (replicate (62 - length m) 97) (letter_of (f.0 / 52) ∷ letter_of (f.0 % 52) ∷ []), length-replicate {A = ℕ} (62 - length m) 97),
+      f.2,
+    ))
     (λ all. absurd (too_many n (taken_names m attrs n) (names_len attrs) (few_taken m attrs n fits (omega (arith, is))) all small is)) (free_or_all m attrs n)
 
 far : (m : List ℕ) (attrs : List Attr) → length m ≤ 62 → names_len attrs ≤ 65536 → Longer m attrs
@@ -139,9 +142,9 @@ found : (p : ℕ → Bool) (xs : List ℕ) → list_any p xs ≡ true → (c : �
 found p [] is = absurd (cc is)
 found p (x ∷ xs) is = elim (p x) as (λ b. p x ≡ b → (c : ℕ) × (p c ≡ true)) [ true ↦ λ e. (x, e) | false ↦ λ e. found p xs (rest (p x) (list_any p xs) e is) ] refl
   where
-  rest : (a b : Bool) → a ≡ false → (a || b) ≡ true → b ≡ true
-  rest true b e _ = absurd (cc e)
-  rest false b _ is = is
+    rest : (a b : Bool) → a ≡ false → (a || b) ≡ true → b ≡ true
+    rest true b e _ = absurd (cc e)
+    rest false b _ is = is
 
 near : (m : List ℕ) (attrs : List Attr) → (nat_lt (length m) MAX_NAME && list_any (λ c. is_name_char c && not (has_name (m ++ c ∷ []) attrs)) (range_with_len 0 128)) ≡ true → Longer m attrs
 near m attrs is =
@@ -152,14 +155,14 @@ near m attrs is =
 pub longer : (m : List ℕ) (attrs : List Attr) → length m ≤ 64 → names_len attrs ≤ 65536 → has_room m attrs ≡ true → Longer m attrs
 longer m attrs fits small room =
     elim (nat_lt (length m) 63) as (λ b. nat_lt (length m) 63 ≡ b → Longer m attrs) [
-      true ↦ λ less. (let low = ltb-true (length m) 63 less in far m attrs (omega (arith, low)) small)
-    | false ↦ λ not_less. elim (has_name m attrs) as (λ b. has_name m attrs ≡ b → Longer m attrs) [
-        true ↦ λ has. near m attrs (pick (nat_lt (length m) 63) (has_name m attrs) _ not_less has room)
-      | false ↦ λ new. ([], refl, omega (arith, fits), ap (λ x. has_name x attrs) (append-nil m) ∙ new)
+      | true ↦ λ less. (let low = ltb-true (length m) 63 less in far m attrs (omega (arith, low)) small)
+      | false ↦ λ not_less. elim (has_name m attrs) as (λ b. has_name m attrs ≡ b → Longer m attrs) [
+        | true ↦ λ has. near m attrs (pick (nat_lt (length m) 63) (has_name m attrs) _ not_less has room)
+        | false ↦ λ new. ([], refl, omega (arith, fits), ap (λ x. has_name x attrs) (append-nil m) ∙ new)
       ] refl
     ] refl
   where
-  pick : (x y z : Bool) → x ≡ false → y ≡ true → (if x then true else (if y then z else true)) ≡ true → z ≡ true
-  pick true y z e f is = absurd (cc e)
-  pick false true z e f is = is
-  pick false false z e f is = absurd (cc f)
+    pick : (x y z : Bool) → x ≡ false → y ≡ true → (if x then true else (if y then z else true)) ≡ true → z ≡ true
+    pick true y z e f is = absurd (cc e)
+    pick false true z e f is = is
+    pick false false z e f is = absurd (cc f)

@@ -1,7 +1,7 @@
 -- What the machine does with a whole text: it reads each piece, and gives its value.
-use Rattle.std.proofs.Common.{◌≡◌, ℕ, zero, suc, ◌+◌, ◌-◌, ◌<◌, ◌≤◌, ◌⊎◌, Bool, true, false, ◌&&◌, ◌||◌, not, ◌==◌, nat_lt, nat_le, cond, if◌then◌else◌, List, [], ◌∷◌, ◌++◌, length, map, flat_map, take, fold, replicate, get_or, codes, encode_utf8, encode_utf8_all, inl, inr, Option, Some, None, refl, sym, ap, ap₂, subst, true≢false, ◌∙◌, append_assoc, append-nil, arith, length-append, eqb-true, ne_eqb, ltb-true, ltb-false, leb-true, le-leb, le-ltb, lt-ltb, eq-eqb, ⊎_elim}
+use Rattle.std.proofs.Common.{◌≡◌, ℕ, zero, suc, ◌+◌, ◌<◌, ◌≤◌, ◌⊎◌, Bool, true, false, ◌&&◌, ◌||◌, not, ◌==◌, nat_lt, if◌then◌else◌, List, [], ◌∷◌, ◌++◌, length, map, flat_map, fold, replicate, get_or, codes, encode_utf8, encode_utf8_all, inl, inr, Option, Some, None, refl, sym, ap, ap₂, subst, true≢false, ◌∙◌, append_assoc, append-nil, arith, length-append, eqb-true, ne_eqb, ltb-true, ltb-false, leb-true, le-ltb, lt-ltb, eq-eqb, ⊎_elim}
 use Rattle.std.specs.List.{list_all, list_any, range_with_len}
-use Rattle.std.proofs.lemmas.List.Folds.{list_all-append, list_any_at}
+use Rattle.std.proofs.lemmas.List.Folds.{list_any_at}
 use Rattle.std.proofs.lemmas.List.{get_or_at}
 use Rattle.std.proofs.lemmas.List.FromFn.{get_or-range_with_len, length-range_with_len}
 use Rattle.std.proofs.lemmas.List.Sums.{fold-append}
@@ -9,19 +9,17 @@ use Rattle.std.proofs.lemmas.Bool.Decides.{nat_tests}
 use Rattle.std.proofs.lemmas.Str.{encode_ascii}
 use Rattle.beep_text.specs.declared.attr.Attr.{Attr}
 use Rattle.beep_text.specs.declared.mode.Part.{Part}
-use Rattle.beep_text.specs.declared.mode.Taken.{Taken}
 use Rattle.beep_text.specs.declared.mode.Mode.{Mode}
 use Rattle.beep_text.specs.declared.limits.TheConstants.{MAX_NAME, MAX_NESTED}
 use Rattle.beep_text.specs.Characters.{is_space, is_allowed, is_name, is_begun_name, is_name_start, is_name_char}
 use Rattle.beep_text.specs.Lawful.{has_name}
-use Rattle.beep_text.specs.Tree.{Items, Tree, nothing, with_chars, with_child}
-use Rattle.beep_text.specs.Elements.{Written, plain, named, decimal, hexadecimal, written_text, written_char, is_written, AttrText, attr_text, attr_said, IsAttrText, AreAttrTexts, Tag, tag_text, IsTag, Pieces, no_pieces, character, section, alone, around, pieces_text, items_of, put, IsSection, IsPieces, IsBody, is_one, is_none}
-use Rattle.beep_text.specs.Machine.{State, start, step, run, step_in, value_step, content_step, section_step, closed_step, taken_after, char_taken, is_fresh, is_nil, has_room, ended_in}
+use Rattle.beep_text.specs.Tree.{Items, Tree, nothing, with_child}
+use Rattle.beep_text.specs.Elements.{Written, plain, named, decimal, hexadecimal, written_text, written_char, is_written, AttrText, attr_text, attr_said, IsAttrText, AreAttrTexts, Tag, tag_text, IsTag, Pieces, no_pieces, character, section, alone, around, pieces_text, items_of, put, IsSection, IsPieces, IsBody, is_one}
+use Rattle.beep_text.specs.Machine.{State, start, step, run, closed_step, taken_after, char_taken, is_fresh, is_nil, has_room, ended_in}
 use Rattle.beep_text.proofs.ElementLemmas.{left_of, right_of, both, is_false, not-false}
 use Rattle.beep_text.proofs.WrittenLemmas.{by_test}
 use Rattle.beep_text.proofs.CharLemmas.{encode_two, encode_three, encode_four}
 use Rattle.beep_text.proofs.ReadingLemmas.{Reading, last, more, reads_written, reads_section}
-use Rattle.beep_text.proofs.StepLemmas.{run-none}
 
 -- ---- runs
 
@@ -80,15 +78,15 @@ content-char below name attrs items attr value part bs c (more b _ rest next tak
 -- the first octet of a character above one octet
 first_encode : (x c : ℕ) → x < 128 → (c == x) ≡ false → First x (encode_utf8 c)
 first_encode x c low other = elim (nat_lt c 128) as (λ t. nat_lt c 128 ≡ t → First x (encode_utf8 c)) [
-      true ↦ λ is. subst (First x) (sym (encode_ascii c (ltb-true c 128 is))) other
-    | false ↦ λ is. elim (nat_lt c 2048) as (λ t. nat_lt c 2048 ≡ t → First x (encode_utf8 c)) [
-        true ↦ λ is2. subst (First x) (sym (encode_two c (ltb-false c 128 is) (ltb-true c 2048 is2))) (ne_eqb _ _ (λ same. absurd (omega (arith, same, ltb-false c 128 is))))
-      | false ↦ λ is2. elim (nat_lt c 65536) as (λ t. nat_lt c 65536 ≡ t → First x (encode_utf8 c)) [
-          true ↦ λ is3. subst (First x) (sym (encode_three c (ltb-false c 2048 is2) (ltb-true c 65536 is3))) (ne_eqb _ _ (λ same. absurd (omega (arith, same))))
-        | false ↦ λ is3. subst (First x) (sym (encode_four c (ltb-false c 65536 is3))) (ne_eqb _ _ (λ same. absurd (omega (arith, same))))
-        ] refl
-      ] refl
+  | true ↦ λ is. subst (First x) (sym (encode_ascii c (ltb-true c 128 is))) other
+  | false ↦ λ is. elim (nat_lt c 2048) as (λ t. nat_lt c 2048 ≡ t → First x (encode_utf8 c)) [
+    | true ↦ λ is2. subst (First x) (sym (encode_two c (ltb-false c 128 is) (ltb-true c 2048 is2))) (ne_eqb _ _ (λ same. absurd (omega (arith, same, ltb-false c 128 is))))
+    | false ↦ λ is2. elim (nat_lt c 65536) as (λ t. nat_lt c 65536 ≡ t → First x (encode_utf8 c)) [
+      | true ↦ λ is3. subst (First x) (sym (encode_three c (ltb-false c 2048 is2) (ltb-true c 65536 is3))) (ne_eqb _ _ (λ same. absurd (omega (arith, same))))
+      | false ↦ λ is3. subst (First x) (sym (encode_four c (ltb-false c 65536 is3))) (ne_eqb _ _ (λ same. absurd (omega (arith, same))))
     ] refl
+  ] refl
+] refl
 
 first_written : (x stop : ℕ) (w : Written) → x < 128 → (38 == x) ≡ false → ((c : ℕ) → is_written stop (plain c) ≡ true → (c == x) ≡ false) → is_written stop w ≡ true → First x (written_text w)
 first_written x stop (plain c) low amp apart is = first_encode x c low (apart c is)
@@ -111,7 +109,7 @@ value-chars q below top attr value (w ∷ ws) low amp are =
     goes_on _ (st below top attr (value ++ written_char w ∷ []) (Mode.Value q Part.Fresh)) _ (written_text w) (flat_map written_text ws)
     (value-char q below top attr value Part.Fresh (written_text w) (written_char w) (reads_written q w is) (λ _. (first_written q q w low amp (plain_stop q) is, first_written 60 q w (omega arith) refl (plain_lt q) is)))
     (value-chars q below top attr (value ++ written_char w ∷ []) ws low amp (right_of (is_written q w) _ are)
-      ∙ ap (λ x. Some (st below top attr x (Mode.Value q Part.Fresh))) (append_assoc value (written_char w ∷ []) (map written_char ws)))
+    ∙ ap (λ x. Some (st below top attr x (Mode.Value q Part.Fresh))) (append_assoc value (written_char w ∷ []) (map written_char ws)))
 
 -- ---- CDATA sections
 
@@ -136,8 +134,8 @@ section-char k below name attrs items attr value part bs c (more b _ rest next t
 section_rest : (xs ys : List ℕ) → IsSection (xs ++ ys) → IsSection ys
 section_rest xs ys within front back same = within (xs ++ front) back (ap (λ x. xs ++ x) same ∙ sym (regroup xs front (codes "]]>") back))
   where
-  regroup : (a b c d : List ℕ) → a ++ b ++ c ++ d ≡ a ++ (b ++ c ++ d)
-  regroup a b c d = simp append_assoc
+    regroup : (a b c d : List ℕ) → a ++ b ++ c ++ d ≡ a ++ (b ++ c ++ d)
+    regroup a b c d = simp append_assoc
 
 -- a section up to its end
 abbrev pub SectionGoes : ℕ → List ℕ → Items → List Tree → List ℕ → List Attr → List ℕ → List ℕ → Type 0
@@ -149,14 +147,14 @@ section-dash : (k c : ℕ) (cs : List ℕ) (below : List Tree) (name : List ℕ)
 section-dash k c cs below name attrs items attr value few is within next =
     subst (λ x. SectionGoes k (x ∷ cs) items below name attrs attr value) (sym is)
     (subst (λ (x : List ℕ). Goes (st below (tree name attrs items) attr value (Mode.Section k Part.Fresh)) ((x ++ encode_utf8_all cs) ++ codes "]]>") (st below (tree name attrs (fold put items (replicate k 93 ++ 93 ∷ cs))) attr value (Mode.Content Part.Fresh)))
-      (sym (encode_ascii 93 (omega arith))) (by_count k few (subst (λ x. IsSection (replicate k 93 ++ x ∷ cs)) is within)))
+    (sym (encode_ascii 93 (omega arith))) (by_count k few (subst (λ x. IsSection (replicate k 93 ++ x ∷ cs)) is within)))
   where
-  by_count : (k : ℕ) → k ≤ 2 → IsSection (replicate k 93 ++ 93 ∷ cs)
-      → Goes (st below (tree name attrs items) attr value (Mode.Section k Part.Fresh)) (93 ∷ encode_utf8_all cs ++ codes "]]>") (st below (tree name attrs (fold put items (replicate k 93 ++ 93 ∷ cs))) attr value (Mode.Content Part.Fresh))
-  by_count zero few within = next 1 items (omega arith) within
-  by_count (suc zero) few within = next 2 items (omega arith) within
-  by_count (suc (suc zero)) few within = next 2 (put items 93) (omega arith) (section_rest (93 ∷ []) (93 ∷ 93 ∷ cs) within)
-  by_count (suc (suc (suc k))) few within = absurd (omega arith)
+    by_count : (k : ℕ) → k ≤ 2 → IsSection (replicate k 93 ++ 93 ∷ cs)
+        → Goes (st below (tree name attrs items) attr value (Mode.Section k Part.Fresh)) (93 ∷ encode_utf8_all cs ++ codes "]]>") (st below (tree name attrs (fold put items (replicate k 93 ++ 93 ∷ cs))) attr value (Mode.Content Part.Fresh))
+    by_count zero few within = next 1 items (omega arith) within
+    by_count (suc zero) few within = next 2 items (omega arith) within
+    by_count (suc (suc zero)) few within = next 2 (put items 93) (omega arith) (section_rest (93 ∷ []) (93 ∷ 93 ∷ cs) within)
+    by_count (suc (suc (suc k))) few within = absurd (omega arith)
 
 section-other : (k c : ℕ) (cs : List ℕ) (below : List Tree) (name : List ℕ) (attrs : List Attr) (items : Items) (attr value : List ℕ) → is_allowed c ≡ true → (c == 93) ≡ false → IsSection (replicate k 93 ++ c ∷ cs)
     → ((items : Items) → IsSection cs → SectionGoes 0 cs items below name attrs attr value) → SectionGoes k (c ∷ cs) items below name attrs attr value
@@ -164,12 +162,12 @@ section-other k c cs below name attrs items attr value allowed other within next
     subst (λ (x : List ℕ). Goes (st below (tree name attrs items) attr value (Mode.Section k Part.Fresh)) x (st below (tree name attrs (fold put items (replicate k 93 ++ c ∷ cs))) attr value (Mode.Content Part.Fresh)))
     (sym (append_assoc (encode_utf8 c) (encode_utf8_all cs) (codes "]]>")))
     (goes_on _ (st below (tree name attrs (put (fold put items (replicate k 93)) c)) attr value (Mode.Section 0 Part.Fresh)) _ (encode_utf8 c) (encode_utf8_all cs ++ codes "]]>")
-      (section-char k below name attrs items attr value Part.Fresh (encode_utf8 c) c (reads_section c allowed) (λ _. first_encode 93 c (omega arith) other) (λ _ two. first_encode 62 c (omega arith) (ne_eqb c 62 (λ same. ends two same))) (λ f. absurd (cc f)))
-      (next (put (fold put items (replicate k 93)) c) (section_rest (c ∷ []) cs (section_rest (replicate k 93) (c ∷ cs) within))
-        ∙ ap (λ x. Some (st below (tree name attrs x) attr value (Mode.Content Part.Fresh))) (sym (fold-append put items (replicate k 93) (c ∷ cs)))))
+    (section-char k below name attrs items attr value Part.Fresh (encode_utf8 c) c (reads_section c allowed) (λ _. first_encode 93 c (omega arith) other) (λ _ two. first_encode 62 c (omega arith) (ne_eqb c 62 (λ same. ends two same))) (λ f. absurd (cc f)))
+    (next (put (fold put items (replicate k 93)) c) (section_rest (c ∷ []) cs (section_rest (replicate k 93) (c ∷ cs) within))
+    ∙ ap (λ x. Some (st below (tree name attrs x) attr value (Mode.Content Part.Fresh))) (sym (fold-append put items (replicate k 93) (c ∷ cs)))))
   where
-  ends : k ≡ 2 → c ≡ 62 → ⊥
-  ends two same = within [] cs (ap₂ (λ n x. replicate n 93 ++ x ∷ cs) two same)
+    ends : k ≡ 2 → c ≡ 62 → ⊥
+    ends two same = within [] cs (ap₂ (λ n x. replicate n 93 ++ x ∷ cs) two same)
 
 pub section-run : (k : ℕ) (cs : List ℕ) (below : List Tree) (name : List ℕ) (attrs : List Attr) (items : Items) (attr value : List ℕ) → k ≤ 2 → list_all is_allowed cs ≡ true → IsSection (replicate k 93 ++ cs)
     → SectionGoes k cs items below name attrs attr value
@@ -180,8 +178,8 @@ section-run (suc (suc (suc k))) [] below name attrs items attr value few are wit
 section-run k (c ∷ cs) below name attrs items attr value few are within =
     let rest = right_of (is_allowed c) _ are in
     elim (c == 93) as (λ x. (c == 93) ≡ x → SectionGoes k (c ∷ cs) items below name attrs attr value) [
-      true ↦ λ is. section-dash k c cs below name attrs items attr value few (eqb-true c 93 is) within (λ j new less inner. section-run j cs below name attrs new attr value less rest inner)
-    | false ↦ λ is. section-other k c cs below name attrs items attr value (left_of (is_allowed c) _ are) is within (λ new inner. section-run 0 cs below name attrs new attr value (omega arith) rest inner)
+      | true ↦ λ is. section-dash k c cs below name attrs items attr value few (eqb-true c 93 is) within (λ j new less inner. section-run j cs below name attrs new attr value less rest inner)
+      | false ↦ λ is. section-other k c cs below name attrs items attr value (left_of (is_allowed c) _ are) is within (λ new inner. section-run 0 cs below name attrs new attr value (omega arith) rest inner)
     ] refl
 
 -- ---- white space and names
@@ -203,7 +201,7 @@ naming-run [] below name attrs items attr value are room = ap (λ x. Some (st be
 naming-run (b ∷ cs) below name attrs items attr value are room =
     rw (left_of (is_name_char b) _ are, lt-ltb (length name) MAX_NAME (omega arith))
     (naming-run cs below (name ++ b ∷ []) attrs items attr value (right_of (is_name_char b) _ are) (omega (arith, length-append name (b ∷ [])))
-      ∙ ap (λ x. Some (st below (tree x attrs items) attr value Mode.Naming)) (append_assoc name (b ∷ []) cs))
+    ∙ ap (λ x. Some (st below (tree x attrs items) attr value Mode.Naming)) (append_assoc name (b ∷ []) cs))
 
 -- after `<`, a name opens an element
 pub name-run : (below : List Tree) (top : Tree) (attr value name : List ℕ) → is_name name ≡ true → length below < MAX_NESTED
@@ -223,8 +221,8 @@ listed_octet : (p : ℕ → Bool) (c : ℕ) → c < 128 → p c ≡ true → lis
 listed_octet p c low holds =
     list_any_at p (range_with_len 0 128) c 0 (omega (arith, length-range_with_len 0 128)) (ap p (get_or-range_with_len 0 128 c 0 low ∙ add_nothing c) ∙ holds)
   where
-  add_nothing : (n : ℕ) → 0 + n ≡ n
-  add_nothing n = omega arith
+    add_nothing : (n : ℕ) → 0 + n ≡ n
+    add_nothing n = omega arith
 
 room_one : (m : List ℕ) (c : ℕ) (attrs : List Attr) → is_name_char c ≡ true → length m < 64 → has_name (m ++ c ∷ []) attrs ≡ false → has_room m attrs ≡ true
 room_one m c attrs char small new =
@@ -264,7 +262,7 @@ gap-run : (below : List Tree) (top : Tree) (attr value : List ℕ) (mode : Mode)
 gap-run below top attr value mode [] is are some = absurd (omega arith)
 gap-run below top attr value mode (b ∷ gap) is are some =
     ap (λ o. run o gap) (gap-first below top attr value mode b is (left_of (is_space b) _ are))
-        ∙ spaces_stay (st below top attr value (Mode.Tag true)) (λ x space. rw space refl) gap (right_of (is_space b) _ are)
+    ∙ spaces_stay (st below top attr value (Mode.Tag true)) (λ x space. rw space refl) gap (right_of (is_space b) _ are)
 
 attr-name : (below : List Tree) (top : Tree) (attr value name : List ℕ) → is_name name ≡ true → has_name name top.attrs ≡ false
     → Goes (st below top attr value (Mode.Tag true)) name (st below top name value Mode.Attr)
@@ -285,10 +283,11 @@ before-run : (below : List Tree) (top : Tree) (attr value before : List ℕ) →
 unfolding BeforeEquals
 before-run below top attr value [] new are = (Mode.Attr, refl, rw new refl)
 before-run below top attr value (b ∷ before) new are =
-    let space = left_of (is_space b) _ are in
-    (Mode.Equals,
+    let space = left_of (is_space b) _ are in (
+      Mode.Equals,
       rw (space_apart b space, new, space) (spaces_stay (st below top attr value Mode.Equals) (λ x is. rw is refl) before (right_of (is_space b) _ are)),
-      refl)
+      refl,
+    )
 
 pub quote_cases : (q : ℕ) → (q == 34 || q == 39) ≡ true → (is_space q ≡ false) × (q < 128) × ((38 == q) ≡ false)
 quote_cases q is = (grind (arith, nat_tests), grind (arith, nat_tests), grind (arith, nat_tests))
@@ -299,8 +298,8 @@ quote-run below top attr value q ws is are =
     let cases = quote_cases q is in
     ap (λ o. run o (flat_map written_text ws)) (quoted q cases.0 is) ∙ value-chars q below top attr [] ws cases.1 cases.2 are
   where
-  quoted : (q : ℕ) → is_space q ≡ false → (q == 34 || q == 39) ≡ true → step (st below top attr value Mode.Quote) q ≡ Some (st below top attr [] (Mode.Value q Part.Fresh))
-  quoted q apart is = rw (apart, is) refl
+    quoted : (q : ℕ) → is_space q ≡ false → (q == 34 || q == 39) ≡ true → step (st below top attr value Mode.Quote) q ≡ Some (st below top attr [] (Mode.Value q Part.Fresh))
+    quoted q apart is = rw (apart, is) refl
 
 pub unquote-run : (below : List Tree) (name : List ℕ) (attrs : List Attr) (items : Items) (attr value : List ℕ) (q : ℕ)
     → Goes (st below (tree name attrs items) attr value (Mode.Value q Part.Fresh)) (q ∷ []) (st below (tree name (attrs ++ record { name = attr; value = value } ∷ []) items) attr value (Mode.Tag false))
@@ -341,10 +340,16 @@ attrs-run [] before below name items attr value mode is are =
     (mode, is, (attr, value, ap (λ x. Some (st below (tree name x items) attr value mode)) (sym (append-nil before))))
 attrs-run (a ∷ attrs) before below name items attr value mode is are =
     let one = attr-run below name before items attr value mode a is are.0 are.1 in
-    let rest = attrs-run attrs (before ++ attr_said a ∷ []) below name items one.0 one.1 (Mode.Tag false) (inr (false, refl)) are.2 in
-    (rest.0, rest.1, (rest.2.0, rest.2.1,
-      goes_on (st below (tree name before items) attr value mode) (st below (tree name (before ++ attr_said a ∷ []) items) one.0 one.1 (Mode.Tag false)) _ (attr_text a) (flat_map attr_text attrs) one.2
-        (rest.2.2 ∙ ap (λ x. Some (st below (tree name x items) rest.2.0 rest.2.1 rest.0)) (append_assoc before (attr_said a ∷ []) (map attr_said attrs)))))
+    let rest = attrs-run attrs (before ++ attr_said a ∷ []) below name items one.0 one.1 (Mode.Tag false) (inr (false, refl)) are.2 in (
+      rest.0,
+      rest.1,
+      (
+        rest.2.0,
+        rest.2.1,
+        goes_on (st below (tree name before items) attr value mode) (st below (tree name (before ++ attr_said a ∷ []) items) one.0 one.1 (Mode.Tag false)) _ (attr_text a) (flat_map attr_text attrs) one.2
+            (rest.2.2 ∙ ap (λ x. Some (st below (tree name x items) rest.2.0 rest.2.1 rest.0)) (append_assoc before (attr_said a ∷ []) (map attr_said attrs))),
+      ),
+    )
 
 gap-any : (below : List Tree) (top : Tree) (attr value : List ℕ) (mode : Mode) (gap : List ℕ) → IsTagMode mode → list_all is_space gap ≡ true → TagLeads (st below top attr value mode) gap below top
 gap-any below top attr value mode [] is are = (mode, is, (attr, value, refl))
@@ -376,9 +381,12 @@ after_child below = if is_nil below then Mode.Trail else Mode.Content Part.Fresh
 pub alone-run : (s : State) (below : List Tree) (name : List ℕ) (attrs : List Attr) (items : Items) (attr value : List ℕ) (t : Tag) → step s 60 ≡ Some (st below (tree name attrs items) attr value Mode.Begun) → IsTag t → length below < MAX_NESTED
     → Leads s (tag_text t ++ codes "/>") below (tree name attrs (with_child items t.name (map attr_said t.attrs) nothing)) (after_child below)
 alone-run s below name attrs items attr value t begins is room =
-    let tag = tag-run s below (tree name attrs items) attr value t begins is room in
-    (tag.2.0, tag.2.1, goes_on s (st (tree name attrs items ∷ below) (tree t.name (map attr_said t.attrs) nothing) tag.2.0 tag.2.1 tag.0) _ (tag_text t) (codes "/>") tag.2.2
-      (tag-closes below (tree name attrs items) (tree t.name (map attr_said t.attrs) nothing) tag.2.0 tag.2.1 tag.0 tag.1))
+    let tag = tag-run s below (tree name attrs items) attr value t begins is room in (
+      tag.2.0,
+      tag.2.1,
+      goes_on s (st (tree name attrs items ∷ below) (tree t.name (map attr_said t.attrs) nothing) tag.2.0 tag.2.1 tag.0) _ (tag_text t) (codes "/>") tag.2.2
+          (tag-closes below (tree name attrs items) (tree t.name (map attr_said t.attrs) nothing) tag.2.0 tag.2.1 tag.0 tag.1),
+    )
 
 pub closing-run : (rest front : List ℕ) (below : List Tree) (top : Tree) (attr value : List ℕ) → top.name ≡ front ++ rest
     → Goes (st below top attr value (Mode.Closing (length front))) rest (st below top attr value (Mode.Closing (length top.name)))
@@ -397,17 +405,17 @@ end-gap below top attr value [] are = closing-whole below top attr value (length
 end-gap below top attr value (b ∷ gap) are =
     let space = left_of (is_space b) _ are in
     let closed : step (st below top attr value (Mode.Closing (length top.name))) b ≡ Some (st below top attr value Mode.Closed)
-        = closing-whole below top attr value (length top.name) b (le-ltb (length top.name) (length top.name) (omega arith)) ∙ (rw space refl) in
+    = closing-whole below top attr value (length top.name) b (le-ltb (length top.name) (length top.name) (omega arith)) ∙ (rw space refl) in
     ap (λ o. run o (gap ++ 62 ∷ [])) closed
-        ∙ goes_on (st below top attr value Mode.Closed) (st below top attr value Mode.Closed) _ gap (62 ∷ []) (spaces_stay (st below top attr value Mode.Closed) (λ x is. rw is refl) gap (right_of (is_space b) _ are)) refl
+    ∙ goes_on (st below top attr value Mode.Closed) (st below top attr value Mode.Closed) _ gap (62 ∷ []) (spaces_stay (st below top attr value Mode.Closed) (λ x is. rw is refl) gap (right_of (is_space b) _ are)) refl
 
 -- an end tag
 pub end-run : (below : List Tree) (up top : Tree) (attr value gap : List ℕ) → list_all is_space gap ≡ true
     → run (Some (st (up ∷ below) top attr value (Mode.Content Part.Fresh))) (60 ∷ 47 ∷ top.name ++ gap ++ 62 ∷ []) ≡ ended_in (up ∷ below) top attr value
 end-run below up top attr value gap are =
     ap (run (Some (st (up ∷ below) top attr value (Mode.Closing 0)))) (append_assoc top.name gap (62 ∷ []))
-        ∙ goes_on (st (up ∷ below) top attr value (Mode.Closing 0)) (st (up ∷ below) top attr value (Mode.Closing (length top.name))) _ top.name (gap ++ 62 ∷ []) (closing-run top.name [] (up ∷ below) top attr value refl)
-        (end-gap (up ∷ below) top attr value gap are)
+    ∙ goes_on (st (up ∷ below) top attr value (Mode.Closing 0)) (st (up ∷ below) top attr value (Mode.Closing (length top.name))) _ top.name (gap ++ 62 ∷ []) (closing-run top.name [] (up ∷ below) top attr value refl)
+    (end-gap (up ∷ below) top attr value gap are)
 
 -- an element round others
 pub around-run : (s : State) (below : List Tree) (name : List ℕ) (attrs : List Attr) (items : Items) (attr value : List ℕ) (t : Tag) (inner : Pieces) (gap : List ℕ) → step s 60 ≡ Some (st below (tree name attrs items) attr value Mode.Begun)
@@ -421,14 +429,16 @@ around-run s below name attrs items attr value t inner gap begins is room spaces
     let s1 = st (up ∷ below) (tree t.name (map attr_said t.attrs) nothing) tag.2.0 tag.2.1 tag.0 in
     let s2 = st (up ∷ below) (tree t.name (map attr_said t.attrs) (items_of inner)) held.0 held.1 (Mode.Content Part.Fresh) in
     let opened = goes_on s s1 (Some s2) (tag_text t) (62 ∷ pieces_text inner) tag.2.2
-        (ap (λ o. run o (pieces_text inner)) (tag-opens (up ∷ below) (tree t.name (map attr_said t.attrs) nothing) tag.2.0 tag.2.1 tag.0 tag.1) ∙ held.2) in
-    (held.0, held.1,
+    (ap (λ o. run o (pieces_text inner)) (tag-opens (up ∷ below) (tree t.name (map attr_said t.attrs) nothing) tag.2.0 tag.2.1 tag.0 tag.1) ∙ held.2) in (
+      held.0,
+      held.1,
       ap (run (Some s)) (regroup (tag_text t ++ 62 ∷ pieces_text inner) (60 ∷ 47 ∷ t.name) gap (62 ∷ []))
-        ∙ goes_on s s2 _ (tag_text t ++ 62 ∷ pieces_text inner) (60 ∷ 47 ∷ t.name ++ gap ++ 62 ∷ []) opened
-          (end-run below up (tree t.name (map attr_said t.attrs) (items_of inner)) held.0 held.1 gap spaces))
+          ∙ goes_on s s2 _ (tag_text t ++ 62 ∷ pieces_text inner) (60 ∷ 47 ∷ t.name ++ gap ++ 62 ∷ []) opened
+          (end-run below up (tree t.name (map attr_said t.attrs) (items_of inner)) held.0 held.1 gap spaces),
+    )
   where
-  regroup : (a b c d : List ℕ) → a ++ b ++ c ++ d ≡ a ++ (b ++ c ++ d)
-  regroup a b c d = simp append_assoc
+    regroup : (a b c d : List ℕ) → a ++ b ++ c ++ d ≡ a ++ (b ++ c ++ d)
+    regroup a b c d = simp append_assoc
 
 -- ---- what an element holds
 
@@ -445,28 +455,32 @@ pieces-run (character ps w) below up name attrs attr value is =
     (λ a v. (a, v, content-char (up ∷ below) name attrs (items_of ps) a v Part.Fresh (written_text w) (written_char w) (reads_written 60 w is.1) (λ _. first_written 60 60 w (omega arith) refl (plain_lt 60) is.1)))
 pieces-run (section ps cs) below up name attrs attr value is =
     let whole = leads_on (st (up ∷ below) (tree name attrs nothing) attr value (Mode.Content Part.Fresh)) (up ∷ below) (up ∷ below) (tree name attrs (items_of ps)) (tree name attrs (fold put (items_of ps) cs)) (Mode.Content Part.Fresh) (Mode.Content Part.Fresh)
-        (pieces_text ps) (codes "<![CDATA[" ++ (encode_utf8_all cs ++ codes "]]>")) (pieces-run ps below up name attrs attr value is.0)
-        (λ a v. (a, v, goes_on (st (up ∷ below) (tree name attrs (items_of ps)) a v (Mode.Content Part.Fresh)) (st (up ∷ below) (tree name attrs (items_of ps)) a v (Mode.Section 0 Part.Fresh)) _ (codes "<![CDATA[") (encode_utf8_all cs ++ codes "]]>") (cdata-begins below up (tree name attrs (items_of ps)) a v)
-          (section-run 0 cs (up ∷ below) name attrs (items_of ps) a v (omega arith) is.1 is.2))) in
+    (pieces_text ps) (codes "<![CDATA[" ++ (encode_utf8_all cs ++ codes "]]>")) (pieces-run ps below up name attrs attr value is.0)
+    (λ a v. (
+      a,
+      v,
+      goes_on (st (up ∷ below) (tree name attrs (items_of ps)) a v (Mode.Content Part.Fresh)) (st (up ∷ below) (tree name attrs (items_of ps)) a v (Mode.Section 0 Part.Fresh)) _ (codes "<![CDATA[") (encode_utf8_all cs ++ codes "]]>") (cdata-begins below up (tree name attrs (items_of ps)) a v)
+          (section-run 0 cs (up ∷ below) name attrs (items_of ps) a v (omega arith) is.1 is.2),
+    )) in
     subst (λ (x : List ℕ). Leads (st (up ∷ below) (tree name attrs nothing) attr value (Mode.Content Part.Fresh)) x (up ∷ below) (tree name attrs (fold put (items_of ps) cs)) (Mode.Content Part.Fresh))
     (regroup (pieces_text ps) (codes "<![CDATA[") (encode_utf8_all cs) (codes "]]>")) whole
   where
-  regroup : (a b c d : List ℕ) → a ++ (b ++ (c ++ d)) ≡ a ++ b ++ c ++ d
-  regroup a b c d = sym (simp append_assoc)
+    regroup : (a b c d : List ℕ) → a ++ (b ++ (c ++ d)) ≡ a ++ b ++ c ++ d
+    regroup a b c d = sym (simp append_assoc)
 pieces-run (alone ps t) below up name attrs attr value is =
     subst (λ (x : List ℕ). Leads (st (up ∷ below) (tree name attrs nothing) attr value (Mode.Content Part.Fresh)) x (up ∷ below) (tree name attrs (with_child (items_of ps) t.name (map attr_said t.attrs) nothing)) (Mode.Content Part.Fresh))
     (sym (append_assoc (pieces_text ps) (tag_text t) (codes "/>")))
     (leads_on _ (up ∷ below) (up ∷ below) (tree name attrs (items_of ps)) (tree name attrs (with_child (items_of ps) t.name (map attr_said t.attrs) nothing)) (Mode.Content Part.Fresh) (Mode.Content Part.Fresh) (pieces_text ps) (tag_text t ++ codes "/>")
-      (pieces-run ps below up name attrs attr value is.0) (λ a v. alone-run (st (up ∷ below) (tree name attrs (items_of ps)) a v (Mode.Content Part.Fresh)) (up ∷ below) name attrs (items_of ps) a v t refl is.1 is.2))
+    (pieces-run ps below up name attrs attr value is.0) (λ a v. alone-run (st (up ∷ below) (tree name attrs (items_of ps)) a v (Mode.Content Part.Fresh)) (up ∷ below) name attrs (items_of ps) a v t refl is.1 is.2))
 pieces-run (around ps t inner gap) below up name attrs attr value is =
     subst (λ (x : List ℕ). Leads (st (up ∷ below) (tree name attrs nothing) attr value (Mode.Content Part.Fresh)) x (up ∷ below) (tree name attrs (with_child (items_of ps) t.name (map attr_said t.attrs) (items_of inner))) (Mode.Content Part.Fresh))
     (regroup (pieces_text ps) (tag_text t) (62 ∷ pieces_text inner) (60 ∷ 47 ∷ t.name) gap (62 ∷ []))
     (leads_on _ (up ∷ below) (up ∷ below) (tree name attrs (items_of ps)) (tree name attrs (with_child (items_of ps) t.name (map attr_said t.attrs) (items_of inner))) (Mode.Content Part.Fresh) (Mode.Content Part.Fresh) (pieces_text ps) _
-      (pieces-run ps below up name attrs attr value is.0)
-      (λ a v. around-run (st (up ∷ below) (tree name attrs (items_of ps)) a v (Mode.Content Part.Fresh)) (up ∷ below) name attrs (items_of ps) a v t inner gap refl is.1 is.2 is.4 (λ b w. pieces-run inner (up ∷ below) (tree name attrs (items_of ps)) t.name (map attr_said t.attrs) b w is.3)))
+    (pieces-run ps below up name attrs attr value is.0)
+    (λ a v. around-run (st (up ∷ below) (tree name attrs (items_of ps)) a v (Mode.Content Part.Fresh)) (up ∷ below) name attrs (items_of ps) a v t inner gap refl is.1 is.2 is.4 (λ b w. pieces-run inner (up ∷ below) (tree name attrs (items_of ps)) t.name (map attr_said t.attrs) b w is.3)))
   where
-  regroup : (a b c d e f : List ℕ) → a ++ (b ++ c ++ d ++ e ++ f) ≡ a ++ b ++ c ++ d ++ e ++ f
-  regroup a b c d e f = sym (simp append_assoc)
+    regroup : (a b c d e f : List ℕ) → a ++ (b ++ c ++ d ++ e ++ f) ≡ a ++ b ++ c ++ d ++ e ++ f
+    regroup a b c d e f = sym (simp append_assoc)
 
 -- ---- a body
 
@@ -496,7 +510,9 @@ pub body-run : (t : List ℕ) (e : Tree) → IsBody t e → Leads start t [] (bo
 body-run t e is =
     let root_goes = one-run is.root is.one is.pieces in
     let s1 = st [] (tree [] [] (items_of is.root)) root_goes.0 root_goes.1 Mode.Trail in
-    let first = goes_on start start (Some s1) is.before (pieces_text is.root) (spaces_stay start (λ x space. rw space refl) is.before is.spaces_before) root_goes.2 in
-    (root_goes.0, root_goes.1,
+    let first = goes_on start start (Some s1) is.before (pieces_text is.root) (spaces_stay start (λ x space. rw space refl) is.before is.spaces_before) root_goes.2 in (
+      root_goes.0,
+      root_goes.1,
       ap (run (Some start)) is.text ∙ goes_on start s1 (Some s1) (is.before ++ pieces_text is.root) is.after first (spaces_stay s1 (λ x space. rw space refl) is.after is.spaces_after)
-        ∙ ap (λ x. Some (st [] (tree [] [] x) root_goes.0 root_goes.1 Mode.Trail)) is.value)
+          ∙ ap (λ x. Some (st [] (tree [] [] x) root_goes.0 root_goes.1 Mode.Trail)) is.value,
+    )

@@ -1,11 +1,11 @@
 -- Each step of the machine keeps what the octets say.
-use Rattle.std.proofs.Common.{◌≡◌, ℕ, zero, suc, ◌+◌, ◌-◌, ◌<◌, ◌≤◌, ◌⊎◌, Bool, true, false, ◌&&◌, ◌||◌, not, ◌==◌, nat_lt, nat_le, cond, if◌then◌else◌, List, [], ◌∷◌, ◌++◌, length, map, flat_map, take, fold, replicate, get_or, codes, encode_utf8, encode_utf8_all, inl, inr, Option, Some, None, refl, sym, ap, ap₂, subst, subst₂, true≢false, ◌∙◌, append_assoc, append-nil, arith, length-append, eqb-true, ltb-true, ltb-false, leb-true, le-leb, le-ltb, lt-ltb}
+use Rattle.std.proofs.Common.{◌≡◌, ℕ, zero, suc, ◌+◌, ◌<◌, ◌≤◌, Bool, true, false, ◌&&◌, ◌||◌, ◌==◌, nat_lt, if◌then◌else◌, List, [], ◌∷◌, ◌++◌, length, map, flat_map, take, fold, replicate, get_or, codes, encode_utf8, encode_utf8_all, Option, Some, None, refl, sym, ap, ap₂, subst, subst₂, true≢false, ◌∙◌, append_assoc, append-nil, arith, length-append, eqb-true, ltb-true, ltb-false, le-leb, lt-ltb}
 use Rattle.std.specs.List.{list_all}
 use Rattle.std.proofs.lemmas.List.Folds.{list_all-append}
 use Rattle.std.proofs.lemmas.List.{take_more, take_all, map-append, same_from_push, replicate_more}
 use Rattle.std.proofs.lemmas.Bool.{eqb-false}
 use Rattle.std.proofs.lemmas.Bool.Decides.{nat_tests}
-use Rattle.std.proofs.lemmas.List.Sums.{fold-append, fold_push}
+use Rattle.std.proofs.lemmas.List.Sums.{fold-append}
 use Rattle.std.proofs.lemmas.Str.{encode_ascii, encodes-append}
 use Rattle.std.proofs.lemmas.List.Concat.{flat_map-append}
 use Rattle.beep_text.specs.declared.attr.Attr.{Attr}
@@ -15,14 +15,13 @@ use Rattle.beep_text.specs.declared.mode.Mode.{Mode}
 use Rattle.beep_text.specs.declared.limits.TheConstants.{MAX_NAME, MAX_NESTED}
 use Rattle.beep_text.specs.Characters.{is_space, is_allowed, is_name, is_begun_name, is_name_start, is_name_char}
 use Rattle.beep_text.specs.Lawful.{has_name}
-use Rattle.beep_text.specs.Tree.{Items, Tree, nothing, with_chars, with_child}
-use Rattle.beep_text.specs.Elements.{Written, plain, written_text, written_char, is_written, AttrText, attr_text, attr_said, IsAttrText, AreAttrTexts, Tag, tag_text, IsTag, Pieces, no_pieces, character, section, alone, around, pieces_text, items_of, put, IsSection, IsPieces, IsBody, is_one}
-use Rattle.beep_text.specs.Machine.{State, start, at, step, step_in, lead_step, begun_step, naming_step, tag_step, slash_step, attr_step, equals_step, quote_step, value_step, content_step, bang_step, section_step, closing_step, closed_step, value_taken, content_taken, section_taken, taken_after, char_taken, is_fresh, is_nil, has_room, ended_in, run}
-use Rattle.beep_text.proofs.ElementLemmas.{left_of, right_of, both, is_false}
+use Rattle.beep_text.specs.Tree.{Items, Tree, with_child}
+use Rattle.beep_text.specs.Elements.{Written, written_text, written_char, is_written, AttrText, attr_text, attr_said, IsAttrText, AreAttrTexts, Tag, tag_text, Pieces, no_pieces, character, section, alone, around, pieces_text, items_of, put, IsSection, IsPieces, is_one}
+use Rattle.beep_text.specs.Machine.{State, start, step, step_in, lead_step, begun_step, naming_step, tag_step, slash_step, attr_step, equals_step, quote_step, value_step, content_step, bang_step, section_step, closing_step, closed_step, value_taken, content_taken, section_taken, taken_after, char_taken, is_fresh, is_nil, has_room, ended_in, run}
+use Rattle.beep_text.proofs.ElementLemmas.{left_of, right_of, both}
 use Rattle.beep_text.proofs.WrittenLemmas.{by_test}
-use Rattle.beep_text.proofs.CanonicalLemmas.{name_chars}
-use Rattle.beep_text.proofs.CharLemmas.{PartText, TakenText, WrittenTaken, PlainTaken, char-text, fresh-text, plain-octet, plain-text, IsPlain, IsRef, taken-text}
-use Rattle.beep_text.proofs.ReachedLemmas.{body_top, Inside, IsOpening, Opening, Naming, IsAttrName, IsEquals, IsQuote, IsValue, IsOpen, InSection, Then, ReachedIn, Reached}
+use Rattle.beep_text.proofs.CharLemmas.{PartText, WrittenTaken, PlainTaken, char-text, fresh-text, plain-octet, plain-text}
+use Rattle.beep_text.proofs.ReachedLemmas.{Inside, Opening, Naming, IsAttrName, IsValue, IsOpen, InSection, ReachedIn, Reached}
 
 -- what a step leads to
 abbrev pub Stepped : List ℕ → Option State → Type 0
@@ -63,19 +62,44 @@ attached_in : (ups : List Tree) (up : Tree) (name : List ℕ) (attrs : List Attr
     → ((ps : Pieces) → items_of (make ps) ≡ with_child (items_of ps) name attrs items) → is_one (make no_pieces) ≡ true
     → Stepped t (ended_in (up ∷ ups) (record { name = name; attrs = attrs; items = items }) attr value)
 attached_in [] up name attrs items attr value before t text make inside is texts lawful says one = (
-  record { name = name; attrs = attrs; items = items }, refl,
-  record { before = before; root = make no_pieces; after = []; text = is ∙ sym (ap (λ x. before ++ x) (texts no_pieces)) ∙ sym (append-nil _);
-    spaces_before = inside.0; spaces_after = refl; one = one; pieces = lawful no_pieces tt; value = says no_pieces },
-  ap (λ (u : Tree). record { name = u.name; attrs = u.attrs; items = with_child u.items name attrs items }) inside.1)
+  record { name = name; attrs = attrs; items = items },
+  refl,
+  record {
+    before = before;
+    root = make no_pieces;
+    after = [];
+    text = is ∙ sym (ap (λ x. before ++ x) (texts no_pieces)) ∙ sym (append-nil _);
+    spaces_before = inside.0;
+    spaces_after = refl;
+    one = one;
+    pieces = lawful no_pieces tt;
+    value = says no_pieces;
+  },
+  ap (λ (u : Tree). record { name = u.name; attrs = u.attrs; items = with_child u.items name attrs items }) inside.1,
+)
 attached_in (up2 ∷ ups) up name attrs items attr value before t text make inside is texts lawful says one =
-    let pieces = inside.2 in
-    (refl, (t, [],
-      (inside.0, inside.1, make pieces, inside.3, inside.4, inside.5, lawful pieces inside.6,
-        is ∙ ap (λ x. x ++ text) inside.7 ∙ append_assoc inside.0 (tag_text inside.1 ++ 62 ∷ pieces_text pieces) text
-          ∙ ap (λ x. inside.0 ++ x) (append_assoc (tag_text inside.1) (62 ∷ pieces_text pieces) text ∙ ap (λ x. tag_text inside.1 ++ 62 ∷ x) (sym (texts pieces))),
-        ap (λ (u : Tree). record { name = u.name; attrs = u.attrs; items = with_child u.items name attrs items }) inside.8
-          ∙ ap (λ x. record { name = inside.1.name; attrs = map attr_said inside.1.attrs; items = x }) (sym (says pieces))),
-      refl, sym (append-nil t)))
+    let pieces = inside.2 in (
+      refl,
+      (
+        t,
+        [],
+        (
+          inside.0,
+          inside.1,
+          make pieces,
+          inside.3,
+          inside.4,
+          inside.5,
+          lawful pieces inside.6,
+          is ∙ ap (λ x. x ++ text) inside.7 ∙ append_assoc inside.0 (tag_text inside.1 ++ 62 ∷ pieces_text pieces) text
+              ∙ ap (λ x. inside.0 ++ x) (append_assoc (tag_text inside.1) (62 ∷ pieces_text pieces) text ∙ ap (λ x. tag_text inside.1 ++ 62 ∷ x) (sym (texts pieces))),
+          ap (λ (u : Tree). record { name = u.name; attrs = u.attrs; items = with_child u.items name attrs items }) inside.8
+              ∙ ap (λ x. record { name = inside.1.name; attrs = map attr_said inside.1.attrs; items = x }) (sym (says pieces)),
+        ),
+        refl,
+        sym (append-nil t),
+      ),
+    )
 
 -- ---- the steps
 
@@ -91,7 +115,7 @@ begun : (below : List Tree) (top : Tree) (attr value t : List ℕ) (b : ℕ) →
 begun below top attr value t b is =
     by_test (Stepped (t ++ b ∷ [])) (is_name_start b)
     (λ begins. by_test (Stepped (t ++ b ∷ [])) (nat_lt (length below) MAX_NESTED)
-      (λ room. (is.0, is.1, first_name b begins, ltb-true (length below) MAX_NESTED room, longer t is.0 (60 ∷ []) b is.2, refl, refl)) (λ _. tt)) (λ _.
+    (λ room. (is.0, is.1, first_name b begins, ltb-true (length below) MAX_NESTED room, longer t is.0 (60 ∷ []) b is.2, refl, refl)) (λ _. tt)) (λ _.
     by_test (Stepped (t ++ b ∷ [])) (is_nil below) (λ _. tt) (λ opened.
     by_test (Stepped (t ++ b ∷ [])) (b == 47) (λ same. (is.0, opened, is.1, omega arith, longer_by t is.0 (60 ∷ []) b 47 is.2 (eqb-true b 47 same))) (λ _.
     by_test (Stepped (t ++ b ∷ [])) (b == 33) (λ same. (is.0, opened, is.1, omega arith, longer_by t is.0 (60 ∷ []) b 33 is.2 (eqb-true b 33 same))) (λ _. tt))))
@@ -100,7 +124,14 @@ begun below top attr value t b is =
 opening-space : (below : List Tree) (top : Tree) (gap t : List ℕ) (b : ℕ) → Opening below top gap t → Opening below top (gap ++ b ∷ []) (t ++ b ∷ [])
 opening-space [] top gap t b is = absurd is
 opening-space (up ∷ ups) top gap t b is = record {
-  before = is.before; attrs = is.attrs; inside = is.inside; named = is.named; are = is.are; deep = is.deep; settings = is.settings; items = is.items;
+  before = is.before;
+  attrs = is.attrs;
+  inside = is.inside;
+  named = is.named;
+  are = is.are;
+  deep = is.deep;
+  settings = is.settings;
+  items = is.items;
   text = longer t is.before _ b is.text ∙ ap (λ x. is.before ++ x) (append_assoc (60 ∷ top.name ++ flat_map attr_text is.attrs) gap (b ∷ []));
 }
 
@@ -111,10 +142,26 @@ tag_of top attrs gap = record { name = top.name; attrs = attrs; gap = gap }
 -- a start tag is whole
 opened : (below : List Tree) (top : Tree) (attr value gap t : List ℕ) (b : ℕ) → Opening below top gap t → list_all is_space gap ≡ true → b ≡ 62 → ReachedIn (Mode.Content Part.Fresh) below top attr value (t ++ b ∷ [])
 opened [] top attr value gap t b is spaces same = absurd is
-opened (up ∷ ups) top attr value gap t b is spaces same = (refl, (t ++ b ∷ [], [],
-  (is.before, record { name = top.name; attrs = is.attrs; gap = gap }, no_pieces, is.inside, record { name = is.named; attrs = is.are; gap = spaces }, is.deep, tt,
-    longer_by t is.before _ b 62 is.text same, ap₂ (λ settings items. record { name = top.name; attrs = settings; items = items }) is.settings is.items),
-  refl, sym (append-nil (t ++ b ∷ []))))
+opened (up ∷ ups) top attr value gap t b is spaces same = (
+  refl,
+  (
+    t ++ b ∷ [],
+    [],
+    (
+      is.before,
+      record { name = top.name; attrs = is.attrs; gap = gap },
+      no_pieces,
+      is.inside,
+      record { name = is.named; attrs = is.are; gap = spaces },
+      is.deep,
+      tt,
+      longer_by t is.before _ b 62 is.text same,
+      ap₂ (λ settings items. record { name = top.name; attrs = settings; items = items }) is.settings is.items,
+    ),
+    refl,
+    sym (append-nil (t ++ b ∷ [])),
+  ),
+)
 
 tag : (spaced : Bool) (below : List Tree) (top : Tree) (attr value t : List ℕ) (mode : Mode) (b : ℕ) → ReachedIn (Mode.Tag spaced) below top attr value t
     → Stepped (t ++ b ∷ []) (tag_step spaced (record { below = below; top = top; attr = attr; value = value; mode = mode }) b)
@@ -124,14 +171,21 @@ tag spaced below top attr value t mode b is =
     by_test (Stepped (t ++ b ∷ [])) (b == 47) (λ same. (t, is.0, is.1, is.2, ap (λ x. t ++ x ∷ []) (eqb-true b 47 same))) (λ _.
     by_test (Stepped (t ++ b ∷ [])) (spaced && is_name_start b && has_room (b ∷ []) top.attrs)
     (λ three. let two = left_of (spaced && is_name_start b) _ three in
-      (record { front = t; gap = is.0; opening = is.1; spaces = both _ _ is.2 (sym is.3 ∙ left_of spaced _ two); named = first_name b (right_of spaced _ two); text = refl }, right_of (spaced && is_name_start b) _ three))
+    (record { front = t; gap = is.0; opening = is.1; spaces = both _ _ is.2 (sym is.3 ∙ left_of spaced _ two); named = first_name b (right_of spaced _ two); text = refl }, right_of (spaced && is_name_start b) _ three))
     (λ _. tt))))
 
 -- a start tag of a name alone
 naming-opening : (below : List Tree) (top : Tree) (t : List ℕ) → Naming below top t → Opening below top [] t
 naming-opening [] top t is = is
 naming-opening (up ∷ ups) top t is = record {
-  before = is.0; attrs = []; inside = is.1; named = is.2; are = tt; deep = is.3; settings = is.5; items = is.6;
+  before = is.0;
+  attrs = [];
+  inside = is.1;
+  named = is.2;
+  are = tt;
+  deep = is.3;
+  settings = is.5;
+  items = is.6;
   text = is.4 ∙ ap (λ x. is.0 ++ 60 ∷ x) (sym (append-nil top.name)) ∙ ap (λ x. is.0 ++ 60 ∷ x) (sym (append-nil (top.name ++ [])));
 }
 
@@ -155,14 +209,14 @@ slash (up ∷ ups) top attr value t b is =
     let whole : Tag = record { name = top.name; attrs = o.attrs; gap = is.1 } in
     by_test (Stepped (t ++ b ∷ [])) (b == 62)
     (λ same. attached_in ups up top.name top.attrs top.items attr value o.before (t ++ b ∷ []) (tag_text whole ++ codes "/>") (λ ps. alone ps whole) o.inside
-      (ap (λ x. x ++ b ∷ []) (is.4 ∙ ap (λ x. x ++ 47 ∷ []) o.text) ∙ ap (λ x. o.before ++ tag_text whole ++ 47 ∷ [] ++ x ∷ []) (eqb-true b 62 same) ∙ regroup o.before (tag_text whole))
-      (λ ps. append_assoc (pieces_text ps) (tag_text whole) (codes "/>"))
-      (λ ps lawful. (lawful, record { name = o.named; attrs = o.are; gap = is.3 }, o.deep))
-      (λ ps. ap₂ (with_child (items_of ps) top.name) (sym o.settings) (sym o.items)) refl)
+    (ap (λ x. x ++ b ∷ []) (is.4 ∙ ap (λ x. x ++ 47 ∷ []) o.text) ∙ ap (λ x. o.before ++ tag_text whole ++ 47 ∷ [] ++ x ∷ []) (eqb-true b 62 same) ∙ regroup o.before (tag_text whole))
+    (λ ps. append_assoc (pieces_text ps) (tag_text whole) (codes "/>"))
+    (λ ps lawful. (lawful, record { name = o.named; attrs = o.are; gap = is.3 }, o.deep))
+    (λ ps. ap₂ (with_child (items_of ps) top.name) (sym o.settings) (sym o.items)) refl)
     (λ _. tt)
   where
-  regroup : (a c : List ℕ) → a ++ c ++ 47 ∷ [] ++ 62 ∷ [] ≡ a ++ (c ++ 47 ∷ 62 ∷ [])
-  regroup a c = simp append_assoc
+    regroup : (a c : List ℕ) → a ++ c ++ 47 ∷ [] ++ 62 ∷ [] ≡ a ++ (c ++ 47 ∷ 62 ∷ [])
+    regroup a c = simp append_assoc
 
 -- ---- attributes
 
@@ -181,9 +235,9 @@ attribute below top attr value t b is =
     let name = is.0 in
     by_test (Stepped (t ++ b ∷ [])) (is_name_char b)
     (λ char. by_test (Stepped (t ++ b ∷ [])) (nat_lt (length attr) MAX_NAME && has_room (attr ++ b ∷ []) top.attrs)
-      (λ room. (record { front = name.front; gap = name.gap; opening = name.opening; spaces = name.spaces; named = name_push attr b name.named char (left_of _ _ room); text = longer t name.front attr b name.text }, right_of (nat_lt (length attr) MAX_NAME) _ room)) (λ _. tt))
+    (λ room. (record { front = name.front; gap = name.gap; opening = name.opening; spaces = name.spaces; named = name_push attr b name.named char (left_of _ _ room); text = longer t name.front attr b name.text }, right_of (nat_lt (length attr) MAX_NAME) _ room)) (λ _. tt))
     (λ _. by_test (Stepped (t ++ b ∷ [])) (has_name attr top.attrs) (λ _. tt)
-      (λ new. equals-on below top attr value t [] t Mode.Attr b name new refl (sym (append-nil t))))
+    (λ new. equals-on below top attr value t [] t Mode.Attr b name new refl (sym (append-nil t))))
 
 equals : (below : List Tree) (top : Tree) (attr value t : List ℕ) (b : ℕ) → ReachedIn Mode.Equals below top attr value t
     → Stepped (t ++ b ∷ []) (equals_step (record { below = below; top = top; attr = attr; value = value; mode = Mode.Equals }) b)
@@ -222,7 +276,12 @@ set (up ∷ ups) top attr value t q b is same =
     let o = name.opening in
     let a : AttrText = record { gap = name.gap; name = attr; before = equal.gap; after = quoted.gap; quote = q; value = is.written } in
     record {
-      before = o.before; attrs = o.attrs ++ a ∷ []; inside = o.inside; named = o.named; deep = o.deep; items = o.items;
+      before = o.before;
+      attrs = o.attrs ++ a ∷ [];
+      inside = o.inside;
+      named = o.named;
+      deep = o.deep;
+      items = o.items;
       are = are-push [] o.attrs a o.are (record { gap = name.spaces; name = name.named; before = equal.spaces; after = quoted.spaces; quote = is.is_quote; value = is.are }) (ap (has_name attr) (sym o.settings) ∙ equal.new);
       settings = ap₂ (λ xs x. xs ++ record { name = attr; value = x } ∷ []) o.settings is.said ∙ sym (map-append attr_said o.attrs (a ∷ []));
       text = rw (is.text, quoted.text, equal.text, name.text, o.text) (joined o.before (60 ∷ top.name ++ flat_map attr_text o.attrs) name.gap attr equal.gap quoted.gap (flat_map written_text is.written) q b same
@@ -234,14 +293,23 @@ quote_low q is = grind (arith, nat_tests)
 
 valued : (below : List Tree) (top : Tree) (attr value t : List ℕ) (q : ℕ) (taken : Taken) (front o : List ℕ) → IsValue below top attr value q front → t ≡ front ++ o → WrittenTaken q taken o
     → Stepped t (value_taken (record { below = below; top = top; attr = attr; value = value; mode = Mode.Value q Part.Fresh }) q taken)
-valued below top attr value t q (Taken.Whole c) front o is text said = (t, [], record {
-  front = is.front; written = is.written ++ said.0 ∷ []; quoted = is.quoted; is_quote = is.is_quote;
-  are = list_all-append (is_written q) is.written (said.0 ∷ []) ∙ both _ _ is.are (both _ _ said.3 refl);
-  said = ap₂ (λ x y. x ++ y ∷ []) is.said (sym said.2) ∙ sym (map-append written_char is.written (said.0 ∷ []));
-  text = text ∙ ap₂ (λ x y. x ++ y) is.text (sym (append-nil o) ∙ ap (λ x. x ++ []) (sym said.1))
-      ∙ append_assoc is.front (q ∷ flat_map written_text is.written) (written_text said.0 ++ [])
-      ∙ ap (λ x. is.front ++ q ∷ x) (sym (flat_map-append written_text is.written (said.0 ∷ [])));
-}, refl, sym (append-nil t))
+valued below top attr value t q (Taken.Whole c) front o is text said = (
+  t,
+  [],
+  record {
+    front = is.front;
+    written = is.written ++ said.0 ∷ [];
+    quoted = is.quoted;
+    is_quote = is.is_quote;
+    are = list_all-append (is_written q) is.written (said.0 ∷ []) ∙ both _ _ is.are (both _ _ said.3 refl);
+    said = ap₂ (λ x y. x ++ y ∷ []) is.said (sym said.2) ∙ sym (map-append written_char is.written (said.0 ∷ []));
+    text = text ∙ ap₂ (λ x y. x ++ y) is.text (sym (append-nil o) ∙ ap (λ x. x ++ []) (sym said.1))
+        ∙ append_assoc is.front (q ∷ flat_map written_text is.written) (written_text said.0 ++ [])
+        ∙ ap (λ x. is.front ++ q ∷ x) (sym (flat_map-append written_text is.written (said.0 ∷ [])));
+  },
+  refl,
+  sym (append-nil t),
+)
 valued below top attr value t q (Taken.More part) front o is text said = (front, o, is, said, text)
 valued below top attr value t q Taken.Dead front o is text said = tt
 
@@ -257,7 +325,7 @@ valuing q part below top attr value t b is =
     (λ end. ([], set below top attr value t q b (subst (IsValue below top attr value q) (sym (is.4 ∙ ap (λ x. is.0 ++ x) (fresh-text part is.1 is.3 (left_of (is_fresh part) _ end)) ∙ append-nil is.0)) v) (eqb-true b q (right_of (is_fresh part) _ end)), refl, refl)) (λ not_end.
     by_test (Stepped (t ++ b ∷ [])) (is_fresh part && b == 60) (λ _. tt) (λ not_lt.
     valued below top attr value (t ++ b ∷ []) q (char_taken part b) is.0 (is.1 ++ b ∷ []) v (longer t is.0 is.1 b is.4)
-      (char-text q part b is.1 is.3 (quote_low q v.is_quote) (fresh_false (is_fresh part) _ not_lt) (fresh_false (is_fresh part) _ not_end))))
+    (char-text q part b is.1 is.3 (quote_low q v.is_quote) (fresh_false (is_fresh part) _ not_lt) (fresh_false (is_fresh part) _ not_end))))
 
 -- ---- what an element holds
 
@@ -267,19 +335,33 @@ pieced : (below : List Tree) (top : Tree) (front text : List ℕ) (make : Pieces
     → Inside below (record { name = top.name; attrs = top.attrs; items = says top.items }) (front ++ text)
 pieced [] top front text make says opened inside texts lawful said = absurd (cc opened)
 pieced (up ∷ ups) top front text make says opened inside texts lawful said =
-    let pieces = inside.2 in
-    (inside.0, inside.1, make pieces, inside.3, inside.4, inside.5, lawful (suc (length ups)) pieces inside.6,
+    let pieces = inside.2 in (
+      inside.0,
+      inside.1,
+      make pieces,
+      inside.3,
+      inside.4,
+      inside.5,
+      lawful (suc (length ups)) pieces inside.6,
       ap (λ x. x ++ text) inside.7 ∙ append_assoc inside.0 (tag_text inside.1 ++ 62 ∷ pieces_text pieces) text
-        ∙ ap (λ x. inside.0 ++ x) (append_assoc (tag_text inside.1) (62 ∷ pieces_text pieces) text ∙ ap (λ x. tag_text inside.1 ++ 62 ∷ x) (sym (texts pieces))),
+          ∙ ap (λ x. inside.0 ++ x) (append_assoc (tag_text inside.1) (62 ∷ pieces_text pieces) text ∙ ap (λ x. tag_text inside.1 ++ 62 ∷ x) (sym (texts pieces))),
       ap (λ (u : Tree). record { name = u.name; attrs = u.attrs; items = says u.items }) inside.8
-        ∙ ap (λ x. record { name = inside.1.name; attrs = map attr_said inside.1.attrs; items = x }) (sym (said pieces)))
+          ∙ ap (λ x. record { name = inside.1.name; attrs = map attr_said inside.1.attrs; items = x }) (sym (said pieces)),
+    )
 
 contained : (below : List Tree) (top : Tree) (attr value t : List ℕ) (taken : Taken) (front o : List ℕ) → IsOpen below → Inside below top front → t ≡ front ++ o → WrittenTaken 60 taken o
     → Stepped t (content_taken (record { below = below; top = top; attr = attr; value = value; mode = Mode.Content Part.Fresh }) taken)
-contained below top attr value t (Taken.Whole c) front o opened is text said = (opened, (t, [],
-  subst (Inside below (record { name = top.name; attrs = top.attrs; items = put top.items c })) (ap (λ x. front ++ x) said.1 ∙ sym text)
-    (pieced below top front (written_text said.0) (λ ps. character ps said.0) (λ items. put items c) opened is (λ ps. refl) (λ depth ps lawful. (lawful, said.3)) (λ ps. ap (put (items_of ps)) said.2)),
-  refl, sym (append-nil t)))
+contained below top attr value t (Taken.Whole c) front o opened is text said = (
+  opened,
+  (
+    t,
+    [],
+    subst (Inside below (record { name = top.name; attrs = top.attrs; items = put top.items c })) (ap (λ x. front ++ x) said.1 ∙ sym text)
+        (pieced below top front (written_text said.0) (λ ps. character ps said.0) (λ items. put items c) opened is (λ ps. refl) (λ depth ps lawful. (lawful, said.3)) (λ ps. ap (put (items_of ps)) said.2)),
+    refl,
+    sym (append-nil t),
+  ),
+)
 contained below top attr value t (Taken.More part) front o opened is text said = (opened, (front, o, is, said, text))
 contained below top attr value t Taken.Dead front o opened is text said = tt
 
@@ -290,7 +372,7 @@ content part below top attr value t b is =
     by_test (Stepped (t ++ b ∷ [])) (is_fresh part && b == 60)
     (λ begins. (held.0, held.2, ap₂ (λ x y. x ++ y ∷ []) (held.4 ∙ ap (λ x. held.0 ++ x) (fresh-text part held.1 held.3 (left_of (is_fresh part) _ begins)) ∙ append-nil held.0) (eqb-true b 60 (right_of (is_fresh part) _ begins))))
     (λ other. contained below top attr value (t ++ b ∷ []) (char_taken part b) held.0 (held.1 ++ b ∷ []) is.0 held.2 (longer t held.0 held.1 b held.4)
-      (char-text 60 part b held.1 held.3 (omega arith) (fresh_false (is_fresh part) _ other) (fresh_false (is_fresh part) _ other)))
+    (char-text 60 part b held.1 held.3 (omega arith) (fresh_false (is_fresh part) _ other) (fresh_false (is_fresh part) _ other)))
 
 bang : (n : ℕ) (below : List Tree) (top : Tree) (attr value t : List ℕ) (b : ℕ) → ReachedIn (Mode.Bang n) below top attr value t
     → Stepped (t ++ b ∷ []) (bang_step (record { below = below; top = top; attr = attr; value = value; mode = Mode.Bang n }) n b)
@@ -298,16 +380,36 @@ bang n below top attr value t b is =
     let opens = codes "[CDATA[" in
     by_test (Stepped (t ++ b ∷ [])) (nat_lt n 7 && b == get_or opens n 0)
     (λ goes. let small : n < 7 = ltb-true n 7 (left_of (nat_lt n 7) _ goes) in
-      let text = longer t is.0 (60 ∷ 33 ∷ take n opens) b is.4 ∙ ap (λ x. is.0 ++ (60 ∷ 33 ∷ take n opens ++ x ∷ [])) (eqb-true b _ (right_of (nat_lt n 7) _ goes)) ∙ ap (λ x. is.0 ++ (60 ∷ 33 ∷ x)) (sym (take_more opens n 0 small)) in
-      by_test (Stepped (t ++ b ∷ [])) (n == 6)
-      (λ last. ((t ++ b ∷ [], [], record {
-          front = is.0; holder = top; cs = []; inside = is.2; opened = is.1; allowed = refl; within = no_end_of_none; few = omega arith; last = λ _ _ before same. absurd (omega (arith, ap length same, length-append before (93 ∷ []))); part = λ other. absurd (cc other);
-          top_is = refl; text = text ∙ ap (λ k. is.0 ++ (60 ∷ 33 ∷ take (k + 1) opens)) (eqb-true n 6 last) }, refl, sym (append-nil (t ++ b ∷ []))), refl))
-      (λ other. (is.0, is.1, is.2, (let differs = eqb-false n 6 other in omega (arith, differs)), text)))
+    let text = longer t is.0 (60 ∷ 33 ∷ take n opens) b is.4 ∙ ap (λ x. is.0 ++ (60 ∷ 33 ∷ take n opens ++ x ∷ [])) (eqb-true b _ (right_of (nat_lt n 7) _ goes)) ∙ ap (λ x. is.0 ++ (60 ∷ 33 ∷ x)) (sym (take_more opens n 0 small)) in
+    by_test (Stepped (t ++ b ∷ [])) (n == 6)
+    (λ last. (
+      (
+        t ++ b ∷ [],
+        [],
+        record {
+          front = is.0;
+          holder = top;
+          cs = [];
+          inside = is.2;
+          opened = is.1;
+          allowed = refl;
+          within = no_end_of_none;
+          few = omega arith;
+          last = λ _ _ before same. absurd (omega (arith, ap length same, length-append before (93 ∷ [])));
+          part = λ other. absurd (cc other);
+          top_is = refl;
+          text = text ∙ ap (λ k. is.0 ++ (60 ∷ 33 ∷ take (k + 1) opens)) (eqb-true n 6 last);
+        },
+        refl,
+        sym (append-nil (t ++ b ∷ [])),
+      ),
+      refl,
+    ))
+    (λ other. (is.0, is.1, is.2, (let differs = eqb-false n 6 other in omega (arith, differs)), text)))
     (λ _. tt)
   where
-  no_end_of_none : IsSection []
-  no_end_of_none front back same = absurd (omega (arith, ap length same, length-append (front ++ codes "]]>") back, length-append front (codes "]]>")))
+    no_end_of_none : IsSection []
+    no_end_of_none front back same = absurd (omega (arith, ap length same, length-append (front ++ codes "]]>") back, length-append front (codes "]]>")))
 
 -- ---- CDATA sections
 
@@ -351,10 +453,16 @@ run_text front cs ds es t said is = is ∙ ap (λ x. front ++ x) (append_assoc (
 -- a section in the middle of a character
 section-part : (below : List Tree) (top : Tree) (k : ℕ) (fresh : Bool) (t : List ℕ) → InSection below top k fresh t → InSection below (record { name = top.name; attrs = top.attrs; items = fold put top.items (replicate k 93) }) 0 false t
 section-part below top k fresh t is = record {
-  front = is.front; holder = is.holder; cs = is.cs ++ replicate k 93; inside = is.inside; opened = is.opened;
+  front = is.front;
+  holder = is.holder;
+  cs = is.cs ++ replicate k 93;
+  inside = is.inside;
+  opened = is.opened;
   allowed = list_all-append is_allowed is.cs (replicate k 93) ∙ both _ _ is.allowed (allowed_run k);
   within = subst IsSection (sym (append-nil (is.cs ++ replicate k 93))) is.within;
-  few = omega arith; last = λ other. absurd (cc other); part = λ _. refl;
+  few = omega arith;
+  last = λ other. absurd (cc other);
+  part = λ _. refl;
   top_is = run_top is.holder top is.cs (replicate k 93) is.top_is;
   text = run_text is.front is.cs (replicate k 93) (replicate k 93) t (encoded_run k) is.text;
 }
@@ -364,7 +472,11 @@ section-char : (below : List Tree) (top : Tree) (k c : ℕ) (fresh : Bool) (fron
     → (c ≡ 62 → (k < 2) × (fresh ≡ true))
     → InSection below (record { name = top.name; attrs = top.attrs; items = put (fold put top.items (replicate k 93)) c }) 0 true (front ++ o)
 section-char below top k c fresh front o is said allowed other ends = record {
-  front = is.front; holder = is.holder; cs = is.cs ++ (replicate k 93 ++ c ∷ []); inside = is.inside; opened = is.opened;
+  front = is.front;
+  holder = is.holder;
+  cs = is.cs ++ (replicate k 93 ++ c ∷ []);
+  inside = is.inside;
+  opened = is.opened;
   allowed = list_all-append is_allowed is.cs (replicate k 93 ++ c ∷ []) ∙ both _ _ is.allowed (list_all-append is_allowed (replicate k 93) (c ∷ []) ∙ both _ _ (allowed_run k) (both _ _ allowed refl));
   within = subst IsSection (append_assoc is.cs (replicate k 93) (c ∷ []) ∙ sym (append-nil (is.cs ++ (replicate k 93 ++ c ∷ []))))
       (section_push (is.cs ++ replicate k 93) c is.within (λ c62 before same. is.last (ends c62).1 (ends c62).0 (front_of before) (same ∙ two k (ends c62).0 before)));
@@ -376,12 +488,13 @@ section-char below top k c fresh front o is said allowed other ends = record {
       (ap (λ x. x ++ o) is.text ∙ append_assoc is.front _ o ∙ ap (λ x. is.front ++ x) (append_assoc (codes "<![CDATA[" ++ encode_utf8_all is.cs) (replicate k 93) o));
 }
   where
-  front_of : List ℕ → List ℕ
-  front_of before = if k == 0 then before ++ 93 ∷ [] else before
-  two : (k : ℕ) → k < 2 → (before : List ℕ) → before ++ 93 ∷ 93 ∷ [] ≡ (if k == 0 then before ++ 93 ∷ [] else before) ++ replicate (suc k) 93
-  two zero small before = sym (append_assoc before (93 ∷ []) (93 ∷ []))
-  two (suc zero) small before = refl
-  two (suc (suc k)) small before = absurd (omega arith)
+    front_of : List ℕ → List ℕ
+    front_of before = if k == 0 then before ++ 93 ∷ [] else before
+
+    two : (k : ℕ) → k < 2 → (before : List ℕ) → before ++ 93 ∷ 93 ∷ [] ≡ (if k == 0 then before ++ 93 ∷ [] else before) ++ replicate (suc k) 93
+    two zero small before = sym (append_assoc before (93 ∷ []) (93 ∷ []))
+    two (suc zero) small before = refl
+    two (suc (suc k)) small before = absurd (omega arith)
 
 closed-on : (below : List Tree) (top : Tree) (attr value front gap t : List ℕ) (mode : Mode) (b : ℕ) → IsOpen below → Inside below top front → list_all is_space gap ≡ true → t ≡ front ++ (60 ∷ 47 ∷ top.name ++ gap)
     → Stepped (t ++ b ∷ []) (closed_step (record { below = below; top = top; attr = attr; value = value; mode = mode }) b)
@@ -391,27 +504,28 @@ closed-on (up ∷ ups) top attr value front gap t mode b opened inside spaces te
     (λ space. (front, gap ++ b ∷ [], opened, inside, all_push is_space gap b spaces space, longer t front (60 ∷ 47 ∷ top.name ++ gap) b text ∙ ap (λ x. front ++ (60 ∷ 47 ∷ x)) (append_assoc top.name gap (b ∷ [])))) (λ _.
     by_test (Stepped (t ++ b ∷ [])) (b == 62)
     (λ same. subst (λ (x : Tree). Stepped (t ++ b ∷ []) (ended_in (up ∷ ups) x attr value)) (sym inside.8)
-      (attached_in ups up inside.1.name (map attr_said inside.1.attrs) (items_of inside.2) attr value inside.0 (t ++ b ∷ [])
-        (tag_text inside.1 ++ 62 ∷ pieces_text inside.2 ++ 60 ∷ 47 ∷ inside.1.name ++ gap ++ 62 ∷ []) (λ ps. around ps inside.1 inside.2 gap) inside.3
-        (longer_by t front (60 ∷ 47 ∷ top.name ++ gap) b 62 text (eqb-true b 62 same) ∙ ap₂ (λ x (y : Tree). x ++ (60 ∷ 47 ∷ y.name ++ gap ++ 62 ∷ [])) inside.7 inside.8 ∙ regroup inside.0 (tag_text inside.1) (pieces_text inside.2) inside.1.name gap)
-        (λ ps. regroup-after (pieces_text ps) (tag_text inside.1) (62 ∷ pieces_text inside.2) (60 ∷ 47 ∷ inside.1.name) gap (62 ∷ []))
-        (λ ps lawful. (lawful, inside.4, inside.5, inside.6, spaces)) (λ ps. refl) refl))
+    (attached_in ups up inside.1.name (map attr_said inside.1.attrs) (items_of inside.2) attr value inside.0 (t ++ b ∷ [])
+    (tag_text inside.1 ++ 62 ∷ pieces_text inside.2 ++ 60 ∷ 47 ∷ inside.1.name ++ gap ++ 62 ∷ []) (λ ps. around ps inside.1 inside.2 gap) inside.3
+    (longer_by t front (60 ∷ 47 ∷ top.name ++ gap) b 62 text (eqb-true b 62 same) ∙ ap₂ (λ x (y : Tree). x ++ (60 ∷ 47 ∷ y.name ++ gap ++ 62 ∷ [])) inside.7 inside.8 ∙ regroup inside.0 (tag_text inside.1) (pieces_text inside.2) inside.1.name gap)
+    (λ ps. regroup-after (pieces_text ps) (tag_text inside.1) (62 ∷ pieces_text inside.2) (60 ∷ 47 ∷ inside.1.name) gap (62 ∷ []))
+    (λ ps lawful. (lawful, inside.4, inside.5, inside.6, spaces)) (λ ps. refl) refl))
     (λ _. tt))
   where
-  regroup : (a tag inner name gap : List ℕ) → (a ++ (tag ++ 62 ∷ inner)) ++ (60 ∷ 47 ∷ name ++ gap ++ 62 ∷ []) ≡ a ++ (tag ++ 62 ∷ inner ++ 60 ∷ 47 ∷ name ++ gap ++ 62 ∷ [])
-  regroup a tag inner name gap = simp append_assoc
-  regroup-after : (a b c d e f : List ℕ) → a ++ b ++ c ++ d ++ e ++ f ≡ a ++ (b ++ c ++ d ++ e ++ f)
-  regroup-after a b c d e f = simp append_assoc
+    regroup : (a tag inner name gap : List ℕ) → (a ++ (tag ++ 62 ∷ inner)) ++ (60 ∷ 47 ∷ name ++ gap ++ 62 ∷ []) ≡ a ++ (tag ++ 62 ∷ inner ++ 60 ∷ 47 ∷ name ++ gap ++ 62 ∷ [])
+    regroup a tag inner name gap = simp append_assoc
+
+    regroup-after : (a b c d e f : List ℕ) → a ++ b ++ c ++ d ++ e ++ f ≡ a ++ (b ++ c ++ d ++ e ++ f)
+    regroup-after a b c d e f = simp append_assoc
 
 closing : (n : ℕ) (below : List Tree) (top : Tree) (attr value t : List ℕ) (b : ℕ) → ReachedIn (Mode.Closing n) below top attr value t
     → Stepped (t ++ b ∷ []) (closing_step (record { below = below; top = top; attr = attr; value = value; mode = Mode.Closing n }) n b)
 closing n below top attr value t b is =
     by_test (Stepped (t ++ b ∷ [])) (nat_lt n (length top.name))
     (λ more. let small : n < length top.name = ltb-true n (length top.name) more in
-      by_test (Stepped (t ++ b ∷ [])) (b == get_or top.name n 0)
-      (λ same. (is.0, is.1, is.2, omega arith, longer t is.0 (60 ∷ 47 ∷ take n top.name) b is.4 ∙ ap (λ x. is.0 ++ (60 ∷ 47 ∷ take n top.name ++ x ∷ [])) (eqb-true b _ same) ∙ ap (λ x. is.0 ++ (60 ∷ 47 ∷ x)) (sym (take_more top.name n 0 small)))) (λ _. tt))
+    by_test (Stepped (t ++ b ∷ [])) (b == get_or top.name n 0)
+    (λ same. (is.0, is.1, is.2, omega arith, longer t is.0 (60 ∷ 47 ∷ take n top.name) b is.4 ∙ ap (λ x. is.0 ++ (60 ∷ 47 ∷ take n top.name ++ x ∷ [])) (eqb-true b _ same) ∙ ap (λ x. is.0 ++ (60 ∷ 47 ∷ x)) (sym (take_more top.name n 0 small)))) (λ _. tt))
     (λ whole. closed-on below top attr value is.0 [] t (Mode.Closing n) b is.1 is.2 refl
-      (is.4 ∙ ap (λ x. is.0 ++ (60 ∷ 47 ∷ x)) (take_all n top.name (ltb-false n (length top.name) whole)) ∙ ap (λ x. is.0 ++ (60 ∷ 47 ∷ x)) (sym (append-nil top.name))))
+    (is.4 ∙ ap (λ x. is.0 ++ (60 ∷ 47 ∷ x)) (take_all n top.name (ltb-false n (length top.name) whole)) ∙ ap (λ x. is.0 ++ (60 ∷ 47 ∷ x)) (sym (append-nil top.name))))
 
 closed : (below : List Tree) (top : Tree) (attr value t : List ℕ) (b : ℕ) → ReachedIn Mode.Closed below top attr value t
     → Stepped (t ++ b ∷ []) (closed_step (record { below = below; top = top; attr = attr; value = value; mode = Mode.Closed }) b)
@@ -422,9 +536,22 @@ trail : (below : List Tree) (top : Tree) (attr value t : List ℕ) (b : ℕ) →
 trail below top attr value t b is =
     let body = is.2 in
     by_test (Stepped (t ++ b ∷ [])) (is_space b)
-    (λ space. (is.0, is.1, record {
-      before = body.before; root = body.root; after = body.after ++ b ∷ []; text = longer t (body.before ++ pieces_text body.root) body.after b body.text;
-      spaces_before = body.spaces_before; spaces_after = all_push is_space body.after b body.spaces_after space; one = body.one; pieces = body.pieces; value = body.value }, is.3))
+    (λ space. (
+      is.0,
+      is.1,
+      record {
+        before = body.before;
+        root = body.root;
+        after = body.after ++ b ∷ [];
+        text = longer t (body.before ++ pieces_text body.root) body.after b body.text;
+        spaces_before = body.spaces_before;
+        spaces_after = all_push is_space body.after b body.spaces_after space;
+        one = body.one;
+        pieces = body.pieces;
+        value = body.value;
+      },
+      is.3,
+    ))
     (λ _. tt)
 
 one_more : (k : ℕ) (cs : List ℕ) → (cs ++ replicate k 93) ++ 93 ∷ [] ≡ cs ++ replicate (suc k) 93
@@ -435,11 +562,17 @@ one_more k cs =
 -- one more `]`
 dash-more : (below : List Tree) (top : Tree) (k : ℕ) (fresh : Bool) (t : List ℕ) → InSection below top k fresh t → fresh ≡ true → k < 2 → InSection below top (suc k) true (t ++ 93 ∷ [])
 dash-more below top k fresh t is are small = record {
-  front = is.front; holder = is.holder; cs = is.cs; inside = is.inside; opened = is.opened; allowed = is.allowed;
+  front = is.front;
+  holder = is.holder;
+  cs = is.cs;
+  inside = is.inside;
+  opened = is.opened;
+  allowed = is.allowed;
   within = subst IsSection (one_more k is.cs) (section_push (is.cs ++ replicate k 93) 93 is.within (λ same. absurd (omega (arith, same))));
   few = omega arith;
   last = λ _ less before same. is.last are small before (same_from_push _ _ 93 93 (one_more k is.cs ∙ same ∙ sym (one_more (suc k) before))).0;
-  part = λ other. absurd (cc other); top_is = is.top_is;
+  part = λ other. absurd (cc other);
+  top_is = is.top_is;
   text = ap (λ x. x ++ 93 ∷ []) is.text ∙ append_assoc is.front _ (93 ∷ []) ∙ ap (λ x. is.front ++ x) (one_more k (codes "<![CDATA[" ++ encode_utf8_all is.cs));
 }
 
@@ -449,17 +582,23 @@ dash-two : (below : List Tree) (top : Tree) (k : ℕ) (fresh : Bool) (t : List �
 dash-two below top k fresh t is large =
     let two : k ≡ 2 = (let few = is.few in omega arith) in
     record {
-      front = is.front; holder = is.holder; cs = is.cs ++ 93 ∷ []; inside = is.inside; opened = is.opened;
+      front = is.front;
+      holder = is.holder;
+      cs = is.cs ++ 93 ∷ [];
+      inside = is.inside;
+      opened = is.opened;
       allowed = all_push is_allowed is.cs 93 is.allowed refl;
       within = subst IsSection (ap (λ n. (is.cs ++ replicate n 93) ++ 93 ∷ []) two ∙ three is.cs) (section_push (is.cs ++ replicate k 93) 93 is.within (λ same. absurd (omega (arith, same))));
-      few = omega arith; last = λ _ less. absurd (omega arith); part = λ other. absurd (cc other);
+      few = omega arith;
+      last = λ _ less. absurd (omega arith);
+      part = λ other. absurd (cc other);
       top_is = run_top is.holder top is.cs (93 ∷ []) is.top_is;
       text = ap (λ x. x ++ 93 ∷ []) is.text ∙ ap (λ n. (is.front ++ (codes "<![CDATA[" ++ encode_utf8_all is.cs ++ replicate n 93)) ++ 93 ∷ []) two ∙ append_assoc is.front _ (93 ∷ []) ∙ ap (λ x. is.front ++ x) (three (codes "<![CDATA[" ++ encode_utf8_all is.cs)
           ∙ ap (λ x. x ++ 93 ∷ 93 ∷ []) (append_assoc (codes "<![CDATA[") (encode_utf8_all is.cs) (93 ∷ []) ∙ ap (λ x. codes "<![CDATA[" ++ x) (ap (λ x. encode_utf8_all is.cs ++ x) (sym (encoded_run 1)) ∙ sym (encodes-append is.cs (93 ∷ [])))));
     }
   where
-  three : (cs : List ℕ) → (cs ++ 93 ∷ 93 ∷ []) ++ 93 ∷ [] ≡ (cs ++ 93 ∷ []) ++ 93 ∷ 93 ∷ []
-  three cs = simp append_assoc
+    three : (cs : List ℕ) → (cs ++ 93 ∷ 93 ∷ []) ++ 93 ∷ [] ≡ (cs ++ 93 ∷ []) ++ 93 ∷ 93 ∷ []
+    three cs = simp append_assoc
 
 -- the section ends
 section-end : (below : List Tree) (top : Tree) (k : ℕ) (fresh : Bool) (t : List ℕ) → InSection below top k fresh t → k ≡ 2 → Inside below top (t ++ 62 ∷ [])
@@ -468,30 +607,38 @@ section-end below top k fresh t is two =
     let whole = codes "<![CDATA[" ++ encode_utf8_all cs ++ codes "]]>" in
     let text : t ++ 62 ∷ [] ≡ is.front ++ whole = ap (λ x. x ++ 62 ∷ []) is.text ∙ ap (λ n. (is.front ++ (codes "<![CDATA[" ++ encode_utf8_all cs ++ replicate n 93)) ++ 62 ∷ []) two ∙ regroup is.front (codes "<![CDATA[" ++ encode_utf8_all cs) in
     let held = pieced below is.holder is.front whole (λ ps. section ps cs) (λ items. fold put items cs) is.opened is.inside
-        (λ ps. regroup-after (pieces_text ps) (codes "<![CDATA[") (encode_utf8_all cs) (codes "]]>")) (λ depth ps lawful. (lawful, is.allowed, section_front cs (replicate k 93) is.within)) (λ ps. refl) in
+    (λ ps. regroup-after (pieces_text ps) (codes "<![CDATA[") (encode_utf8_all cs) (codes "]]>")) (λ depth ps lawful. (lawful, is.allowed, section_front cs (replicate k 93) is.within)) (λ ps. refl) in
     subst₂ (λ (x : Tree) (y : List ℕ). Inside below x y) (sym is.top_is) (sym text) held
   where
-  regroup : (a b : List ℕ) → (a ++ (b ++ 93 ∷ 93 ∷ [])) ++ 62 ∷ [] ≡ a ++ (b ++ 93 ∷ 93 ∷ 62 ∷ [])
-  regroup a b = simp append_assoc
-  regroup-after : (a b c d : List ℕ) → a ++ b ++ c ++ d ≡ a ++ (b ++ c ++ d)
-  regroup-after a b c d = simp append_assoc
+    regroup : (a b : List ℕ) → (a ++ (b ++ 93 ∷ 93 ∷ [])) ++ 62 ∷ [] ≡ a ++ (b ++ 93 ∷ 93 ∷ 62 ∷ [])
+    regroup a b = simp append_assoc
+
+    regroup-after : (a b c d : List ℕ) → a ++ b ++ c ++ d ≡ a ++ (b ++ c ++ d)
+    regroup-after a b c d = simp append_assoc
 
 -- what an octet of a character does to a section
 sectioned : (k : ℕ) (part : Part) (below : List Tree) (top : Tree) (attr value t front o : List ℕ) (b : ℕ) (taken : Taken) → InSection below top k (is_fresh part) front → PartText part o → (is_fresh part ≡ true → (b == 93) ≡ false)
     → (is_fresh part ≡ true → (b == 62) ≡ true → k < 2) → t ≡ front ++ (o ++ b ∷ []) → PlainTaken taken (o ++ b ∷ [])
     → Stepped t (section_taken (record { below = below; top = record { name = top.name; attrs = top.attrs; items = fold put top.items (replicate k 93) }; attr = attr; value = value; mode = Mode.Section k part }) taken)
-sectioned k part below top attr value t front o b (Taken.Whole c) is held other ends text plain_is = ((t, [],
-  subst (InSection below (record { name = top.name; attrs = top.attrs; items = put (fold put top.items (replicate k 93)) c }) 0 true) (sym text)
-    (section-char below top k c (is_fresh part) front (o ++ b ∷ []) is plain_is.text plain_is.allowed (plain-octet part b c o held plain_is 93 (omega arith) other) (λ c62. few (is_fresh part) refl c62)),
-  refl, sym (append-nil t)), refl)
+sectioned k part below top attr value t front o b (Taken.Whole c) is held other ends text plain_is = (
+  (
+    t,
+    [],
+    subst (InSection below (record { name = top.name; attrs = top.attrs; items = put (fold put top.items (replicate k 93)) c }) 0 true) (sym text)
+        (section-char below top k c (is_fresh part) front (o ++ b ∷ []) is plain_is.text plain_is.allowed (plain-octet part b c o held plain_is 93 (omega arith) other) (λ c62. few (is_fresh part) refl c62)),
+    refl,
+    sym (append-nil t),
+  ),
+  refl,
+)
   where
-  few : (f : Bool) → is_fresh part ≡ f → c ≡ 62 → (k < 2) × (is_fresh part ≡ true)
-  few false f c62 = absurd (eqb-false c 62 (plain-octet part b c o held plain_is 62 (omega arith) (λ fresh. absurd (true≢false (sym fresh ∙ f)))) c62)
-  few true f c62 = (by_octet (b == 62) refl, f)
-    where
-    by_octet : (x : Bool) → (b == 62) ≡ x → k < 2
-    by_octet true same = ends f same
-    by_octet false differs = absurd (eqb-false c 62 (plain-octet part b c o held plain_is 62 (omega arith) (λ _. differs)) c62)
+    few : (f : Bool) → is_fresh part ≡ f → c ≡ 62 → (k < 2) × (is_fresh part ≡ true)
+    few false f c62 = absurd (eqb-false c 62 (plain-octet part b c o held plain_is 62 (omega arith) (λ fresh. absurd (true≢false (sym fresh ∙ f)))) c62)
+    few true f c62 = (by_octet (b == 62) refl, f)
+      where
+        by_octet : (x : Bool) → (b == 62) ≡ x → k < 2
+        by_octet true same = ends f same
+        by_octet false differs = absurd (eqb-false c 62 (plain-octet part b c o held plain_is 62 (omega arith) (λ _. differs)) c62)
 sectioned k part below top attr value t front o b (Taken.More after) is held other ends text more =
     ((front, o ++ b ∷ [], subst (λ (f : Bool). InSection below (record { name = top.name; attrs = top.attrs; items = fold put top.items (replicate k 93) }) 0 f front) (sym more.2) (section-part below top k (is_fresh part) front is), more.0, text), more.1)
 sectioned k part below top attr value t front o b Taken.Dead is held other ends text dead = tt
@@ -503,17 +650,17 @@ sectioning k part below top attr value t b is =
     let there = λ (fresh : is_fresh part ≡ true). held.4 ∙ ap (λ x. held.0 ++ x) (fresh-text part held.1 held.3 fresh) ∙ append-nil held.0 in
     by_test (Stepped (t ++ b ∷ [])) (is_fresh part && b == 93)
     (λ dash. let fresh = left_of (is_fresh part) _ dash in
-      let text = ap₂ (λ x y. x ++ y ∷ []) (there fresh) (eqb-true b 93 (right_of (is_fresh part) _ dash)) in
-      by_test (Stepped (t ++ b ∷ [])) (nat_lt k 2)
-      (λ less. ((t ++ b ∷ [], [], subst₂ (λ n (x : List ℕ). InSection below top n true x) (omega arith) (sym text) (dash-more below top k (is_fresh part) held.0 held.2 fresh (ltb-true k 2 less)), refl, sym (append-nil _)), refl))
-      (λ more. ((t ++ b ∷ [], [], subst (InSection below (record { name = top.name; attrs = top.attrs; items = put top.items 93 }) 2 true) (sym text) (dash-two below top k (is_fresh part) held.0 held.2 (ltb-false k 2 more)), refl, sym (append-nil _)), refl))) (λ no_dash.
+    let text = ap₂ (λ x y. x ++ y ∷ []) (there fresh) (eqb-true b 93 (right_of (is_fresh part) _ dash)) in
+    by_test (Stepped (t ++ b ∷ [])) (nat_lt k 2)
+    (λ less. ((t ++ b ∷ [], [], subst₂ (λ n (x : List ℕ). InSection below top n true x) (omega arith) (sym text) (dash-more below top k (is_fresh part) held.0 held.2 fresh (ltb-true k 2 less)), refl, sym (append-nil _)), refl))
+    (λ more. ((t ++ b ∷ [], [], subst (InSection below (record { name = top.name; attrs = top.attrs; items = put top.items 93 }) 2 true) (sym text) (dash-two below top k (is_fresh part) held.0 held.2 (ltb-false k 2 more)), refl, sym (append-nil _)), refl))) (λ no_dash.
     by_test (Stepped (t ++ b ∷ [])) (is_fresh part && b == 62 && k == 2)
     (λ end. let two_hold = left_of (is_fresh part && b == 62) _ end in
-      let text = ap₂ (λ x y. x ++ y ∷ []) (there (left_of (is_fresh part) _ two_hold)) (eqb-true b 62 (right_of (is_fresh part) _ two_hold)) in
-      (held.2.opened, (t ++ b ∷ [], [], subst (Inside below top) (sym text) (section-end below top k (is_fresh part) held.0 held.2 (eqb-true k 2 (right_of (is_fresh part && b == 62) _ end))), refl, sym (append-nil _)))) (λ no_end.
+    let text = ap₂ (λ x y. x ++ y ∷ []) (there (left_of (is_fresh part) _ two_hold)) (eqb-true b 62 (right_of (is_fresh part) _ two_hold)) in
+    (held.2.opened, (t ++ b ∷ [], [], subst (Inside below top) (sym text) (section-end below top k (is_fresh part) held.0 held.2 (eqb-true k 2 (right_of (is_fresh part && b == 62) _ end))), refl, sym (append-nil _)))) (λ no_end.
     sectioned k part below top attr value (t ++ b ∷ []) held.0 held.1 b (taken_after part b) held.2 held.3 (fresh_false (is_fresh part) _ no_dash)
-      (λ fresh same. let few = held.2.few in let differs = eqb-false k 2 (fresh_false (is_fresh part && b == 62) _ no_end (both _ _ fresh same)) in omega (arith, differs))
-      (longer t held.0 held.1 b held.4) (plain-text part b held.1 held.3 is.1)))
+    (λ fresh same. let few = held.2.few in let differs = eqb-false k 2 (fresh_false (is_fresh part && b == 62) _ no_end (both _ _ fresh same)) in omega (arith, differs))
+    (longer t held.0 held.1 b held.4) (plain-text part b held.1 held.3 is.1)))
 
 -- ---- any step
 
@@ -549,9 +696,9 @@ run-reached s t [] is = subst (λ (x : List ℕ). Reached s x) (sym (append-nil 
 run-reached s t (b ∷ more) is =
     subst (λ (x : List ℕ). Stepped x (run (step s b) more)) (append_assoc t (b ∷ []) more) (further (λ x. run-reached x (t ++ b ∷ []) more) (step s b) (step-reached s t b is))
   where
-  further : ((x : State) → Reached x (t ++ b ∷ []) → Stepped ((t ++ b ∷ []) ++ more) (run (Some x) more)) → (o : Option State) → Stepped (t ++ b ∷ []) o → Stepped ((t ++ b ∷ []) ++ more) (run o more)
-  further next None is = subst (Stepped ((t ++ b ∷ []) ++ more)) (sym (run-none more)) tt
-  further next (Some x) is = next x is
+    further : ((x : State) → Reached x (t ++ b ∷ []) → Stepped ((t ++ b ∷ []) ++ more) (run (Some x) more)) → (o : Option State) → Stepped (t ++ b ∷ []) o → Stepped ((t ++ b ∷ []) ++ more) (run o more)
+    further next None is = subst (Stepped ((t ++ b ∷ []) ++ more)) (sym (run-none more)) tt
+    further next (Some x) is = next x is
 
 pub start-reached : Reached start []
 start-reached = (refl, (refl, refl))

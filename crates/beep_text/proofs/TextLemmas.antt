@@ -4,7 +4,7 @@ use Rattle.std.proofs.Common.{Decides}
 use Rattle.std.proofs.lemmas.Slice.Eq.{bytes_eq-Decides}
 use Rattle.std.proofs.lemmas.Bool.Decides.{same_from_decides}
 use Rattle.std.proofs.lemmas.Str.{chars-append, chars-encodes, encodes-chars}
-use lib.Utf8.{scalar, scalars}
+use lib.Utf8.{scalar}
 
 -- the character of its octets
 pub chars-encode : (c : ℕ) → scalar c ≡ true → chars (encode_utf8 c) ≡ c ∷ []

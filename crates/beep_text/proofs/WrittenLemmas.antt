@@ -1,4 +1,4 @@
-use Rattle.std.proofs.Common.{◌≡◌, ℕ, suc, ◌+◌, ◌<◌, ◌≤◌, max, Bool, true, false, ◌&&◌, ◌||◌, not, ◌==◌, nat_lt, cond, if◌then◌else◌, List, [], ◌∷◌, ◌++◌, length, fold, map, IsTrue, codes, refl, sym, ap, ap₂, subst, ◌∙◌, append_assoc, append-nil, arith, eqb-true}
+use Rattle.std.proofs.Common.{◌≡◌, ℕ, suc, ◌+◌, ◌<◌, ◌≤◌, Bool, true, false, ◌&&◌, not, ◌==◌, nat_lt, cond, List, [], ◌∷◌, ◌++◌, length, fold, map, refl, sym, ap, ap₂, subst, ◌∙◌, append_assoc, append-nil, arith, eqb-true}
 use Rattle.std.specs.List.{list_all}
 use Rattle.std.specs.Prelude.{bytes_eq}
 use Rattle.beep_text.specs.declared.attr.Attr.{Attr}
@@ -6,9 +6,9 @@ use Rattle.beep_text.specs.declared.limits.TheConstants.{MAX_NESTED}
 use Rattle.beep_text.specs.Characters.{is_name, is_allowed, is_space}
 use Rattle.beep_text.specs.Tree.{Items, Tree, nothing, with_chars, with_child}
 use Rattle.beep_text.specs.Lawful.{are_attrs, are_items, has_name, ends_in_chars, depth_of, IsElement}
-use Rattle.beep_text.specs.Elements.{Written, plain, named, decimal, Pieces, no_pieces, character, alone, around, pieces_text, written_text, written_char, is_written, attr_text, attr_said, IsAttrText, AreAttrTexts, IsTag, IsPieces, IsBody, is_one, put, items_of}
+use Rattle.beep_text.specs.Elements.{Written, Pieces, no_pieces, character, written_char, is_written, attr_said, AreAttrTexts, IsTag, IsPieces, IsBody, is_one, put, items_of}
 use Rattle.beep_text.specs.Canonical.{written_as, attr_as, tag_as, chars_as, child_as, pieces_as, element_text, is_nothing}
-use Rattle.beep_text.proofs.ElementLemmas.{left_of, right_of, both, is_false, not-false, has_name-push, both_false, bytes_eq-comm, left_false, right_false}
+use Rattle.beep_text.proofs.ElementLemmas.{left_of, right_of, both, is_false, has_name-push, both_false, bytes_eq-comm, left_false, right_false}
 
 -- what holds on both ways of a test
 pub by_test : {A : Type 0} (P : A → Type 0) (b : Bool) {x y : A} → (b ≡ true → P x) → (b ≡ false → P y) → P (cond b x y)

@@ -1,5 +1,5 @@
 -- Each element that an element holds has fewer parts than it.
-use Rattle.std.specs.Prelude.{ℕ, ◌+◌, ◌≤◌, max, List, [], ◌∷◌, fold}
+use Rattle.std.specs.Prelude.{◌≤◌, max, List, [], ◌∷◌, fold}
 use Rattle.std.proofs.Common.{arith}
 use denote.Param.Weighed.{most}
 use Rattle.beep_text.specs.declared.element.Item.{Item}

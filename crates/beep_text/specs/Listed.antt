@@ -1,5 +1,5 @@
 -- How the parts that the code lists are one value.
-use Rattle.std.specs.Prelude.{ℕ, List, [], ◌∷◌, ◌++◌, fold, Vec}
+use Rattle.std.specs.Prelude.{ℕ, List, [], ◌∷◌, ◌++◌, fold}
 use Rattle.beep_text.specs.Tree.{Items, Tree, nothing, with_chars, with_child}
 use Rattle.beep_text.specs.declared.attr.Attr.{Attr}
 use Rattle.beep_text.specs.declared.element.Item.{Item}

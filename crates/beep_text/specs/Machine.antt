@@ -1,6 +1,6 @@
 -- The reader as a machine that takes one octet at a time, for the proofs alone: what a text says is in Elements.
 -- A character first, then the places between characters, over the elements that are open.
-use Rattle.std.specs.Prelude.{ℕ, suc, ◌+◌, ◌-◌, ◌*◌, Bool, true, false, ◌&&◌, ◌||◌, not, nat_le, nat_lt, ◌==◌, List, [], ◌∷◌, ◌++◌, length, fold, replicate, slice_index, codes, Option, Some, None, option_and_then, if◌then◌else◌}
+use Rattle.std.specs.Prelude.{ℕ, ◌+◌, ◌-◌, ◌*◌, Bool, true, false, ◌&&◌, ◌||◌, not, nat_le, nat_lt, ◌==◌, List, [], ◌∷◌, ◌++◌, length, fold, replicate, slice_index, codes, Option, Some, None, option_and_then, if◌then◌else◌}
 use Rattle.std.specs.List.{list_any, range_with_len}
 use Rattle.beep_text.specs.declared.attr.Attr.{Attr}
 use Rattle.beep_text.specs.declared.mode.Letters.{Letters}
@@ -10,7 +10,7 @@ use Rattle.beep_text.specs.declared.mode.Mode.{Mode}
 use Rattle.beep_text.specs.declared.limits.TheConstants.{MAX_NAME, MAX_NESTED}
 use Rattle.beep_text.specs.Characters.{is_space, is_allowed, is_digit, is_name_start, is_name_char}
 use Rattle.beep_text.specs.Lawful.{has_name}
-use Rattle.beep_text.specs.Tree.{Items, Tree, nothing, with_chars, with_child}
+use Rattle.beep_text.specs.Tree.{Items, Tree, nothing, with_child}
 use Rattle.beep_text.specs.Elements.{is_hex_digit, digit_of, put}
 
 -- ---- a character
@@ -151,7 +151,8 @@ ended_in [] top attr value = None
 ended_in (up ∷ ups) top attr value = Some (record {
   below = ups;
   top = record { name = up.name; attrs = up.attrs; items = with_child up.items top.name top.attrs top.items };
-  attr = attr; value = value;
+  attr = attr;
+  value = value;
   mode = if is_nil ups then Mode.Trail else Mode.Content Part.Fresh;
 })
 

@@ -1,7 +1,7 @@
 -- Where the body of a message begins: after the lines of its MIME header, where it has one (RFC 3080, section 2.2).
 -- The code goes from line to line; here the payload is a list of lines, and the header is the first of them.
 -- Choice: lines that continue a header line are skipped with it (docs/DECISIONS.md, "Where the body begins").
-use Rattle.std.specs.Prelude.{ℕ, ◌+◌, ◌-◌, Bool, true, false, ◌&&◌, ◌||◌, not, nat_le, ◌==◌, List, [], ◌∷◌, ◌++◌, length, slice_index, if◌then◌else◌}
+use Rattle.std.specs.Prelude.{ℕ, ◌+◌, ◌-◌, Bool, true, false, ◌&&◌, ◌||◌, nat_le, ◌==◌, List, [], ◌∷◌, ◌++◌, length, slice_index, if◌then◌else◌}
 
 -- the last octet is a CR
 abbrev pub ends_in_cr : List ℕ → Bool

@@ -1,10 +1,8 @@
 -- What an element is: a name, attributes, and what it holds, in the order written (RFC 3080, section 6.4).
 -- The code keeps lists of parts; here what an element holds is one type, and a run of characters is one part of it.
-use Rattle.std.specs.Prelude.{◌≡◌, ℕ, suc, ◌+◌, ◌-◌, ◌≤◌, Bool, true, false, ◌&&◌, ◌||◌, not, nat_le, nat_lt, ◌==◌, List, [], ◌∷◌, length, map, if◌then◌else◌}
+use Rattle.std.specs.Prelude.{◌≡◌, ℕ, ◌+◌, ◌==◌, List, [], ◌∷◌, map, if◌then◌else◌}
 use Rattle.std.proofs.Common.{refl, ap, ap₂, ◌∙◌}
-use Rattle.std.specs.List.{list_all, list_any}
 use Rattle.std.specs.Coded.{Coded, code_by, coded×, coded_ℕ, coded_list}
-use Rattle.std.specs.Prelude.{bytes_eq}
 use Rattle.beep_text.specs.declared.attr.Attr.{Attr}
 
 -- what an element holds: nothing, or some parts and one last part

@@ -74,3 +74,6 @@ fn continues(line: &[u8]) -> bool
 {
     line[0] == b' ' || line[0] == b'\t'
 }
+
+#[cfg(test)]
+mod tests;

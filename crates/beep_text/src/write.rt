@@ -123,3 +123,6 @@ fn put_char(character: char, in_value: bool, out: &mut Octets) -> Result<(), NoM
         _ => out.extend(character.encode_utf8(&mut [0; 4]).as_bytes()),
     }
 }
+
+#[cfg(test)]
+mod tests;

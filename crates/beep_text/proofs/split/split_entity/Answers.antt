@@ -1,4 +1,4 @@
-use Rattle.std.proofs.Common.{refl, arith, ◌∙◌, ap, sym}
+use Rattle.std.proofs.Common.{refl, arith}
 use Rattle.std.proofs.lemmas.Bool.Decides.{nat_tests}
 use Rattle.beep_text.proofs.SplitLemmas.{header_len-line}
 use Rattle.beep_text.proofs.split.split_entity.Goals as goal

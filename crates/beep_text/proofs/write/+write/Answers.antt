@@ -1,5 +1,4 @@
-use Rattle.std.proofs.Common.{◌∙◌, ap, ◌++◌, ◌==◌, length, true, false, flat_map, sym, arith}
-use Rattle.beep_text.specs.Tree.{Tree}
+use Rattle.std.proofs.Common.{◌∙◌, ap, ◌++◌, ◌==◌, flat_map, sym, arith}
 use Rattle.beep_text.specs.Listed.{items_listed}
 use Rattle.beep_text.specs.Elements.{attr_text}
 use Rattle.beep_text.specs.Canonical.{element_text, item_text, items_text, attr_as}

@@ -1,5 +1,4 @@
-use Rattle.std.proofs.Common.{rules, ◌∙◌, ap, sym, slice_get, arith}
-use Rattle.std.proofs.lemmas.Grind.{common_steps}
+use Rattle.std.proofs.Common.{◌∙◌, ap, sym, slice_get}
 use Rattle.beep_text.specs.Tree.{Tree}
 use Rattle.beep_text.specs.Listed.{listed}
 use Rattle.beep_text.proofs.ElementLemmas.{listed-items_listed, looked_up}

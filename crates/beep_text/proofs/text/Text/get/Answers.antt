@@ -1,5 +1,4 @@
-use Rattle.std.proofs.Common.{rules, ap, ◌∙◌, sym, chars, Option, None, Some, option_map, refl, ◌≡◌, ℕ, slice_get}
-use Rattle.std.proofs.lemmas.Str.{IsUtf8-string_bytes}
+use Rattle.std.proofs.Common.{ap, ◌∙◌, sym, chars, Option, None, Some, option_map, refl, ◌≡◌, ℕ, slice_get}
 use Rattle.std.proofs.lemmas.Iterator.{YieldsList-from_chars}
 use Rattle.std.proofs.lemmas.Iterator.Consumers.{nth_from_yields_List}
 use Rattle.beep_text.proofs.text.Text.get.Goals as goal

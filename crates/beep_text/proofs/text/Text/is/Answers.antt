@@ -1,6 +1,5 @@
-use Rattle.std.proofs.Common.{◌∙◌, ap, chars, sym, rules}
+use Rattle.std.proofs.Common.{◌∙◌, ap, chars}
 use Rattle.std.specs.Prelude.{bytes_eq}
-use Rattle.std.proofs.lemmas.Str.{IsUtf8-string_bytes}
 use Rattle.beep_text.proofs.TextLemmas.{bytes_eq-chars}
 use Rattle.beep_text.proofs.text.Text.is.Goals as goal
 
