@@ -39,7 +39,7 @@ one_value body e f first second =
 
 -- ---- one place
 
-prefix_alive : (xs ys : List ℕ) → IsAlive (xs ++ ys) → IsAlive xs
+pub prefix_alive : (xs ys : List ℕ) → IsAlive (xs ++ ys) → IsAlive xs
 prefix_alive xs ys alive = (ys ++ alive.0, alive.1, subst (λ (x : List ℕ). IsBody x alive.1) (append_assoc xs ys alive.0) alive.2)
 
 take_alive : (body : List ℕ) (m n : ℕ) → m ≤ n → IsAlive (take n body) → IsAlive (take m body)

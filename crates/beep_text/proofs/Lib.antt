@@ -3,6 +3,7 @@ mod CharLemmas
 mod ElementLemmas
 mod FinishLemmas
 mod LawLemmas
+mod PlaceLemmas
 mod ReachedLemmas
 mod ReadingLemmas
 mod RoomLemmas
