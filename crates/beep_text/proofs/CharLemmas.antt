@@ -11,7 +11,7 @@ use Rattle.beep_text.specs.declared.mode.Part.{Part}
 use Rattle.beep_text.specs.declared.mode.Taken.{Taken}
 use Rattle.beep_text.specs.Characters.{is_allowed}
 use Rattle.beep_text.specs.Elements.{Written, plain, named, decimal, hexadecimal, written_text, written_char, is_reference, is_written, digit_of, number_of}
-use Rattle.beep_text.specs.Machine.{letter_after, letters_taken, is_no_letter, allowed_taken, is_tail, grown, first_taken, base_of, is_digit_in, named_taken, taken_after, char_taken, is_fresh}
+use Rattle.beep_text.specs.Machine.{letter_after, letters_taken, is_no_letter, allowed_taken, is_tail, grown, first_taken, base_of, is_digit_in, named_taken, taken_after, char_taken, is_fresh, is_ref}
 use Rattle.beep_text.proofs.ElementLemmas.{left_of, right_of, both, is_false}
 use Rattle.beep_text.proofs.WrittenLemmas.{by_test}
 
@@ -105,15 +105,6 @@ abbrev pub TakenText : Taken → List ℕ → Type 0
 TakenText (Taken.Whole c) o = IsPlain c o ⊎ IsRef c o
 TakenText (Taken.More part) o = PartText part o
 TakenText Taken.Dead o = Unit {0}
-
--- a part of a reference
-abbrev pub is_ref : Part → Bool
-is_ref Part.Fresh = false
-is_ref (Part.One v) = false
-is_ref (Part.Two v) = false
-is_ref (Part.Three v) = false
-is_ref (Part.Name letters) = true
-is_ref (Part.Number hex any v) = true
 
 -- the same where no reference is read
 abbrev pub PlainTaken : Taken → List ℕ → Type 0

@@ -11,9 +11,9 @@ use Rattle.beep_text.specs.declared.mode.Mode.{Mode}
 use Rattle.beep_text.specs.Characters.{is_allowed}
 use Rattle.beep_text.specs.Tree.{Items, Tree, nothing, with_child}
 use Rattle.beep_text.specs.Elements.{written_text, AttrText, attr_text, attr_said, IsAlive, IsBody, number_of, put}
-use Rattle.beep_text.specs.Machine.{State, start, run, taken_after, char_taken, is_fresh, has_room, ended_in, grown, base_of, is_digit_in}
+use Rattle.beep_text.specs.Machine.{State, start, run, taken_after, char_taken, is_fresh, has_room, ended_in, grown, base_of, is_digit_in, is_ref}
 use Rattle.beep_text.proofs.ElementLemmas.{right_of, both}
-use Rattle.beep_text.proofs.CharLemmas.{PartText, IsOne, IsTwo, IsThree, IsNumber, is_ref}
+use Rattle.beep_text.proofs.CharLemmas.{PartText, IsOne, IsTwo, IsThree, IsNumber}
 use Rattle.beep_text.proofs.ReadingLemmas.{Reading, last, more, reads_one, reads_two, reads_three, reads_digits, first_high}
 use Rattle.beep_text.proofs.ReachedLemmas.{Opening, Naming, IsAttrName, IsOpen, InSection, ReachedIn, Reached}
 use Rattle.beep_text.proofs.RoomLemmas.{names_len, longer}
@@ -233,9 +233,9 @@ finish_value : (below : List Tree) (name : List ℕ) (attrs : List Attr) (items 
 finish_value [] name attrs items attr value gap t q is = absurd is
 finish_value (up ∷ below) name attrs items attr value gap t q is =
     let top = tree name (attrs ++ record { name = attr; value = value } ∷ []) items in
-    then_finishes (Some (st (up ∷ below) (tree name attrs items) attr value (Mode.Value q Part.Fresh))) (ended_in (up ∷ below) top attr value) (q ∷ 47 ∷ 62 ∷ [])
-    (ap (λ o. run o (47 ∷ 62 ∷ [])) (unquote-run (up ∷ below) name attrs items attr value q) ∙ tag-closes below up top attr value (Mode.Tag false) (inr (false, refl)))
-    (finish_ended below up top attr value)
+    then_finishes (Some (st (up ∷ below) (tree name attrs items) attr value (Mode.Value q Part.Fresh))) (ended_in (up ∷ below) top [] []) (q ∷ 47 ∷ 62 ∷ [])
+    (ap (λ o. run o (47 ∷ 62 ∷ [])) (unquote-run (up ∷ below) name attrs items attr value q) ∙ tag-closes below up top [] [] (Mode.Tag false) (inr (false, refl)))
+    (finish_ended below up top [] [])
 
 finish_quote : (below : List Tree) (top : Tree) (attr value gap t : List ℕ) → Opening below top gap t → Finishes (Some (st below top attr value Mode.Quote))
 finish_quote below top attr value gap t is = then_finishes _ (Some (st below top attr [] (Mode.Value 39 Part.Fresh))) (39 ∷ []) refl (finish_value below top.name top.attrs top.items attr [] gap t 39 is)

@@ -13,11 +13,11 @@ use Rattle.beep_text.specs.Characters.{is_space, is_allowed, is_digit, is_name, 
 use Rattle.beep_text.specs.Lawful.{has_name}
 use Rattle.beep_text.specs.Tree.{Items, Tree, nothing}
 use Rattle.beep_text.specs.Elements.{Written, plain, named, decimal, hexadecimal, written_text, is_reference, is_hex_digit, has_reference, name_of, digit_of, IsAlive, IsBody, IsBegun, IsEntity, Stops}
-use Rattle.beep_text.specs.Machine.{State, start, step, step_in, run, taken_after, char_taken, is_fresh, is_nil, letter_after, letters_taken, is_no_letter, named_taken, digit_taken, base_of, is_digit_in, value_taken, content_taken, section_taken, unended}
+use Rattle.beep_text.specs.Machine.{State, start, step, step_in, run, taken_after, char_taken, is_fresh, is_nil, letter_after, letters_taken, is_no_letter, named_taken, digit_taken, base_of, is_digit_in, value_taken, content_taken, section_taken, unended, is_ref, in_ref}
 use Rattle.beep_text.proofs.ElementLemmas.{left_of, right_of, both, is_false}
 use Rattle.beep_text.proofs.WrittenLemmas.{by_test}
 use Rattle.beep_text.proofs.CanonicalLemmas.{name_chars}
-use Rattle.beep_text.proofs.CharLemmas.{PartText, IsNumber, is_ref, letters_text, number_front}
+use Rattle.beep_text.proofs.CharLemmas.{PartText, IsNumber, letters_text, number_front}
 use Rattle.beep_text.proofs.ReachedLemmas.{Inside, IsOpen, ReachedIn, Reached}
 use Rattle.beep_text.proofs.ReadingLemmas.{named_cases}
 use Rattle.beep_text.proofs.RunLemmas.{st, run-append}
@@ -26,23 +26,6 @@ use Rattle.beep_text.proofs.FinishLemmas.{run-alive, alive-run}
 use Rattle.beep_text.proofs.LawLemmas.{prefix_alive}
 
 -- ---- modes in a reference
-
-abbrev pub in_ref : Mode → Bool
-in_ref Mode.Lead = false
-in_ref Mode.Begun = false
-in_ref Mode.Naming = false
-in_ref (Mode.Tag spaced) = false
-in_ref Mode.Slash = false
-in_ref Mode.Attr = false
-in_ref Mode.Equals = false
-in_ref Mode.Quote = false
-in_ref (Mode.Value q part) = is_ref part
-in_ref (Mode.Content part) = is_ref part
-in_ref (Mode.Bang n) = false
-in_ref (Mode.Section k part) = false
-in_ref (Mode.Closing n) = false
-in_ref Mode.Closed = false
-in_ref Mode.Trail = false
 
 abbrev pub in_section : Mode → Bool
 in_section Mode.Lead = false
@@ -149,7 +132,7 @@ section-stays (Mode.Content part) below top attr value b is other = absurd (cc i
 section-stays (Mode.Bang n) below top attr value b is other = absurd (cc is)
 section-stays (Mode.Section k part) below top attr value b is other =
     let P : Option State → Type 0 = OnState (λ x. in_section x.mode ≡ true) in
-    by_test P (is_fresh part && b == 93) (λ _. by_test P (nat_lt k 2) (λ _. refl) (λ _. refl))
+    by_test P (is_fresh part && b == 93) (λ _. by_test (λ (x : State). in_section x.mode ≡ true) (nat_lt k 2) (λ _. refl) (λ _. refl))
     (λ _. by_test P (is_fresh part && b == 62 && k == 2) (λ ends. absurd (true≢false (sym ends ∙ not_62 (is_fresh part) (b == 62) (k == 2) other))) (λ _. sectioned-stays (unended (st below top attr value (Mode.Section k part)) k) (taken_after part b)))
 section-stays (Mode.Closing n) below top attr value b is other = absurd (cc is)
 section-stays Mode.Closed below top attr value b is other = absurd (cc is)

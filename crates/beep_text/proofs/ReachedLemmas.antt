@@ -8,8 +8,8 @@ use Rattle.beep_text.specs.Characters.{is_space, is_allowed, is_name}
 use Rattle.beep_text.specs.Lawful.{has_name}
 use Rattle.beep_text.specs.Tree.{Tree, nothing, with_child}
 use Rattle.beep_text.specs.Elements.{Written, written_text, written_char, is_written, AttrText, attr_text, attr_said, AreAttrTexts, Tag, tag_text, IsTag, Pieces, pieces_text, items_of, put, IsSection, IsPieces, IsBody}
-use Rattle.beep_text.specs.Machine.{State, is_fresh, is_nil, has_room}
-use Rattle.beep_text.proofs.CharLemmas.{PartText, is_ref}
+use Rattle.beep_text.specs.Machine.{State, is_fresh, is_nil, has_room, is_ref}
+use Rattle.beep_text.proofs.CharLemmas.{PartText}
 
 -- ---- where elements are open
 

@@ -1,5 +1,5 @@
 -- A name of an attribute that has room can become a new one.
-use Rattle.std.proofs.Common.{◌≡◌, ℕ, zero, suc, ◌+◌, ◌-◌, ◌*◌, ◌/◌, ◌%◌, ◌<◌, ◌≤◌, ◌⊎◌, Bool, true, false, ◌&&◌, ◌||◌, not, nat_lt, if◌then◌else◌, List, [], ◌∷◌, ◌++◌, length, replicate, inl, inr, ⊎_elim, refl, sym, ap, ◌∙◌, append-nil, arith, length-append, ltb-true}
+use Rattle.std.proofs.Common.{◌≡◌, ℕ, zero, suc, ◌+◌, ◌-◌, ◌*◌, ◌/◌, ◌%◌, ◌<◌, ◌≤◌, ◌⊎◌, Bool, true, false, ◌&&◌, ◌||◌, not, nat_lt, if◌then◌else◌, List, [], ◌∷◌, ◌++◌, length, replicate, inl, inr, ⊎_elim, refl, sym, ap, ◌∙◌, append-nil, arith, length-append, ltb-true, lt-ltb}
 use Rattle.std.specs.Prelude.{bytes_eq}
 use Rattle.std.specs.List.{list_all, list_any, range_with_len}
 use Rattle.std.proofs.lemmas.Slice.Eq.{bytes_eq-Decides}
@@ -10,7 +10,9 @@ use Rattle.beep_text.specs.declared.attr.Attr.{Attr}
 use Rattle.beep_text.specs.declared.limits.TheConstants.{MAX_NAME}
 use Rattle.beep_text.specs.Characters.{is_name_char}
 use Rattle.beep_text.specs.Lawful.{has_name}
-use Rattle.beep_text.specs.Machine.{has_room}
+use Rattle.beep_text.specs.Machine.{has_room, is_new_with}
+use Rattle.beep_text.proofs.WrittenLemmas.{by_test}
+use Rattle.beep_text.proofs.RunLemmas.{listed_octet}
 use Rattle.beep_text.proofs.ElementLemmas.{left_of, right_of, both, is_false}
 
 -- ---- many names, all apart
@@ -153,6 +155,7 @@ near m attrs is =
 
 -- where a name has room, it can become a new one
 pub longer : (m : List ℕ) (attrs : List Attr) → length m ≤ 64 → names_len attrs ≤ 65536 → has_room m attrs ≡ true → Longer m attrs
+unfolding has_room
 longer m attrs fits small room =
     elim (nat_lt (length m) 63) as (λ b. nat_lt (length m) 63 ≡ b → Longer m attrs) [
       | true ↦ λ less. (let low = ltb-true (length m) 63 less in far m attrs (omega (arith, low)) small)
@@ -166,3 +169,9 @@ longer m attrs fits small room =
     pick true y z e f is = absurd (cc e)
     pick false true z e f is = is
     pick false false z e f is = absurd (cc f)
+
+-- an octet that makes a name new gives it room
+pub room_found : (name : List ℕ) (attrs : List Attr) (k : ℕ) → length name < 64 → k < 128 → is_new_with name attrs k ≡ true → true ≡ has_room name attrs
+unfolding has_room
+room_found name attrs k small low new =
+    by_test (λ (x : Bool). true ≡ x) (nat_lt (length name) 63) (λ _. refl) (λ _. by_test (λ (x : Bool). true ≡ x) (has_name name attrs) (λ _. sym (both _ _ (lt-ltb (length name) MAX_NAME small) (listed_octet (is_new_with name attrs) k low new))) (λ _. refl))

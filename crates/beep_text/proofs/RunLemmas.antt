@@ -217,7 +217,7 @@ name-run below top attr value (b ∷ cs) is room =
 name_low : (c : ℕ) → is_name_char c ≡ true → c < 128
 name_low c is = grind (arith, nat_tests)
 
-listed_octet : (p : ℕ → Bool) (c : ℕ) → c < 128 → p c ≡ true → list_any p (range_with_len 0 128) ≡ true
+pub listed_octet : (p : ℕ → Bool) (c : ℕ) → c < 128 → p c ≡ true → list_any p (range_with_len 0 128) ≡ true
 listed_octet p c low holds =
     list_any_at p (range_with_len 0 128) c 0 (omega (arith, length-range_with_len 0 128)) (ap p (get_or-range_with_len 0 128 c 0 low ∙ add_nothing c) ∙ holds)
   where
@@ -225,12 +225,14 @@ listed_octet p c low holds =
     add_nothing n = omega arith
 
 room_one : (m : List ℕ) (c : ℕ) (attrs : List Attr) → is_name_char c ≡ true → length m < 64 → has_name (m ++ c ∷ []) attrs ≡ false → has_room m attrs ≡ true
+unfolding has_room
 room_one m c attrs char small new =
     by_test (λ (x : Bool). x ≡ true) (nat_lt (length m) 63) (λ _. refl) (λ _. by_test (λ (x : Bool). x ≡ true) (has_name m attrs)
     (λ _. both _ _ (lt-ltb (length m) MAX_NAME small) (listed_octet (λ x. is_name_char x && not (has_name (m ++ x ∷ []) attrs)) c (name_low c char) (both _ _ char (not-false _ new)))) (λ _. refl))
 
 -- each beginning of a new name has room
 room_prefix : (m rest : List ℕ) (attrs : List Attr) → length m + length rest ≤ 64 → list_all is_name_char rest ≡ true → has_name (m ++ rest) attrs ≡ false → has_room m attrs ≡ true
+unfolding has_room
 room_prefix m [] attrs fits are new = by_test (λ (x : Bool). x ≡ true) (nat_lt (length m) 63) (λ _. refl)
     (λ _. by_test (λ (x : Bool). x ≡ true) (has_name m attrs) (λ has. absurd (true≢false (sym has ∙ ap (λ x. has_name x attrs) (sym (append-nil m)) ∙ new))) (λ _. refl))
 room_prefix m (c ∷ []) attrs fits are new = room_one m c attrs (left_of (is_name_char c) _ are) (omega arith) new
@@ -266,6 +268,7 @@ gap-run below top attr value mode (b ∷ gap) is are some =
 
 attr-name : (below : List Tree) (top : Tree) (attr value name : List ℕ) → is_name name ≡ true → has_name name top.attrs ≡ false
     → Goes (st below top attr value (Mode.Tag true)) name (st below top name value Mode.Attr)
+unfolding has_room
 attr-name below top attr value [] is new = absurd (cc is)
 attr-name below top attr value (b ∷ cs) is new =
     let begins = left_of (is_begun_name (b ∷ cs)) _ is in
@@ -302,7 +305,7 @@ quote-run below top attr value q ws is are =
     quoted q apart is = rw (apart, is) refl
 
 pub unquote-run : (below : List Tree) (name : List ℕ) (attrs : List Attr) (items : Items) (attr value : List ℕ) (q : ℕ)
-    → Goes (st below (tree name attrs items) attr value (Mode.Value q Part.Fresh)) (q ∷ []) (st below (tree name (attrs ++ record { name = attr; value = value } ∷ []) items) attr value (Mode.Tag false))
+    → Goes (st below (tree name attrs items) attr value (Mode.Value q Part.Fresh)) (q ∷ []) (st below (tree name (attrs ++ record { name = attr; value = value } ∷ []) items) [] [] (Mode.Tag false))
 unquote-run below name attrs items attr value q = rw (eq-eqb q q refl) refl
 
 -- an attribute
@@ -318,7 +321,7 @@ attr-run below name attrs items attr value mode a is written new =
     let s3 = st below top a.name value eq.0 in
     let s4 = st below top a.name value Mode.Quote in
     let s5 = st below top a.name (map written_char a.value) (Mode.Value a.quote Part.Fresh) in
-    let s6 = st below (tree name (attrs ++ attr_said a ∷ []) items) a.name (map written_char a.value) (Mode.Tag false) in
+    let s6 = st below (tree name (attrs ++ attr_said a ∷ []) items) [] [] (Mode.Tag false) in
     let g1 = gap-run below top attr value mode a.gap is (left_of _ (nat_lt 0 (length a.gap)) written.gap) (ltb-true 0 (length a.gap) (right_of (list_all is_space a.gap) _ written.gap)) in
     let g2 = goes_on s0 s1 (Some s2) a.gap a.name g1 (attr-name below top attr value a.name written.name new) in
     let g3 = goes_on s0 s2 (Some s3) (a.gap ++ a.name) a.before g2 eq.1 in
@@ -326,7 +329,7 @@ attr-run below name attrs items attr value mode a is written new =
     let opens = quote-run below top a.name value a.quote a.value written.quote written.value in
     let g5 = goes_on s0 s4 (Some s5) (a.gap ++ a.name ++ a.before ++ 61 ∷ a.after) (a.quote ∷ flat_map written_text a.value) g4 opens in
     let closes = unquote-run below name attrs items a.name (map written_char a.value) a.quote in
-    (a.name, map written_char a.value, goes_on s0 s5 (Some s6) (a.gap ++ a.name ++ a.before ++ 61 ∷ a.after ++ a.quote ∷ flat_map written_text a.value) (a.quote ∷ []) g5 closes)
+    ([], [], goes_on s0 s5 (Some s6) (a.gap ++ a.name ++ a.before ++ 61 ∷ a.after ++ a.quote ∷ flat_map written_text a.value) (a.quote ∷ []) g5 closes)
 
 -- ---- tags
 

@@ -651,7 +651,7 @@ sectioning k part below top attr value t b is =
     by_test (Stepped (t ++ b ∷ [])) (is_fresh part && b == 93)
     (λ dash. let fresh = left_of (is_fresh part) _ dash in
     let text = ap₂ (λ x y. x ++ y ∷ []) (there fresh) (eqb-true b 93 (right_of (is_fresh part) _ dash)) in
-    by_test (Stepped (t ++ b ∷ [])) (nat_lt k 2)
+    by_test (λ (x : State). Reached x (t ++ b ∷ [])) (nat_lt k 2)
     (λ less. ((t ++ b ∷ [], [], subst₂ (λ n (x : List ℕ). InSection below top n true x) (omega arith) (sym text) (dash-more below top k (is_fresh part) held.0 held.2 fresh (ltb-true k 2 less)), refl, sym (append-nil _)), refl))
     (λ more. ((t ++ b ∷ [], [], subst (InSection below (record { name = top.name; attrs = top.attrs; items = put top.items 93 }) 2 true) (sym text) (dash-two below top k (is_fresh part) held.0 held.2 (ltb-false k 2 more)), refl, sym (append-nil _)), refl))) (λ no_dash.
     by_test (Stepped (t ++ b ∷ [])) (is_fresh part && b == 62 && k == 2)

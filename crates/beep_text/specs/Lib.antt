@@ -7,3 +7,4 @@ pub mod Elements
 pub mod Canonical
 pub mod Split
 pub mod Machine
+pub mod Reading

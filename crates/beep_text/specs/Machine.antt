@@ -140,10 +140,14 @@ abbrev pub is_nil : List Tree → Bool
 is_nil [] = true
 is_nil (t ∷ ts) = false
 
+-- the name goes on with the octet, and is new
+abbrev pub is_new_with : List ℕ → List Attr → ℕ → Bool
+is_new_with name attrs c = is_name_char c && not (has_name (name ++ c ∷ []) attrs)
+
 -- a name that is new can begin so: it can be longer still, or is new, or one octet makes it new
-abbrev pub has_room : List ℕ → List Attr → Bool
+unfoldable pub has_room : List ℕ → List Attr → Bool
 has_room name attrs =
-    if nat_lt (length name) 63 then true else (if has_name name attrs then nat_lt (length name) MAX_NAME && list_any (λ c. is_name_char c && not (has_name (name ++ c ∷ []) attrs)) (range_with_len 0 128) else true)
+    if nat_lt (length name) 63 then true else (if has_name name attrs then nat_lt (length name) MAX_NAME && list_any (is_new_with name attrs) (range_with_len 0 128) else true)
 
 -- an element is the last part of the one round it
 abbrev pub ended_in : List Tree → Tree → List ℕ → List ℕ → Option State
@@ -182,7 +186,7 @@ with_value s value mode = record { below = s.below; top = s.top; attr = s.attr; 
 
 -- the attribute is whole
 abbrev pub with_setting : State → State
-with_setting s = record { below = s.below; top = record { name = s.top.name; attrs = s.top.attrs ++ record { name = s.attr; value = s.value } ∷ []; items = s.top.items }; attr = s.attr; value = s.value; mode = Mode.Tag false }
+with_setting s = record { below = s.below; top = record { name = s.top.name; attrs = s.top.attrs ++ record { name = s.attr; value = s.value } ∷ []; items = s.top.items }; attr = []; value = []; mode = Mode.Tag false }
 
 abbrev pub lead_step : State → ℕ → Option State
 lead_step s b = if is_space b then Some s else (if b == 60 then Some (at s Mode.Begun) else None)
@@ -259,9 +263,13 @@ bang_step s n b =
 abbrev pub unended : State → ℕ → State
 unended s k = with_items s (fold put s.top.items (replicate k 93)) s.mode
 
+-- one more `]`
+abbrev pub dashed : State → ℕ → State
+dashed s k = if nat_lt k 2 then at s (Mode.Section (k + 1) Part.Fresh) else with_items s (put s.top.items 93) (Mode.Section 2 Part.Fresh)
+
 abbrev pub section_step : State → ℕ → Part → ℕ → Option State
 section_step s k part b =
-    if is_fresh part && b == 93 then (if nat_lt k 2 then Some (at s (Mode.Section (k + 1) Part.Fresh)) else Some (with_items s (put s.top.items 93) (Mode.Section 2 Part.Fresh)))
+    if is_fresh part && b == 93 then Some (dashed s k)
     else (if is_fresh part && b == 62 && k == 2 then Some (at s (Mode.Content Part.Fresh)) else section_taken (unended s k) (taken_after part b))
 
 abbrev pub closed_step : State → ℕ → Option State
@@ -296,3 +304,32 @@ step s b = step_in s.mode s b
 abbrev pub run : Option State → List ℕ → Option State
 run s [] = s
 run s (b ∷ bs) = run (option_and_then (λ x. step x b) s) bs
+
+-- ---- references
+
+-- a part of a reference
+abbrev pub is_ref : Part → Bool
+is_ref Part.Fresh = false
+is_ref (Part.One v) = false
+is_ref (Part.Two v) = false
+is_ref (Part.Three v) = false
+is_ref (Part.Name letters) = true
+is_ref (Part.Number hex any v) = true
+
+-- the octet after stands in a reference
+abbrev pub in_ref : Mode → Bool
+in_ref Mode.Lead = false
+in_ref Mode.Begun = false
+in_ref Mode.Naming = false
+in_ref (Mode.Tag spaced) = false
+in_ref Mode.Slash = false
+in_ref Mode.Attr = false
+in_ref Mode.Equals = false
+in_ref Mode.Quote = false
+in_ref (Mode.Value q part) = is_ref part
+in_ref (Mode.Content part) = is_ref part
+in_ref (Mode.Bang n) = false
+in_ref (Mode.Section k part) = false
+in_ref (Mode.Closing n) = false
+in_ref Mode.Closed = false
+in_ref Mode.Trail = false

@@ -9,8 +9,11 @@
 mod attr;
 mod element;
 pub mod laws;
+mod level;
 mod limits;
 mod mode;
+mod octet;
+mod reader;
 mod split;
 mod text;
 mod write;

@@ -1,5 +1,5 @@
 //! A list of characters, kept as text.
-ghost use Rattle.std.specs.Prelude.{◌≡◌, [], ◌∷◌, ◌++◌, length, chars, slice_get, bytes_eq, OnOk, OnErr};
+ghost use Rattle.std.specs.Prelude.{◌≡◌, ◌==◌, ◌<◌, [], ◌∷◌, ◌++◌, length, chars, slice_get, slice_index, bytes_eq, IfOk, OnOk, OnErr};
 
 use beep_frame::NoMemory;
 use std::alloc::Global;
@@ -64,5 +64,32 @@ impl Text {
         ensures { result ≡ bytes_eq self.now (chars other.now) }
     {
         self.text.as_str() == other
+    }
+
+    /// Whether the characters are those of another list.
+    pub(crate) fn same(&self, other: &Text) -> bool
+        ensures { result ≡ bytes_eq self.now other.now }
+    {
+        self.is(other.as_str())
+    }
+
+    /// The same characters again.
+    pub(crate) fn copy(&self) -> Result<Text, NoMemory>
+        ensures { IfOk result (λ text. text ≡ self.now) }
+    {
+        Ok(Text {
+            text: self.text.clone()?,
+        })
+    }
+
+    /// Whether the character at `i` is this octet.
+    pub(crate) fn has_at(&self, i: usize, octet: u8) -> bool
+        requires { i < length self.now }
+        ensures { result ≡ (octet == slice_index self.now i) }
+    {
+        match self.get(i) {
+            Some(character) => octet as char == character,
+            None => false,
+        }
     }
 }
