@@ -87,7 +87,7 @@ value_allowed : (q : ℕ) (ws : List Written) → list_all (is_written q) ws ≡
 value_allowed q [] are = refl
 value_allowed q (w ∷ ws) are = both _ _ (allowed_written q w (left_of (is_written q w) _ are)) (value_allowed q ws (right_of (is_written q w) _ are))
 
-attrs_lawful : (attrs : List AttrText) (before : List Attr) → are_attrs before ≡ true → AreAttrTexts before attrs → are_attrs (before ++ map attr_said attrs) ≡ true
+pub attrs_lawful : (attrs : List AttrText) (before : List Attr) → are_attrs before ≡ true → AreAttrTexts before attrs → are_attrs (before ++ map attr_said attrs) ≡ true
 attrs_lawful [] before are is = ap are_attrs (append-nil before) ∙ are
 attrs_lawful (a ∷ attrs) before are is =
     ap are_attrs (sym (append_assoc before (attr_said a ∷ []) (map attr_said attrs)))

@@ -5,6 +5,7 @@ mod FinishLemmas
 mod LawLemmas
 mod PlaceLemmas
 mod ReachedLemmas
+mod ReadLemmas
 mod ReadingLemmas
 mod RoomLemmas
 mod RunLemmas

@@ -351,11 +351,10 @@ ref_text (Part.Name letters) o is ref = subst RefText (sym is) (letters_begun le
 ref_text (Part.Number hex any v) o is ref = number_text hex is.digits o is.are is.text
 
 -- a text in a reference, parted at its `&`
-pub InRef : List ℕ → Type 0
+abbrev pub InRef : List ℕ → Type 0
 InRef t = (front o : List ℕ) × RefText o × (t ≡ front ++ o)
 
-in_ref_text : (mode : Mode) (below : List Tree) (top : Tree) (attr value t : List ℕ) → ReachedIn mode below top attr value t → in_ref mode ≡ true → InRef t
-unfolding InRef
+pub in_ref_text : (mode : Mode) (below : List Tree) (top : Tree) (attr value t : List ℕ) → ReachedIn mode below top attr value t → in_ref mode ≡ true → InRef t
 in_ref_text Mode.Lead below top attr value t is ref = absurd (cc ref)
 in_ref_text Mode.Begun below top attr value t is ref = absurd (cc ref)
 in_ref_text Mode.Naming below top attr value t is ref = absurd (cc ref)

@@ -8,3 +8,4 @@ pub mod Canonical
 pub mod Split
 pub mod Machine
 pub mod Reading
+pub mod Refused

@@ -13,6 +13,7 @@ mod level;
 mod limits;
 mod mode;
 mod octet;
+mod read;
 mod reader;
 mod split;
 mod text;
@@ -20,6 +21,7 @@ mod write;
 
 pub use element::{Element, Item};
 pub use limits::{MAX_NAME, MAX_NESTED, MAX_TEXT};
+pub use read::{TextError, read_element};
 pub use split::split_entity;
 pub use text::Text;
 pub use write::write_element;

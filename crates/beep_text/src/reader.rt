@@ -2,9 +2,10 @@
 ghost use Rattle.std.specs.Prelude.{◌≡◌, ℕ, ◌+◌, ◌<◌, ◌≤◌, false, [], ◌∷◌, ◌++◌, fold, replicate, OnOk, IfOk};
 ghost use Rattle.beep_text.specs.declared.mode.Taken.{Taken};
 ghost use Rattle.beep_text.specs.Lawful.{IsElement};
-ghost use Rattle.beep_text.specs.Machine.{lead_step, begun_step, naming_step, tag_step, slash_step, attr_step, equals_step, quote_step, value_step, value_taken, content_step, content_taken, bang_step, section_step, section_taken, unended, closing_step, closed_step, ended, step, opened, with_setting, with_items, dashed};
+ghost use Rattle.beep_text.specs.Machine.{lead_step, begun_step, naming_step, tag_step, slash_step, attr_step, equals_step, quote_step, value_step, value_taken, content_step, content_taken, bang_step, section_step, section_taken, unended, closing_step, closed_step, ended, step, start, opened, with_setting, with_items, dashed};
 ghost use Rattle.beep_text.specs.Elements.{put as put_in};
-ghost use Rattle.beep_text.specs.Reading.{tree_in, state_of, Steps, MayEnd};
+ghost use Rattle.beep_text.specs.Reading.{tree_in, state_of, Steps, MayEnd, element_of, child_of};
+ghost use Rattle.beep_text.specs.Listed.{items_listed};
 
 use std::alloc::Global;
 use std::mem;
@@ -38,6 +39,40 @@ pub(crate) struct Reader {
 }
 
 impl Reader {
+    /// A reader before any octet.
+    pub(crate) fn new(alloc: Global) -> Reader
+        ensures { state_of result ≡ start }
+    {
+        Reader {
+            below: Vec::new(alloc),
+            top: Level {
+                name: Text::new(alloc),
+                attrs: Vec::new(alloc),
+                items: Vec::new(alloc),
+            },
+            attr: Text::new(alloc),
+            value: Text::new(alloc),
+            mode: Mode::Lead,
+        }
+    }
+
+    /// The element, where the body may end.
+    pub(crate) fn finish(self) -> Option<Element>
+        ensures { result ≡ element_of self.mode (tree_in self.top).items }
+    {
+        let Reader {
+            below: _,
+            top,
+            attr: _,
+            value: _,
+            mode,
+        } = self;
+        match mode {
+            Mode::Trail => outermost(top.items),
+            _ => None,
+        }
+    }
+
     fn alloc(&self) -> Global {
         *self.below.allocator()
     }
@@ -395,5 +430,15 @@ impl Reader {
             Mode::Closed => self.closed(octet),
             Mode::Trail => Ok(is_space(octet)),
         }
+    }
+}
+
+/// The last part, where it is an element.
+fn outermost(mut items: Vec<Item>) -> Option<Element>
+    ensures { result ≡ child_of (items_listed items.items) }
+{
+    match items.pop() {
+        Some(Item::Child(element)) => Some(element),
+        Some(Item::Chars(_)) | None => None,
     }
 }
