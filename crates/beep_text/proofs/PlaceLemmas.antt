@@ -148,9 +148,9 @@ run-stays : (P : Mode → Bool) (p : ℕ → Bool) → ((s : State) (b : ℕ) �
 run-stays P p stays [] s is are = is
 run-stays P p stays (b ∷ bs) s is are = further (step s b) (stays s b is (left_of (p b) _ are)) (λ x held. run-stays P p stays bs x held (right_of (p b) _ are))
   where
-  further : (o : Option State) → OnState (λ x. P x.mode ≡ true) o → ((x : State) → P x.mode ≡ true → OnState (λ y. P y.mode ≡ true) (run (Some x) bs)) → OnState (λ y. P y.mode ≡ true) (run o bs)
-  further None held next = OnState-none (λ y. P y.mode ≡ true) bs
-  further (Some x) held next = next x held
+    further : (o : Option State) → OnState (λ x. P x.mode ≡ true) o → ((x : State) → P x.mode ≡ true → OnState (λ y. P y.mode ≡ true) (run (Some x) bs)) → OnState (λ y. P y.mode ≡ true) (run o bs)
+    further None held next = OnState-none (λ y. P y.mode ≡ true) bs
+    further (Some x) held next = next x held
 
 pub ref-run : (bs : List ℕ) (s : State) → in_ref s.mode ≡ true → list_all (λ b. not (b == 59)) bs ≡ true → OnState (λ x. in_ref x.mode ≡ true) (run (Some s) bs)
 ref-run bs s is are = run-stays in_ref (λ b. not (b == 59)) (λ x b held other. ref-stays x.mode x.below x.top x.attr x.value b held (is_false _ other)) bs s is are
@@ -197,8 +197,8 @@ value_amp : (q : ℕ) (part : Part) (below : List Tree) (top : Tree) (attr value
 unfolding OnAmp
 value_amp q Part.Fresh below top attr value is = rw (amp_apart q is) (in_value q)
   where
-  amp_apart : (q : ℕ) → (q == 34 || q == 39) ≡ true → (38 == q) ≡ false
-  amp_apart q is = grind (arith, nat_tests)
+    amp_apart : (q : ℕ) → (q == 34 || q == 39) ≡ true → (38 == q) ≡ false
+    amp_apart q is = grind (arith, nat_tests)
 value_amp q (Part.One v) below top attr value is = tt
 value_amp q (Part.Two v) below top attr value is = tt
 value_amp q (Part.Three v) below top attr value is = tt
@@ -263,7 +263,7 @@ closing_amp n below top attr value t opened is =
     let P : Option State → Type 0 = OnState (λ x. AmpMode x.mode) in
     by_test P (nat_lt n (length top.name))
     (λ within. by_test P (38 == get_or top.name n 0)
-      (λ same. absurd (true≢false (sym (all_at is_name_char top.name n (name_chars top.name (named_top below top t opened is)) (ltb-true n (length top.name) within)) ∙ ap is_name_char (sym (eqb-true 38 (get_or top.name n 0) same))))) (λ _. tt))
+    (λ same. absurd (true≢false (sym (all_at is_name_char top.name n (name_chars top.name (named_top below top t opened is)) (ltb-true n (length top.name) within)) ∙ ap is_name_char (sym (eqb-true 38 (get_or top.name n 0) same))))) (λ _. tt))
     (λ _. tt)
 
 -- behind a `&` a text stands in one of these places
@@ -337,10 +337,22 @@ number_begun false [] are = record { whole = decimal (codes "0"); reference = re
 number_begun false (d ∷ ds) are = record { whole = decimal (d ∷ ds); reference = both _ _ are (lt-ltb 0 (length (d ∷ ds)) (omega arith)); next = 59; others = []; text = refl }
 
 number_text : (hex : Bool) (digits o : List ℕ) → list_all (is_digit_in hex) digits ≡ true → o ≡ number_front hex ++ digits → RefText o
-number_text true digits o are is = record { rest = 35 ∷ 120 ∷ digits; text = is; begun = subst IsBegun (sym is) (number_begun true digits are);
-  no_end = digits_other true _ (λ d h. (digit_other true d h).0) digits are; no_gt = digits_other true _ (λ d h. (digit_other true d h).1) digits are; no_amp = digits_other true _ (λ d h. (digit_other true d h).2) digits are }
-number_text false digits o are is = record { rest = 35 ∷ digits; text = is; begun = subst IsBegun (sym is) (number_begun false digits are);
-  no_end = digits_other false _ (λ d h. (digit_other false d h).0) digits are; no_gt = digits_other false _ (λ d h. (digit_other false d h).1) digits are; no_amp = digits_other false _ (λ d h. (digit_other false d h).2) digits are }
+number_text true digits o are is = record {
+  rest = 35 ∷ 120 ∷ digits;
+  text = is;
+  begun = subst IsBegun (sym is) (number_begun true digits are);
+  no_end = digits_other true _ (λ d h. (digit_other true d h).0) digits are;
+  no_gt = digits_other true _ (λ d h. (digit_other true d h).1) digits are;
+  no_amp = digits_other true _ (λ d h. (digit_other true d h).2) digits are;
+}
+number_text false digits o are is = record {
+  rest = 35 ∷ digits;
+  text = is;
+  begun = subst IsBegun (sym is) (number_begun false digits are);
+  no_end = digits_other false _ (λ d h. (digit_other false d h).0) digits are;
+  no_gt = digits_other false _ (λ d h. (digit_other false d h).1) digits are;
+  no_amp = digits_other false _ (λ d h. (digit_other false d h).2) digits are;
+}
 
 ref_text : (part : Part) (o : List ℕ) → PartText part o → is_ref part ≡ true → RefText o
 ref_text Part.Fresh o is ref = absurd (cc ref)
@@ -404,16 +416,21 @@ at_amp : (front rest : List ℕ) (s : State) → run (Some start) (front ++ 38 �
 unfolding OnAmp
 at_amp front rest s goes = by_front (run (Some start) front) refl
   where
-  parted : run (run (Some start) front) (38 ∷ rest) ≡ Some s
-  parted = sym (run-append (Some start) front (38 ∷ rest)) ∙ goes
-  by_step : (s0 : State) → run (Some start) front ≡ Some s0 → (o : Option State) → step s0 38 ≡ o → OnState (λ x. AmpMode x.mode) o → AtAmp front rest s
-  by_step s0 is None stuck amp = absurd (some_none s (sym parted ∙ ap (λ x. run x (38 ∷ rest)) is ∙ ap (λ x. run x rest) stuck ∙ run-none rest))
-  by_step s0 is (Some s1) next amp = record {
-    behind = s1; goes = run-append (Some start) front (38 ∷ []) ∙ ap (λ x. run x (38 ∷ [])) is ∙ next; amp = amp;
-    then_goes = ap (λ x. run x rest) (sym next) ∙ ap (λ x. run x (38 ∷ rest)) (sym is) ∙ parted }
-  by_front : (o : Option State) → run (Some start) front ≡ o → AtAmp front rest s
-  by_front None none = absurd (some_none s (sym parted ∙ ap (λ x. run x (38 ∷ rest)) none ∙ run-none (38 ∷ rest)))
-  by_front (Some s0) is = by_step s0 is (step s0 38) refl (amp-step s0.mode s0.below s0.top s0.attr s0.value front (subst (Stepped front) is (read-reached front)))
+    parted : run (run (Some start) front) (38 ∷ rest) ≡ Some s
+    parted = sym (run-append (Some start) front (38 ∷ rest)) ∙ goes
+
+    by_step : (s0 : State) → run (Some start) front ≡ Some s0 → (o : Option State) → step s0 38 ≡ o → OnState (λ x. AmpMode x.mode) o → AtAmp front rest s
+    by_step s0 is None stuck amp = absurd (some_none s (sym parted ∙ ap (λ x. run x (38 ∷ rest)) is ∙ ap (λ x. run x rest) stuck ∙ run-none rest))
+    by_step s0 is (Some s1) next amp = record {
+      behind = s1;
+      goes = run-append (Some start) front (38 ∷ []) ∙ ap (λ x. run x (38 ∷ [])) is ∙ next;
+      amp = amp;
+      then_goes = ap (λ x. run x rest) (sym next) ∙ ap (λ x. run x (38 ∷ rest)) (sym is) ∙ parted;
+    }
+
+    by_front : (o : Option State) → run (Some start) front ≡ o → AtAmp front rest s
+    by_front None none = absurd (some_none s (sym parted ∙ ap (λ x. run x (38 ∷ rest)) none ∙ run-none (38 ∷ rest)))
+    by_front (Some s0) is = by_step s0 is (step s0 38) refl (amp-step s0.mode s0.below s0.top s0.attr s0.value front (subst (Stepped front) is (read-reached front)))
 
 on_some : (P : State → Type 0) (o : Option State) (s : State) → o ≡ Some s → OnState P o → P s
 on_some P o s is held = subst (OnState P) is held
@@ -451,7 +468,8 @@ entity_place body front o q s within small goes ref is text =
     let before : take (length front) body ≡ front = sym (take-take (length front) q body (omega (arith, long))) ∙ ap (take (length front)) text ∙ take_at front o (length front) refl in
     let read : run (Some start) (front ++ 38 ∷ is.rest) ≡ Some s = ap (run (Some start)) (sym whole) ∙ goes in
     record {
-      octet = within; before = long;
+      octet = within;
+      before = long;
       place = subst (λ (x : List ℕ). IsAlive (x ++ 38 ∷ [])) (sym before) (prefix_alive (front ++ 38 ∷ []) is.rest (subst IsAlive (whole ∙ sym (append_assoc front (38 ∷ []) is.rest)) (run-alive (take q body) s (omega (arith, length-take-le q body (omega arith))) goes)));
       only = λ alive. blank-dead front is.rest s read ref is.no_gt (subst (λ (x : List ℕ). IsAlive (x ++ 38 ∷ 32 ∷ [])) before alive);
       begun = subst IsBegun (sym (ap (drop (length front)) text ∙ drop_at front o (length front) refl)) is.begun;
@@ -464,10 +482,11 @@ prefix_without [] (c ∷ o) others next x are same = absurd (omega (arith, ap le
 prefix_without (y ∷ xs) (c ∷ o) others next x are same =
     both _ _ (ap (λ b. not (b == 59)) (sym (head_same y c (xs ++ x ∷ []) (o ++ next ∷ others) same)) ∙ left_of (not (y == 59)) _ are) (prefix_without xs o others next x (right_of (not (y == 59)) _ are) (tail_same y c (xs ++ x ∷ []) (o ++ next ∷ others) same))
   where
-  head_same : (a b : ℕ) (xs ys : List ℕ) → a ∷ xs ≡ b ∷ ys → a ≡ b
-  head_same a b xs ys same = cc
-  tail_same : (a b : ℕ) (xs ys : List ℕ) → a ∷ xs ≡ b ∷ ys → xs ≡ ys
-  tail_same a b xs ys same = cc
+    head_same : (a b : ℕ) (xs ys : List ℕ) → a ∷ xs ≡ b ∷ ys → a ≡ b
+    head_same a b xs ys same = cc
+
+    tail_same : (a b : ℕ) (xs ys : List ℕ) → a ∷ xs ≡ b ∷ ys → xs ≡ ys
+    tail_same a b xs ys same = cc
 
 -- the octets of a reference but its last
 pub record RefFront (w : Written) : Type 0 where
@@ -489,10 +508,11 @@ begun_rest (c ∷ o) some is =
     let same : 38 ∷ (f.front ++ 59 ∷ []) ≡ c ∷ (o ++ is.next ∷ is.others) = sym f.text ∙ is.text in
     (o, ap (λ x. x ∷ o) (sym (head_same 38 c (f.front ++ 59 ∷ []) (o ++ is.next ∷ is.others) same)), prefix_without f.front o is.others is.next 59 f.others (tail_same 38 c (f.front ++ 59 ∷ []) (o ++ is.next ∷ is.others) same))
   where
-  head_same : (a b : ℕ) (xs ys : List ℕ) → a ∷ xs ≡ b ∷ ys → a ≡ b
-  head_same a b xs ys same = cc
-  tail_same : (a b : ℕ) (xs ys : List ℕ) → a ∷ xs ≡ b ∷ ys → xs ≡ ys
-  tail_same a b xs ys same = cc
+    head_same : (a b : ℕ) (xs ys : List ℕ) → a ∷ xs ≡ b ∷ ys → a ≡ b
+    head_same a b xs ys same = cc
+
+    tail_same : (a b : ℕ) (xs ys : List ℕ) → a ∷ xs ≡ b ∷ ys → xs ≡ ys
+    tail_same a b xs ys same = cc
 
 -- where the machine isn't in a reference, no place is one
 pub no_entity : (body : List ℕ) (q p : ℕ) (s : State) → length body ≤ 65536 → run (Some start) (take q body) ≡ Some s → in_ref s.mode ≡ false → IsEntity body q p → ⊥

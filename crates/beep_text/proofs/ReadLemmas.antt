@@ -24,8 +24,11 @@ use Rattle.beep_text.proofs.StepLemmas.{Stepped, read-reached}
 opening_lawful : (below : List Tree) (top : Tree) (gap t : List ℕ) → Opening below top gap t → IsElement top
 opening_lawful [] top gap t is = absurd is
 opening_lawful (up ∷ below) top gap t is = record {
-  named = is.named; attrs = ap are_attrs is.settings ∙ attrs_lawful is.attrs [] refl is.are;
-  items = ap are_items is.items; nested = subst (λ (x : Items). depth_of x < MAX_NESTED) (sym is.items) (omega arith) }
+  named = is.named;
+  attrs = ap are_attrs is.settings ∙ attrs_lawful is.attrs [] refl is.are;
+  items = ap are_items is.items;
+  nested = subst (λ (x : Items). depth_of x < MAX_NESTED) (sym is.items) (omega arith);
+}
 
 inside_lawful : (below : List Tree) (top : Tree) (t : List ℕ) → IsOpen below → Inside below top t → IsElement top
 inside_lawful [] top t opened is = absurd (cc opened)
@@ -84,8 +87,8 @@ refused_at body i b s within small goes same none =
     let stops = stops_at body i s small within goes dead in
     by_test (Refuses body) (in_ref s.mode)
     (λ ref. let held = in_ref_text s.mode s.below s.top s.attr s.value (take i body) (reached_of (take i body) s goes) ref in
-      let place : last_amp (take i body) ≡ length held.0 = ap last_amp (held.3 ∙ ap (λ x. held.0 ++ x) held.2.text) ∙ amp_at held.0 held.2.rest 0 0 held.2.no_amp ∙ omega arith in
-      (small, (i, stops, subst (IsEntity body i) (sym place) (entity_place body held.0 held.1 i s within small goes ref held.2 held.3))))
+    let place : last_amp (take i body) ≡ length held.0 = ap last_amp (held.3 ∙ ap (λ x. held.0 ++ x) held.2.text) ∙ amp_at held.0 held.2.rest 0 0 held.2.no_amp ∙ omega arith in
+    (small, (i, stops, subst (IsEntity body i) (sym place) (entity_place body held.0 held.1 i s within small goes ref held.2 held.3))))
     (λ other. (small, stops, λ p is. no_entity body i p s small goes other is))
 
 -- ---- the end of the body
@@ -113,20 +116,21 @@ some_same e f same = cc
 pub read_value : (body : List ℕ) (s : State) (e : Tree) → run (Some start) body ≡ Some s → Some e ≡ element_of s.mode s.top.items → IsBody body e
 read_value body s e goes is = by_trail (is_trail s.mode) refl is
   where
-  by_trail : (x : Bool) → is_trail s.mode ≡ x → Some e ≡ (if x then child_of s.top.items else None) → IsBody body e
-  by_trail false no_trail found = absurd (cc found)
-  by_trail true trail found =
-      let r = subst (λ (m : Mode). ReachedIn m s.below s.top s.attr s.value body) (trail_is s.mode trail) (reached_of body s goes) in
-      subst (IsBody body) (sym (some_same e r.0 (found ∙ ap (λ (x : Tree). child_of x.items) r.3))) r.2
+    by_trail : (x : Bool) → is_trail s.mode ≡ x → Some e ≡ (if x then child_of s.top.items else None) → IsBody body e
+    by_trail false no_trail found = absurd (cc found)
+    by_trail true trail found =
+        let r = subst (λ (m : Mode). ReachedIn m s.below s.top s.attr s.value body) (trail_is s.mode trail) (reached_of body s goes) in
+        subst (IsBody body) (sym (some_same e r.0 (found ∙ ap (λ (x : Tree). child_of x.items) r.3))) r.2
 
 pub read_short : (body : List ℕ) (s : State) → length body ≤ MAX_TEXT → run (Some start) body ≡ Some s → None ≡ element_of s.mode s.top.items → Refuses body (TextError.Malformed (length body))
 read_short body s small goes none =
     (small, stops_short body s small goes (λ e is. never e is), λ p is. absurd (let octet = is.octet in omega arith))
   where
-  found : Option State → Option Tree
-  found None = None
-  found (Some x) = element_of x.mode x.top.items
-  never : (e : Tree) → IsBody body e → ⊥
-  never e is =
-      let r = body-run body e is in
-      absurd (cc (none ∙ ap found (sym goes ∙ r.2)))
+    found : Option State → Option Tree
+    found None = None
+    found (Some x) = element_of x.mode x.top.items
+
+    never : (e : Tree) → IsBody body e → ⊥
+    never e is =
+        let r = body-run body e is in
+        absurd (cc (none ∙ ap found (sym goes ∙ r.2)))

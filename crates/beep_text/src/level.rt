@@ -6,13 +6,12 @@ ghost use Rattle.beep_text.specs.Elements.{put as put_in};
 ghost use Rattle.beep_text.specs.Machine.{has_room, is_new_with};
 ghost use Rattle.beep_text.specs.Listed.{items_listed};
 
-use beep_frame::NoMemory;
-
 use crate::attr::Attr;
 use crate::element::Item;
 use crate::limits::MAX_NAME;
 use crate::octet::is_name_char;
 use crate::text::Text;
+use beep_frame::NoMemory;
 
 /// Whether an attribute has this name.
 pub(crate) fn has_name(attrs: &[Attr], name: &Text) -> bool

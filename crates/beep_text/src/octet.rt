@@ -69,7 +69,8 @@ pub(crate) fn is_fresh(part: Part) -> bool
 {
     match part {
         Part::Fresh => true,
-        Part::One(_) | Part::Two(_) | Part::Three(_) | Part::Name(_) | Part::Number(_, _, _) => false,
+        Part::One(_) | Part::Two(_) | Part::Three(_) | Part::Name(_) | Part::Number(_, _, _) =>
+            false,
     }
 }
 
@@ -226,7 +227,11 @@ fn first_letter(octet: u8) -> Option<Letters>
 fn is_digit_in(hex: bool, octet: u8) -> bool
     ensures { result ≡ is_digit_in hex octet }
 {
-    if hex { is_hex_digit(octet) } else { is_digit(octet) }
+    if hex {
+        is_hex_digit(octet)
+    } else {
+        is_digit(octet)
+    }
 }
 
 fn digit_of(octet: u8) -> u64
@@ -247,7 +252,11 @@ fn number_after(hex: bool, any: bool, value: u32, octet: u8) -> Taken
     ensures { result ≡ taken_after (Part.Number hex any value) octet }
 {
     if octet == b';' {
-        return if any { allowed(value as u64) } else { Taken::Dead };
+        return if any {
+            allowed(value as u64)
+        } else {
+            Taken::Dead
+        };
     }
     if octet == b'x' && !hex && !any {
         return Taken::More(Part::Number(true, false, 0));
@@ -262,7 +271,11 @@ fn base_times(hex: bool, value: u32) -> u64
     ensures value { result ≡ base_of hex * value }
     ensures within { result ≤ 2 ^ 36 }
 {
-    if hex { 16 * value as u64 } else { 10 * value as u64 }
+    if hex {
+        16 * value as u64
+    } else {
+        10 * value as u64
+    }
 }
 
 fn digit_taken(hex: bool, number: u64) -> Taken

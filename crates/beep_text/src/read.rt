@@ -4,15 +4,13 @@ ghost use Rattle.beep_text.specs.Elements.{IsBody};
 ghost use Rattle.beep_text.specs.Refused.{Refuses};
 ghost use Rattle.beep_text.specs.Reading.{last_amp, refusal_of};
 
-use std::alloc::Global;
-
-use thiserror::Error;
-
 use crate::element::Element;
 use crate::limits::MAX_TEXT;
 use crate::mode::Mode;
 use crate::octet::in_ref;
 use crate::reader::Reader;
+use std::alloc::Global;
+use thiserror::Error;
 
 /// Why a body isn't read. The places count octets from 0.
 #[derive(Clone, Copy, Debug, PartialEq, Eq, Error)]
@@ -80,3 +78,6 @@ fn last_amp(octets: &[u8]) -> usize
     }
     last
 }
+
+#[cfg(test)]
+mod tests;

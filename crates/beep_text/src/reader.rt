@@ -7,11 +7,6 @@ ghost use Rattle.beep_text.specs.Elements.{put as put_in};
 ghost use Rattle.beep_text.specs.Reading.{tree_in, state_of, Steps, MayEnd, element_of, child_of};
 ghost use Rattle.beep_text.specs.Listed.{items_listed};
 
-use std::alloc::Global;
-use std::mem;
-
-use beep_frame::NoMemory;
-
 use crate::attr::Attr;
 use crate::element::{Element, Item, push_attr};
 use crate::level::{has_name, has_room, push_item, put};
@@ -19,6 +14,9 @@ use crate::limits::{MAX_NAME, MAX_NESTED};
 use crate::mode::{Mode, Part, Taken};
 use crate::octet::{char_taken, is_fresh, is_name_char, is_name_start, is_space, taken_after};
 use crate::text::Text;
+use beep_frame::NoMemory;
+use std::alloc::Global;
+use std::mem;
 
 /// An element that is open.
 #[derive(Drop)]
