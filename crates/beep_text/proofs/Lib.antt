@@ -1,0 +1,15 @@
+mod CanonicalLemmas
+mod CharLemmas
+mod ElementLemmas
+mod FinishLemmas
+mod LawLemmas
+mod PlaceLemmas
+mod ReachedLemmas
+mod ReadLemmas
+mod ReadingLemmas
+mod RoomLemmas
+mod RunLemmas
+mod SplitLemmas
+mod StepLemmas
+mod TextLemmas
+mod WrittenLemmas

@@ -1,0 +1,11 @@
+pub mod Characters
+pub mod Tree
+pub mod Listed
+pub mod Falls
+pub mod Lawful
+pub mod Elements
+pub mod Canonical
+pub mod Split
+pub mod Machine
+pub mod Reading
+pub mod Refused

@@ -1,0 +1,10 @@
+//! An attribute of an element.
+
+use crate::text::Text;
+
+/// A name and what it is set to.
+#[derive(Debug, Drop)]
+pub struct Attr {
+    pub name: Text,
+    pub value: Text,
+}

@@ -1,0 +1,95 @@
+//! A list of characters, kept as text.
+ghost use Rattle.std.specs.Prelude.{◌≡◌, ◌==◌, ◌<◌, [], ◌∷◌, ◌++◌, length, chars, slice_get, slice_index, bytes_eq, IfOk, OnOk, OnErr};
+
+use beep_frame::NoMemory;
+use std::alloc::Global;
+use std::marker::Model;
+
+/// A list of characters that grows at its end.
+#[derive(Debug, Drop)]
+pub struct Text {
+    text: String,
+}
+
+impl Model for Text {
+    ghost use Rattle.std.specs.Prelude.{ℕ, List, chars, string_bytes};
+
+    ghost Value = { List ℕ };
+
+    ghost view = { λ t. chars (string_bytes t.text) };
+}
+
+impl Text {
+    /// A list without characters. It takes no memory.
+    pub fn new(alloc: Global) -> Text
+        ensures { result ≡ [] }
+    {
+        Text {
+            text: String::new(alloc),
+        }
+    }
+
+    /// Appends a character.
+    pub fn push(&mut self, character: char) -> Result<(), NoMemory>
+        ensures ok { OnOk result (self.new ≡ self.old ++ character ∷ []) }
+        ensures err { OnErr result (self.new ≡ self.old) }
+    {
+        self.text.push(character)?;
+        Ok(())
+    }
+
+    /// How many characters the list has. It takes time in its length.
+    pub fn len(&self) -> usize
+        ensures { result ≡ length self.now }
+    {
+        self.text.chars().count()
+    }
+
+    /// The character at `i`. It takes time in `i`.
+    pub fn get(&self, i: usize) -> Option<char>
+        ensures { result ≡ slice_get self.now i }
+    {
+        self.text.chars().nth(i)
+    }
+
+    /// The characters as text.
+    pub fn as_str(&self) -> &str
+        ensures { chars result.now ≡ self.now }
+    {
+        self.text.as_str()
+    }
+
+    /// Whether the characters are those of `other`.
+    pub(crate) fn is(&self, other: &str) -> bool
+        ensures { result ≡ bytes_eq self.now (chars other.now) }
+    {
+        self.text.as_str() == other
+    }
+
+    /// Whether the characters are those of another list.
+    pub(crate) fn same(&self, other: &Text) -> bool
+        ensures { result ≡ bytes_eq self.now other.now }
+    {
+        self.is(other.as_str())
+    }
+
+    /// The same characters again.
+    pub(crate) fn copy(&self) -> Result<Text, NoMemory>
+        ensures { IfOk result (λ text. text ≡ self.now) }
+    {
+        Ok(Text {
+            text: self.text.clone()?,
+        })
+    }
+
+    /// Whether the character at `i` is this octet.
+    pub(crate) fn has_at(&self, i: usize, octet: u8) -> bool
+        requires { i < length self.now }
+        ensures { result ≡ (octet == slice_index self.now i) }
+    {
+        match self.get(i) {
+            Some(character) => octet as char == character,
+            None => false,
+        }
+    }
+}
