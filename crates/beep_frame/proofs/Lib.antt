@@ -8,3 +8,4 @@ pub mod DeadLemmas
 pub mod AliveLemmas
 pub mod DecodeLemmas
 pub mod LawLemmas
+pub mod OutlineLemmas

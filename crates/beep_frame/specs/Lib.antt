@@ -10,3 +10,5 @@ pub mod Stands
 pub mod Decodes
 pub mod Telling
 pub mod Laws
+pub mod Outline
+pub mod Outlining
