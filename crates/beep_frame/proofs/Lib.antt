@@ -19,3 +19,4 @@ pub mod PassedLemmas
 pub mod MomentsLemmas
 pub mod MarksLemmas
 pub mod OrderLemmas
+pub mod OutlineLemmas

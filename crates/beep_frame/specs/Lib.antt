@@ -14,3 +14,5 @@ pub mod Journal
 pub mod Marks
 pub mod Broken
 pub mod Moments
+pub mod Outline
+pub mod Outlining

@@ -176,3 +176,6 @@ impl Decoder {
         self.left
     }
 }
+
+#[cfg(test)]
+mod tests;

@@ -1,0 +1,133 @@
+//! One stream, cut in every way. The steps and the place are worked out by hand from the grammar (RFC
+//! 3080, section 2.2.1; RFC 3081, section 3.1).
+
+use super::*;
+use crate::head::MAX_NUMBER;
+use crate::kind::Kind;
+
+// Frames of 22, 11 and 25 octets, and then one octet and its dead successor.
+static STREAM: &[u8] = b"RPY 0 1 . 307 0\r\nEND\r\nSEQ 1 2 3\r\nANS 1 0 * 0 3 7\r\nabcEND\r\nENX";
+
+static STEPS: [Step; 6] = [
+    Step::Head(Head {
+        kind: Kind::Rpy,
+        channel: 0,
+        msgno: 1,
+        more: false,
+        seqno: 307,
+        size: 0,
+        ansno: 0,
+    }),
+    Step::Frame,
+    Step::Seq(Seq {
+        channel: 1,
+        ackno: 2,
+        window: 3,
+    }),
+    Step::Head(Head {
+        kind: Kind::Ans,
+        channel: 1,
+        msgno: 0,
+        more: true,
+        seqno: 0,
+        size: 3,
+        ansno: 7,
+    }),
+    Step::Frame,
+    Step::Broken(Rule::Header, 59),
+];
+
+/// Feeds a piece up to its end or to a broken rule, and keeps each step but More.
+fn feed_all(decoder: &mut Decoder, piece: &[u8], steps: &mut Vec<Step>) -> Result<(), NoMemory> {
+    let mut rest = piece;
+    for _ in 0..=piece.len() {
+        let (count, step) = decoder.feed(rest);
+        rest = &rest[count..];
+        if step == Step::More {
+            break;
+        }
+        steps.reserve(1)?;
+        steps.push_reserved(step);
+        if let Step::Broken(_, _) = step {
+            break;
+        }
+    }
+    Ok(())
+}
+
+#[test]
+fn each_cut_gives_the_same_steps(rt: HostRuntime) -> Result<(), NoMemory> {
+    for cut in 0..=STREAM.len() {
+        let mut decoder = Decoder::new(rt.alloc(), MAX_NUMBER)?;
+        let mut steps = Vec::new(rt.alloc());
+        feed_all(&mut decoder, &STREAM[..cut], &mut steps)?;
+        if decoder.broken.is_none() {
+            feed_all(&mut decoder, &STREAM[cut..], &mut steps)?;
+        }
+        assert_eq!(rt; steps.as_slice(), STEPS.as_slice(), "cut at {cut}");
+        assert_eq!(rt; decoder.left(), 2, "cut at {cut}");
+    }
+    Ok(())
+}
+
+#[test]
+fn single_octets_give_the_same_steps(rt: HostRuntime) -> Result<(), NoMemory> {
+    let mut decoder = Decoder::new(rt.alloc(), MAX_NUMBER)?;
+    let mut steps = Vec::new(rt.alloc());
+    for octet in STREAM {
+        if decoder.broken.is_none() {
+            feed_all(&mut decoder, &[*octet], &mut steps)?;
+        }
+    }
+    assert_eq!(rt; steps.as_slice(), STEPS.as_slice());
+    Ok(())
+}
+
+// The octets fed and those left behind the last whole frame.
+#[test]
+fn left_counts_from_the_last_whole_frame(rt: HostRuntime) -> Result<(), NoMemory> {
+    let rows = [
+        (0, 0),
+        (1, 1),
+        (17, 17),
+        (21, 21),
+        (22, 0),
+        (32, 10),
+        (33, 0),
+        (50, 17),
+        (58, 0),
+        (59, 1),
+    ];
+    for (fed, left) in rows {
+        let mut decoder = Decoder::new(rt.alloc(), MAX_NUMBER)?;
+        let mut steps = Vec::new(rt.alloc());
+        let piece = STREAM.get(..fed).unwrap_or(STREAM);
+        feed_all(&mut decoder, piece, &mut steps)?;
+        assert_eq!(rt; decoder.left(), left, "at {fed}");
+    }
+    Ok(())
+}
+
+#[test]
+fn a_broken_decoder_answers_the_same_for_ever(rt: HostRuntime) -> Result<(), NoMemory> {
+    let mut decoder = Decoder::new(rt.alloc(), MAX_NUMBER)?;
+    let broken = Step::Broken(Rule::Header, 5);
+    assert_eq!(rt; decoder.feed(b"MSG 01"), (6, broken));
+    assert_eq!(rt; decoder.feed(b"MSG 1 0 . 0 0\r\n"), (0, broken));
+    assert_eq!(rt; decoder.feed(b""), (0, broken));
+    assert_eq!(rt; decoder.left(), 6);
+    Ok(())
+}
+
+// A header of 17 octets with its CR and LF numbers 17 and 18.
+#[test]
+fn a_size_above_the_limit_is_told_at_the_headers_end(rt: HostRuntime) -> Result<(), NoMemory> {
+    let mut decoder = Decoder::new(rt.alloc(), 65536)?;
+    let broken = Step::Broken(Rule::Size, 18);
+    assert_eq!(rt; decoder.feed(b"MSG 1 0 . 0 65537\r\n"), (19, broken));
+    let mut decoder = Decoder::new(rt.alloc(), 65536)?;
+    let (count, step) = decoder.feed(b"MSG 1 0 . 0 65536\r\n");
+    assert_eq!(rt; count, 19);
+    assert!(rt; matches!(&step, Step::Head(_)));
+    Ok(())
+}
