@@ -47,3 +47,6 @@ fn is_command(words: &[String]) -> bool
         _ => false,
     }
 }
+
+#[cfg(test)]
+mod tests;
