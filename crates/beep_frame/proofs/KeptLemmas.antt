@@ -27,7 +27,7 @@ pub record Kept (side : Side) (past : List Item) (head : Head) : Type 0 where
   pub too_many_requests : breaks_too_many_requests side past head ≡ false
   pub too_many_answers : breaks_too_many_answers side past head ≡ false
 
-pass : (rule : Rule) (holds : Bool) (others : Option Rule) → (if holds then Some rule else others) ≡ None → (holds ≡ false) × (others ≡ None)
+pub pass : (rule : Rule) (holds : Bool) (others : Option Rule) → (if holds then Some rule else others) ≡ None → (holds ≡ false) × (others ≡ None)
 pass rule true others e = cc
 pass rule false others e = (refl, e)
 

@@ -86,19 +86,19 @@ pub reply-grown : (side : Side) (past : List Item) (head : Head) (payload : List
     → (p : ℕ) → reply side p (passed (other side) head payload ∷ past) ≡ (if oldest == p then head ∷ reply side p past else reply side p past)
 reply-grown side past head payload oldest r d p = rw (reply-passed-theirs head payload past side p, r, d.found, d.at)
 
-answered-ended : (oldest p : ℕ) (head : Head) (frames : List Head) (test : Bool) → (oldest == p) ≡ test → ends_reply head ≡ true
+pub answered-ended : (oldest p : ℕ) (head : Head) (frames : List Head) (test : Bool) → (oldest == p) ≡ test → ends_reply head ≡ true
     → list_any ends_reply frames ≡ nat_lt p oldest
     → list_any ends_reply (if test then head ∷ frames else frames) ≡ nat_lt p (suc oldest)
 answered-ended oldest p head frames true e ends before = rw ends (sym (lt-ltb _ _ (grind (arith, nat_tests))))
 answered-ended oldest p head frames false e ends before = rw before (grind (arith, nat_tests))
 
-answered-on : (oldest p : ℕ) (head : Head) (frames : List Head) (test : Bool) → (oldest == p) ≡ test → ends_reply head ≡ false
+pub answered-on : (oldest p : ℕ) (head : Head) (frames : List Head) (test : Bool) → (oldest == p) ≡ test → ends_reply head ≡ false
     → list_any ends_reply frames ≡ nat_lt p oldest
     → list_any ends_reply (if test then head ∷ frames else frames) ≡ nat_lt p oldest
 answered-on oldest p head frames true e ends before = rw ends before
 answered-on oldest p head frames false e ends before = before
 
-other-place : (oldest p : ℕ) (head : Head) (frames : List Head) → oldest < p → frames ≡ [] → (if oldest == p then head ∷ frames else frames) ≡ []
+pub other-place : (oldest p : ℕ) (head : Head) (frames : List Head) → oldest < p → frames ≡ [] → (if oldest == p then head ∷ frames else frames) ≡ []
 other-place oldest p head frames later none = let e : (oldest == p) ≡ false = grind (arith, nat_tests) in rw e none
 
 or-less : (a b c : Bool) → (a || b) ≡ false → (b ≡ false → c ≡ false) → (a || c) ≡ false

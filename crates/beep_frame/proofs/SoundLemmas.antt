@@ -94,11 +94,11 @@ waiting-newest side past oldest answered =
 
 -- ---- a header that is a reply
 
-some-of : {A : Type 0} (o : Option A) → is_none o ≡ false → (x : A) × (o ≡ Some x)
+pub some-of : {A : Type 0} (o : Option A) → is_none o ≡ false → (x : A) × (o ≡ Some x)
 some-of None e = cc
 some-of (Some x) e = (x, refl)
 
-at-some : {A B : Type 0} (f : A → B) (o : Option A) (x : A) (d : B) → o ≡ Some x → option_map_or f o d ≡ f x
+pub at-some : {A B : Type 0} (f : A → B) (o : Option A) (x : A) (d : B) → o ≡ Some x → option_map_or f o d ≡ f x
 at-some f o x d e = rw e
 
 alike-of : (kind : Kind) (frames : List Head) → list_any (λ frame. not (same_kind frame.kind kind)) frames ≡ false → IsAlike kind frames

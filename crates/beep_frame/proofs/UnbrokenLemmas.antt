@@ -159,7 +159,7 @@ began-mine-on side past head idle on k s =
           };
     }
 
-any-whole : (n : ℕ) (f : ℕ → Bool) (w : ℕ) (rs : List Request) → IsNumbered rs → ((p : ℕ) → p < length rs → f p ≡ true)
+pub any-whole : (n : ℕ) (f : ℕ → Bool) (w : ℕ) (rs : List Request) → IsNumbered rs → ((p : ℕ) → p < length rs → f p ≡ true)
     → list_any (λ (r : Request). r.number == n && f r.position) (take w rs) ≡ has n (take w (map (λ (r : Request). r.number) rs))
 any-whole n f zero rs numbered all = refl
 any-whole n f (suc w) [] numbered all = refl
@@ -176,7 +176,7 @@ and-first : (a b : Bool) → (a && b) ≡ true → a ≡ true
 and-first true b e = refl
 and-first false b e = e
 
-min-less : (n m : ℕ) → min (n - m) n ≡ n - m
+pub min-less : (n m : ℕ) → min (n - m) n ≡ n - m
 min-less n m = omega arith
 
 -- what holds where a new request begins

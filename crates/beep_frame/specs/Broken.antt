@@ -1,7 +1,7 @@
 -- The rules of one life on an arriving header, in the order in which they are answered (RFC 3080, section 2.2.1).
 -- The code keeps counts of one life; here each rule is a test over all that came before.
 -- A rule takes the side on which the header goes, so that the rules of a sent frame are those of a received one.
-use Rattle.std.specs.Prelude.{◌≡◌, ℕ, ◌+◌, ◌^◌, ◌%◌, ◌==◌, nat_lt, nat_le, max, Bool, false, not, ◌&&◌, ◌||◌, if◌then◌else◌, List, [], ◌∷◌, ◌++◌, length, take, find, Option, None, Some}
+use Rattle.std.specs.Prelude.{◌≡◌, ℕ, ◌+◌, ◌^◌, ◌%◌, ◌==◌, nat_lt, nat_le, max, Bool, true, false, not, ◌&&◌, ◌||◌, if◌then◌else◌, List, [], ◌∷◌, ◌++◌, length, take, find, Option, None, Some}
 use Rattle.std.specs.List.{list_any}
 use Rattle.std.specs.Option.{option_map_or, is_none}
 use Rattle.beep_frame.specs.declared.head.Head.{Head}
@@ -188,6 +188,41 @@ broken_rule side past head = broken_within (greatest_edge side past) side past h
 -- the first rule on messages, requests, replies and limits that a header of this side breaks
 unfoldable pub exchange_rule : Side → List Item → Head → Option Rule
 exchange_rule side past head = first_of (shape_rules side past head ++ limit_rules side past head)
+
+-- ---- the rules on octets between the others
+
+-- a rule is one of those on limits
+abbrev pub is_limit : Rule → Bool
+is_limit Rule.Header = false
+is_limit Rule.Trailer = false
+is_limit Rule.Size = false
+is_limit Rule.NoGreeting = false
+is_limit Rule.NoSuchChannel = false
+is_limit Rule.NotAlone = false
+is_limit Rule.NulShape = false
+is_limit Rule.NotContinued = false
+is_limit Rule.KindChanged = false
+is_limit Rule.NumberInUse = false
+is_limit Rule.NeverAsked = false
+is_limit Rule.EarlyReply = false
+is_limit Rule.AlreadyAnswered = false
+is_limit Rule.OutOfTurn = false
+is_limit Rule.NulNotAfterAns = false
+is_limit Rule.NulTooSoon = false
+is_limit Rule.Sequence = false
+is_limit Rule.Long = false
+is_limit Rule.Window = false
+is_limit Rule.EmptyAnswer = true
+is_limit Rule.TooManyRequests = true
+is_limit Rule.TooManyAnswers = true
+is_limit Rule.BadAck = false
+is_limit Rule.ZeroReply = false
+
+-- the answer on octets in its place: after each rule of the exchange but those on limits
+abbrev pub with_octets : Option Rule → Option Rule → Option Rule
+with_octets None octets = octets
+with_octets (Some rule) None = Some rule
+with_octets (Some rule) (Some octets) = if is_limit rule then Some octets else Some rule
 
 -- ---- a history without a broken rule
 

@@ -2,6 +2,7 @@
 //! nothing, and its contract is the fact. Who believes them need not read the definitions.
 ghost use Rattle.std.specs.Prelude.{◌≡◌, ◌↔◌, ℕ, ◌≤◌, ◌<◌, true, List, length, Bool};
 ghost use Rattle.beep_frame.specs.declared.head.Head.{Head as header_type};
+ghost use Rattle.beep_frame.specs.declared.head.Head.{Head};
 ghost use Rattle.beep_frame.specs.declared.tag.Tag.{Tag};
 ghost use Rattle.beep_frame.specs.declared.journal.Side.{Side};
 ghost use Rattle.beep_frame.specs.Frame.{Frame};
@@ -9,7 +10,7 @@ ghost use Rattle.beep_frame.specs.Stands.{Stands};
 ghost use Rattle.beep_frame.specs.Laws.{OneReading, NoneBeginsAnother, StaysAlive, Means};
 ghost use Rattle.beep_frame.specs.Journal.{Item};
 ghost use Rattle.beep_frame.specs.Marks.{Request, requests, waiting, is_whole, is_answered, reply, marks};
-ghost use Rattle.beep_frame.specs.Broken.{IsUnbroken};
+ghost use Rattle.beep_frame.specs.Broken.{IsUnbroken, broken_within, exchange_rule, octet_rules, first_of, with_octets};
 ghost use Rattle.beep_frame.specs.Moments.{Asked, Sent, Answered, EndsOnce, IsOneOf, IsRising, reply_positions, mark_octets, frame_octets, mark_ends, frame_ends};
 
 use crate::decoder::Decoder;
@@ -37,6 +38,12 @@ pub fn what_a_decoder_read_is_the_stream(decoder: &Decoder)
 {
     let _decoder = decoder;
 }
+
+/// The first broken rule is that of the exchange with the one on octets put in its place.
+pub fn the_rules_on_octets_stand_before_those_on_limits()
+    ensures { (edge : ℕ) (side : Side) (past : List Item) (head : Head) → broken_within edge side past head
+        ≡ with_octets (exchange_rule side past head) (first_of (octet_rules edge side past head)) }
+{}
 
 /// The requests of a side are those whose header began.
 pub fn a_request_is_asked_where_it_began()

@@ -1,0 +1,6 @@
+pub mod NumbersLemmas
+pub mod AskerLemmas
+pub mod RowsLemmas
+pub mod JudgedLemmas
+pub mod NotedLemmas
+pub mod StandsLemmas
