@@ -93,20 +93,9 @@ impl Sink for MemSink {
             return Err(Failed);
         }
         let n = self.piece.min(self.room).min(bytes.len());
-        append_spare(&mut self.log, &bytes[..n]);
+        self.log.extend_spare(&bytes[..n]);
         self.room -= n;
         Ok(n)
-    }
-}
-
-fn append_spare(log: &mut Octets, bytes: &[u8])
-    requires { length bytes.now ≤ log.old.spare }
-    ensures appended { log.new.octets ≡ log.old.octets ++ bytes.now }
-    ensures room { log.old.spare ≤ log.new.spare + length bytes.now }
-{
-    match log.extend(bytes) {
-        Ok(()) => {}
-        Err(NoMemory) => unreachable!(),
     }
 }
 
