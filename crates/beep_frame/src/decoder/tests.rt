@@ -70,6 +70,35 @@ fn each_cut_gives_the_same_steps(rt: HostRuntime) -> Result<(), NoMemory> {
     Ok(())
 }
 
+// A frame of 73 octets: 16 of header, 52 of payload and 5 of trailer.
+#[test]
+fn a_greeting_may_be_cut_anywhere(rt: HostRuntime) -> Result<(), NoMemory> {
+    let greeting: &[u8; 73] =
+        b"RPY 0 0 . 0 52\r\nContent-Type: application/beep+xml\r\n\r\n<greeting />\r\nEND\r\n";
+    let head = Step::Head(Head {
+        kind: Kind::Rpy,
+        channel: 0,
+        msgno: 0,
+        more: false,
+        seqno: 0,
+        size: 52,
+        ansno: 0,
+    });
+    for cut in 0..=greeting.len() {
+        let mut decoder = Decoder::new(rt.alloc(), 65536)?;
+        let mut steps = Vec::new(rt.alloc());
+        feed_all(&mut decoder, &greeting[..cut], &mut steps)?;
+        feed_all(&mut decoder, &greeting[cut..], &mut steps)?;
+        assert_eq!(rt;
+            steps.as_slice(),
+            [head, Step::Frame].as_slice(),
+            "cut at {cut}"
+        );
+        assert_eq!(rt; decoder.left(), 0, "cut at {cut}");
+    }
+    Ok(())
+}
+
 #[test]
 fn single_octets_give_the_same_steps(rt: HostRuntime) -> Result<(), NoMemory> {
     let mut decoder = Decoder::new(rt.alloc(), MAX_NUMBER)?;
