@@ -66,8 +66,13 @@ fn texts(alloc: Global, frames: &[PlainFrame]) -> Result<String, NoMemory> {
 }
 
 // The octets, their whole frames, and how many octets are left.
-static ALIVE: [(&str, &str, u64); 17] = [
+static ALIVE: [(&str, &str, u64); 18] = [
     ("", "", 0),
+    (
+        "RPY 0 0 . 0 52\r\nContent-Type: application/beep+xml\r\n\r\n<greeting />\r\nEND\r\n",
+        "RPY 0 0 . 0 52|Content-Type: application/beep+xml\r\n\r\n<greeting />\r\n\n",
+        0,
+    ),
     ("RPY 0 1 . 307 0\r\nEND\r\n", "RPY 0 1 . 307 0|\n", 0),
     (
         "MSG 1 0 * 4294967290 10\r\n0123456789END\r\n",
