@@ -8,7 +8,7 @@ use Rattle.beep_frame.specs.declared.head.Head.{Head}
 use Rattle.beep_frame.specs.declared.rule.Rule.{Rule}
 use Rattle.beep_frame.specs.Frame.{Frame, framed, seq_frame}
 use Rattle.beep_frame.specs.Spelling.{spelling, header, seq_line, line_end, trailer}
-use Rattle.beep_frame.specs.Stands.{told}
+use Rattle.beep_frame.specs.Told.{told}
 use Rattle.beep_wires.specs.Counts.{Rose}
 use Rattle.beep_wires.specs.Transfer.{AppendsPrefix}
 use Rattle.beep_cmd.specs.declared.listing.Lister.{Lister}

@@ -7,13 +7,14 @@ use Rattle.std.proofs.lemmas.List.Concat.{flat_map-append}
 use Rattle.beep_frame.specs.declared.head.Head.{Head}
 use Rattle.beep_frame.specs.declared.seq.Seq.{Seq}
 use Rattle.beep_frame.specs.declared.rule.Rule.{Rule}
-use Rattle.beep_frame.specs.declared.decoder.Step.{Step}
+use Rattle.beep_frame.specs.declared.step.Step.{Step}
 use Rattle.beep_frame.specs.Held.{Held, KeepsRoom}
 use Rattle.beep_frame.specs.Frame.{Frame, framed, seq_frame}
 use Rattle.beep_frame.specs.Spelling.{header, header_line, seq_line, line_end}
-use Rattle.beep_frame.specs.Stands.{DecoderState, Stands, IsWithin, told}
-use Rattle.beep_frame.specs.Decodes.{Decodes, BreaksBy, is_broken}
-use Rattle.beep_frame.specs.Stream.{Stream}
+use Rattle.beep_frame.specs.Told.{told}
+use Rattle.beep_frame.specs.Stands.{DecoderState, Stands}
+use Rattle.beep_frame.specs.Decodes.{Decodes, is_broken}
+use Rattle.beep_frame.specs.Stream.{Stream, IsWithin, BreaksBy}
 use Rattle.beep_frame.specs.Laws.{TellsHead}
 use Rattle.beep_frame.proofs.LawLemmas.{means, length-header_line, length-seq_line}
 use Rattle.beep_cmd.specs.declared.listing.Lister.{Lister}
@@ -40,7 +41,7 @@ short_rest rest (inr w) = let e : [] ≡ w.0 ∷ [] = w.1 in absurd (cc)
 no_frames : {A : Type 0} (xs : List A) (n : ℕ) → n ≡ told (length xs) → n ≡ told (length (xs ++ []))
 no_frames xs n e = e ∙ ap (λ ys. told (length ys)) (sym (append-nil xs))
 
-module _ (l : Lister) (d : DecoderState) (new : Lister) (fed : List ℕ) (frames : List Frame) (rest : List ℕ) (heads : List Head) (octets : List ℕ) (n : ℕ) (h : Holds l fed frames rest heads) (limit : d.max ≡ l.decoder.max) (within : n ≤ length octets) (fits : length l.line.octets + length (take n octets) ≤ l.out.spare) where
+module _ (l : Lister) (d : DecoderState) (new : Lister) (fed : List ℕ) (frames : List Frame) (rest : List ℕ) (heads : List Head) (octets : List ℕ) (n : ℕ) (h : Holds l fed frames rest heads) (limit : d.tracker.max ≡ l.decoder.tracker.max) (within : n ≤ length octets) (fits : length l.line.octets + length (take n octets) ≤ l.out.spare) where
   -- the line grows with what was taken, as long as that is short
   grows : Gathered l.line new.line l.has_head (take n octets) → (l.has_head ≡ false) → l.line.octets ≡ rest → length (rest ++ take n octets) ≤ 62 → new.line.octets ≡ rest ++ take n octets
   grows g fresh same short =
@@ -52,7 +53,7 @@ module _ (l : Lister) (d : DecoderState) (new : Lister) (fed : List ℕ) (frames
       let all : frames ++ [] ≡ frames = append-nil frames in
       let stands' : Stands new.decoder (fed ++ take n octets) (frames ++ []) rest' heads' = subst (λ x. Stands x (fed ++ take n octets) (frames ++ []) rest' heads') (sym s.decoder) (subst (λ x. Stands d (fed ++ take n octets) x rest' heads') (sym all) stands) in
       let same_out : new.out ≡ l.out = s.out in
-      record { more = []; rest = rest'; heads = heads'; holds = record { stands = stands'; max = ap (λ (x : DecoderState). x.max) s.decoder ∙ limit ∙ h.max; gathers = gathers; room = omega (arith, kept, h.room); frames_are = no_frames frames new.frames (s.frames ∙ h.frames_are) }; written = ap (λ (x : Held). x.octets) same_out ∙ sym (append-nil l.out.octets); room = omega (arith, short, ap (λ (x : Held). x.spare) same_out); capacity = omega (arith, ap (λ (x : Held). x.spare) same_out, ap (λ (x : Held). length x.octets) same_out) }
+      record { more = []; rest = rest'; heads = heads'; holds = record { stands = stands'; max = ap (λ (x : DecoderState). x.tracker.max) s.decoder ∙ limit ∙ h.max; gathers = gathers; room = omega (arith, kept, h.room); frames_are = no_frames frames new.frames (s.frames ∙ h.frames_are) }; written = ap (λ (x : Held). x.octets) same_out ∙ sym (append-nil l.out.octets); room = omega (arith, short, ap (λ (x : Held). x.spare) same_out); capacity = omega (arith, ap (λ (x : Held). x.spare) same_out, ap (λ (x : Held). length x.octets) same_out) }
 
   -- the line of a whole frame is handed on
   ended : (line : Held) (f : Frame) (text : List ℕ) → EndsFrame line (record l { decoder = d }) new → KeepsRoom l.line line → length line.octets ≤ length l.line.octets + length (take n octets) → line.octets ≡ text ++ line_end → frame_line f ≡ text ++ 10 ∷ [] → Stands d (fed ++ take n octets) (frames ++ f ∷ []) [] [] → StepHolds l new fed frames (take n octets)
@@ -64,7 +65,7 @@ module _ (l : Lister) (d : DecoderState) (new : Lister) (fed : List ℕ) (frames
       let lines : new.out.octets ≡ l.out.octets ++ listing (f ∷ []) = written ∙ ap (λ x. (l.out.octets ++ x) ++ 10 ∷ []) cut ∙ append_assoc l.out.octets text (10 ∷ []) ∙ ap (λ x. l.out.octets ++ x) (sym text_is ∙ sym (append-nil (frame_line f))) in
       let empty : new.line.octets ≡ [] = e.ends.cleared in
       let stands' : Stands new.decoder (fed ++ take n octets) (frames ++ f ∷ []) [] [] = subst (λ x. Stands x (fed ++ take n octets) (frames ++ f ∷ []) [] []) (sym e.decoder) stands in
-      record { more = f ∷ []; rest = []; heads = []; holds = record { stands = stands'; max = ap (λ (x : DecoderState). x.max) e.decoder ∙ limit ∙ h.max; gathers = (e.has_head, empty); room = omega (arith, h.room, kept, e.ends.line_room); frames_are = omega (arith, e.frames, h.frames_are, length-append frames (f ∷ [])) }; written = lines; room = omega (arith, ap length empty, e.ends.used, size, long); capacity = e.ends.out_room }
+      record { more = f ∷ []; rest = []; heads = []; holds = record { stands = stands'; max = ap (λ (x : DecoderState). x.tracker.max) e.decoder ∙ limit ∙ h.max; gathers = (e.has_head, empty); room = omega (arith, h.room, kept, e.ends.line_room); frames_are = omega (arith, e.frames, h.frames_are, length-append frames (f ∷ [])) }; written = lines; room = omega (arith, ap length empty, e.ends.used, size, long); capacity = e.ends.out_room }
 
   -- the line is what came since the last whole frame, or the header that was told
   gathered_none : heads ≡ [] → (l.has_head ≡ false) × (l.line.octets ≡ rest)
@@ -143,7 +144,7 @@ module _ (old now : Lister) (fed : List ℕ) (frames : List Frame) (piece : List
   step_fits : length now.line.octets + length (take n octets) ≤ now.out.spare
   step_fits = omega (arith, s.fits, length-take-le n octets within, left)
 
-  pub listed_step : (d : DecoderState) (new : Lister) (step : Step) → d.max ≡ now.decoder.max → is_broken step ≡ false → Follows step (record now { decoder = d }) new (take n octets) → Decodes step d (fed ++ take at piece) (frames ++ s.lists.more) s.lists.rest s.lists.heads octets n → ListsSoFar old new fed frames piece (at + n)
+  pub listed_step : (d : DecoderState) (new : Lister) (step : Step) → d.tracker.max ≡ now.decoder.tracker.max → is_broken step ≡ false → Follows step (record now { decoder = d }) new (take n octets) → Decodes step d (fed ++ take at piece) (frames ++ s.lists.more) s.lists.rest s.lists.heads octets n → ListsSoFar old new fed frames piece (at + n)
   listed_step d new step limit b f g =
       let h = followed now d new (fed ++ take at piece) (frames ++ s.lists.more) s.lists.rest s.lists.heads octets n s.lists.holds limit within step_fits step b f g in
       let fed_is : (fed ++ take at piece) ++ take n octets ≡ fed ++ take (at + n) piece = append_assoc fed (take at piece) (take n octets) ∙ ap (λ x. fed ++ x) further in
@@ -152,16 +153,16 @@ module _ (old now : Lister) (fed : List ℕ) (frames : List Frame) (piece : List
       let written : new.out.octets ≡ old.out.octets ++ listing (s.lists.more ++ h.more) = h.written ∙ ap (λ x. x ++ listing h.more) s.lists.written ∙ append_assoc old.out.octets (listing s.lists.more) (listing h.more) ∙ ap (λ x. old.out.octets ++ x) (sym (listing-append s.lists.more h.more)) in
       record { lists = record { more = s.lists.more ++ h.more; rest = h.rest; heads = h.heads; holds = holds; written = written }; fits = omega (arith, h.room, s.fits, length-take-le n octets within, left) }
 
-  pub listed_broken : (d : DecoderState) (new : Lister) (rule : Rule) (place : ℕ) → d.max ≡ now.decoder.max → new.out.octets ≡ now.out.octets → Decodes (Step.Broken rule place) d (fed ++ take at piece) (frames ++ s.lists.more) s.lists.rest s.lists.heads octets n → ListsTo rule place old new fed frames piece
+  pub listed_broken : (d : DecoderState) (new : Lister) (rule : Rule) (place : ℕ) → d.tracker.max ≡ now.decoder.tracker.max → new.out.octets ≡ now.out.octets → Decodes (Step.Broken rule place) d (fed ++ take at piece) (frames ++ s.lists.more) s.lists.rest s.lists.heads octets n → ListsTo rule place old new fed frames piece
   listed_broken d new rule place limit same g =
       let b = g.0 in
       let before : List ℕ = take at piece ++ b.before in
       let joined : (fed ++ take at piece) ++ b.before ≡ fed ++ before = append_assoc fed (take at piece) b.before in
-      let max : d.max ≡ MAX_PAYLOAD = limit ∙ s.lists.holds.max in
+      let max : d.tracker.max ≡ MAX_PAYLOAD = limit ∙ s.lists.holds.max in
       let rest_of : octets ≡ b.before ++ b.octet ∷ drop n octets = sym (take-append-drop n octets) ∙ ap (λ x. x ++ drop n octets) b.taken_is ∙ append_assoc b.before (b.octet ∷ []) (drop n octets) in
       let whole : piece ≡ before ++ b.octet ∷ drop n octets = sym (take-append-drop at piece) ∙ ap (λ x. take at piece ++ x) (sym octets_are ∙ rest_of) ∙ sym (append_assoc (take at piece) b.before (b.octet ∷ drop n octets)) in
       let stream : Stream (fed ++ before) (frames ++ s.lists.more) (s.lists.rest ++ b.before) = subst (λ x. Stream x (frames ++ s.lists.more) (s.lists.rest ++ b.before)) joined b.stream in
-      let small : AllByRecursion (IsWithin MAX_PAYLOAD) (frames ++ s.lists.more) = subst (λ m. AllByRecursion (IsWithin m) (frames ++ s.lists.more)) s.lists.holds.max (s.lists.holds.stands.within) in
+      let small : AllByRecursion (IsWithin MAX_PAYLOAD) (frames ++ s.lists.more) = subst (λ m. AllByRecursion (IsWithin m) (frames ++ s.lists.more)) s.lists.holds.max (s.lists.holds.stands.tracks.within) in
       let by : BreaksBy rule MAX_PAYLOAD (fed ++ before) (frames ++ s.lists.more) b.octet = subst (λ x. BreaksBy rule MAX_PAYLOAD x (frames ++ s.lists.more) b.octet) joined (subst (λ m. BreaksBy rule m ((fed ++ take at piece) ++ b.before) (frames ++ s.lists.more) b.octet) max b.by) in
       record { more = s.lists.more; rest = s.lists.rest ++ b.before; before = before; octet = b.octet; others = drop n octets; piece_is = whole; place_is = b.place_is ∙ ap (λ x. told (length x)) joined; read = record { stream = stream; within = small }; breaks = by; written = same ∙ s.lists.written }
 
@@ -175,11 +176,11 @@ slice_taken piece at n h =
     let count : at + n - at ≡ n = omega arith in
     ap (λ k. take k (drop at piece)) count ∙ ap (take n) (sym (slice_left piece at))
 
-pub step_with : (old now : Lister) (fed : List ℕ) (frames : List Frame) (piece : List ℕ) (at : ℕ) → ListsSoFar old now fed frames piece at → at ≤ length piece → (n : ℕ) → n ≤ length (take (length piece - at) (drop at piece)) → (d : DecoderState) (new : Lister) (step : Step) (taken : List ℕ) → taken ≡ take n (take (length piece - at) (drop at piece)) → d.max ≡ now.decoder.max → is_broken step ≡ false → Follows step (record now { decoder = d }) new taken → ((fed' : List ℕ) (frames' : List Frame) (rest : List ℕ) (heads : List Head) → Stands now.decoder fed' frames' rest heads → Decodes step d fed' frames' rest heads (take (length piece - at) (drop at piece)) n) → ListsSoFar old new fed frames piece (at + n)
+pub step_with : (old now : Lister) (fed : List ℕ) (frames : List Frame) (piece : List ℕ) (at : ℕ) → ListsSoFar old now fed frames piece at → at ≤ length piece → (n : ℕ) → n ≤ length (take (length piece - at) (drop at piece)) → (d : DecoderState) (new : Lister) (step : Step) (taken : List ℕ) → taken ≡ take n (take (length piece - at) (drop at piece)) → d.tracker.max ≡ now.decoder.tracker.max → is_broken step ≡ false → Follows step (record now { decoder = d }) new taken → ((fed' : List ℕ) (frames' : List Frame) (rest : List ℕ) (heads : List Head) → Stands now.decoder fed' frames' rest heads → Decodes step d fed' frames' rest heads (take (length piece - at) (drop at piece)) n) → ListsSoFar old new fed frames piece (at + n)
 step_with old now fed frames piece at s inside n within d new step taken e limit b f g =
     listed_step old now fed frames piece at s inside (take (length piece - at) (drop at piece)) (slice_left piece at) n within d new step limit b (subst (λ x. Follows step (record now { decoder = d }) new x) e f) (g (fed ++ take at piece) (frames ++ s.lists.more) s.lists.rest s.lists.heads s.lists.holds.stands)
 
-pub broken_with : (old now : Lister) (fed : List ℕ) (frames : List Frame) (piece : List ℕ) (at : ℕ) → ListsSoFar old now fed frames piece at → at ≤ length piece → (n : ℕ) → n ≤ length (take (length piece - at) (drop at piece)) → (d : DecoderState) (new : Lister) (step : Step) (rule : Rule) (place : ℕ) → step ≡ Step.Broken rule place → d.max ≡ now.decoder.max → new.out.octets ≡ now.out.octets → ((fed' : List ℕ) (frames' : List Frame) (rest : List ℕ) (heads : List Head) → Stands now.decoder fed' frames' rest heads → Decodes step d fed' frames' rest heads (take (length piece - at) (drop at piece)) n) → ListsTo rule place old new fed frames piece
+pub broken_with : (old now : Lister) (fed : List ℕ) (frames : List Frame) (piece : List ℕ) (at : ℕ) → ListsSoFar old now fed frames piece at → at ≤ length piece → (n : ℕ) → n ≤ length (take (length piece - at) (drop at piece)) → (d : DecoderState) (new : Lister) (step : Step) (rule : Rule) (place : ℕ) → step ≡ Step.Broken rule place → d.tracker.max ≡ now.decoder.tracker.max → new.out.octets ≡ now.out.octets → ((fed' : List ℕ) (frames' : List Frame) (rest : List ℕ) (heads : List Head) → Stands now.decoder fed' frames' rest heads → Decodes step d fed' frames' rest heads (take (length piece - at) (drop at piece)) n) → ListsTo rule place old new fed frames piece
 broken_with old now fed frames piece at s inside n within d new step rule place e limit same g =
     listed_broken old now fed frames piece at s inside (take (length piece - at) (drop at piece)) (slice_left piece at) n within d new rule place limit same (subst (λ x. Decodes x d (fed ++ take at piece) (frames ++ s.lists.more) s.lists.rest s.lists.heads (take (length piece - at) (drop at piece)) n) e (g (fed ++ take at piece) (frames ++ s.lists.more) s.lists.rest s.lists.heads s.lists.holds.stands))
 
@@ -200,4 +201,4 @@ follows-room (Step.Broken rule place) old new taken f = omega (arith, ap (λ (x 
 -- what a lister was given is a stream of its frames
 pub read_of : (l : Lister) (fed : List ℕ) (frames : List Frame) (rest : List ℕ) (heads : List Head) → Holds l fed frames rest heads → IsRead fed frames rest
 read_of l fed frames rest heads h =
-    record { stream = (means l.decoder fed frames rest heads h.stands).stream; within = subst (λ m. AllByRecursion (IsWithin m) frames) h.max h.stands.within }
+    record { stream = (means l.decoder fed frames rest heads h.stands).stream; within = subst (λ m. AllByRecursion (IsWithin m) frames) h.max h.stands.tracks.within }

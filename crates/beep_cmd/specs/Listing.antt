@@ -3,15 +3,16 @@ use Rattle.std.specs.Prelude.{◌≡◌, ℕ, ◌+◌, ◌-◌, ◌<◌, ◌≤�
 use Rattle.beep_frame.specs.declared.head.Head.{Head}
 use Rattle.beep_frame.specs.declared.rule.Rule.{Rule}
 use Rattle.beep_frame.specs.Held.{Held, KeepsRoom}
-use Rattle.beep_frame.specs.declared.decoder.Step.{Step}
+use Rattle.beep_frame.specs.declared.step.Step.{Step}
 use Rattle.beep_frame.specs.Frame.{Frame}
 use Rattle.beep_frame.specs.Spelling.{header}
-use Rattle.beep_frame.specs.Stands.{Stands, told}
+use Rattle.beep_frame.specs.Told.{told}
+use Rattle.beep_frame.specs.Stands.{Stands}
 use Rattle.beep_cmd.specs.declared.listing.Lister.{Lister}
 use Rattle.beep_frame.specs.declared.limits.TheConstants.{MAX_PAYLOAD}
 use Rattle.beep_cmd.specs.declared.listing.TheConstants.{LINE_ROOM, OUT_ROOM}
 use Rattle.beep_cmd.specs.Texts.{listing}
-use Rattle.beep_frame.specs.Decodes.{BreaksBy}
+use Rattle.beep_frame.specs.Stream.{BreaksBy}
 use Rattle.beep_cmd.specs.Show.{IsRead}
 
 -- the line that was gathered of a frame: the octets so far, and then its whole header
@@ -58,7 +59,7 @@ Follows (Step.Broken rule place) old new taken = new ≡ old
 -- the lister was given these octets, which are these frames and this rest
 pub record Holds (l : Lister) (fed : List ℕ) (frames : List Frame) (rest : List ℕ) (heads : List Head) : Type 0 where
   pub stands : Stands l.decoder fed frames rest heads
-  pub max : l.decoder.max ≡ MAX_PAYLOAD
+  pub max : l.decoder.tracker.max ≡ MAX_PAYLOAD
   pub gathers : Gathers l.line.octets l.has_head rest heads
   pub room : LINE_ROOM ≤ length l.line.octets + l.line.spare
   pub frames_are : l.frames ≡ told (length frames)

@@ -4,8 +4,8 @@ use Rattle.std.specs.Io.KnownBytes.{Appends, Consumes}
 use Rattle.beep_frame.specs.declared.head.Head.{Head}
 use Rattle.beep_frame.specs.declared.rule.Rule.{Rule}
 use Rattle.beep_frame.specs.Frame.{Frame}
-use Rattle.beep_frame.specs.Decodes.{BreaksBy}
-use Rattle.beep_frame.specs.Stands.{told}
+use Rattle.beep_frame.specs.Stream.{BreaksBy}
+use Rattle.beep_frame.specs.Told.{told}
 use Rattle.beep_wires.specs.Counts.{Rose}
 use Rattle.beep_wires.specs.Transfer.{AppendsPrefix}
 use Rattle.beep_cmd.specs.declared.listing.Lister.{Lister}

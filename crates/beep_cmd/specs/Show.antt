@@ -5,9 +5,7 @@ use Rattle.std.specs.List.{AllByRecursion}
 use Rattle.std.specs.Io.KnownBytes.{Appends, Consumes}
 use Rattle.beep_frame.specs.declared.rule.Rule.{Rule}
 use Rattle.beep_frame.specs.Frame.{Frame}
-use Rattle.beep_frame.specs.Stream.{Stream}
-use Rattle.beep_frame.specs.Decodes.{BreaksBy}
-use Rattle.beep_frame.specs.Stands.{IsWithin}
+use Rattle.beep_frame.specs.Stream.{Stream, IsWithin, BreaksBy}
 use Rattle.beep_frame.specs.declared.limits.TheConstants.{MAX_PAYLOAD}
 use Rattle.beep_cmd.specs.declared.show.TheConstants.{OCTETS}
 use Rattle.beep_wires.specs.Counts.{Rose}

@@ -1,4 +1,4 @@
--- What a decoder answers is what the stream says.
+-- What a tracker answers is what the stream says.
 use Rattle.std.proofs.Common.{◌≡◌, ℕ, ◌+◌, ◌-◌, ◌<◌, ◌≤◌, Bool, true, false, ◌==◌, nat_lt, cond, List, [], ◌∷◌, ◌++◌, length, take, get_or, inl, inr, refl, ap, sym, ◌∙◌, arith, subst, append_assoc, append-nil, length-append}
 use Rattle.std.specs.List.{flat_map, AllByRecursion}
 use Rattle.std.proofs.lemmas.List.{length-take-le, take_all, take_more}
@@ -10,14 +10,15 @@ use Rattle.beep_frame.specs.declared.rule.Rule.{Rule}
 use Rattle.beep_frame.specs.declared.line.Line.{Line}
 use Rattle.beep_frame.specs.declared.finder.Place.{Place}
 use Rattle.beep_frame.specs.declared.finder.Found.{Found}
-use Rattle.beep_frame.specs.declared.decoder.Step.{Step}
+use Rattle.beep_frame.specs.declared.step.Step.{Step}
 use Rattle.beep_frame.specs.Frame.{Frame, framed, seq_frame, IsFrame, IsHead, IsSeq}
 use Rattle.beep_frame.specs.Spelling.{header, spelling}
-use Rattle.beep_frame.specs.Stream.{IsUnfinished, Stream, DiesAt, InTrailer}
+use Rattle.beep_frame.specs.Stream.{IsUnfinished, Stream, DiesAt, InTrailer, IsWithin}
 use Rattle.beep_frame.specs.Reading.{At}
 use Rattle.beep_frame.specs.Finding.{Finds, EndsFrame, EndsInLine, EndsInTrailer}
-use Rattle.beep_frame.specs.Stands.{DecoderState, Stands, IsBroken, IsWithin, told}
-use Rattle.beep_frame.specs.Decodes.{Decodes, GivesMore, GivesHead, GivesFrame, GivesSeq, Breaks}
+use Rattle.beep_frame.specs.Told.{told}
+use Rattle.beep_frame.specs.Tracks.{TrackerState, Tracks, HasStopped}
+use Rattle.beep_frame.specs.Decodes.{Tells, GivesMore, GivesHead, GivesFrame, GivesSeq, Breaks}
 use Rattle.beep_frame.specs.Telling.{moved, behind_header, last_number, broken_by, renewed, step_of, after_found}
 use Rattle.beep_frame.proofs.AliveLemmas.{dies_in_line, dies_in_trailer, not_in_trailer, unfinished_line, unfinished_trailer, unfinished_header}
 use Rattle.beep_frame.proofs.LawLemmas.{tells_head, no_head}
@@ -33,7 +34,7 @@ told-more used n all e = omega arith
 told-last : (used n all : ℕ) → used ≡ told all → 0 < all + n → last_number (told (used + n)) ≡ told (all + n - 1)
 told-last used n all e some = omega arith
 
-module _ (d : DecoderState) (place : Place) (line : Line) (n : ℕ) (octets fed : List ℕ) (frames : List Frame) (rest : List ℕ) (heads : List Head) (s : Stands d fed frames rest heads) (within : n ≤ length octets) where
+module _ (d : TrackerState) (place : Place) (line : Line) (n : ℕ) (octets fed : List ℕ) (frames : List Frame) (rest : List ℕ) (heads : List Head) (s : Tracks d fed frames rest heads) (within : n ≤ length octets) where
   -- all octets that were fed
   grown : (taken : List ℕ) → fed ++ taken ≡ flat_map spelling frames ++ (rest ++ taken)
   grown taken = ap (λ x. x ++ taken) s.whole ∙ append_assoc (flat_map spelling frames) rest taken
@@ -50,23 +51,23 @@ module _ (d : DecoderState) (place : Place) (line : Line) (n : ℕ) (octets fed 
   last_now : 0 < length fed + n → last_number (told (d.used + n)) ≡ told (length fed + n - 1)
   last_now some = told-last d.used n (length fed) s.used some
 
-  gives_more : Finds Found.More place line rest heads octets n → GivesMore (moved d place line n) fed frames rest heads octets n
+  gives_more : Finds Found.More place line rest heads octets n → GivesMore (Tracks (moved d place line n)) fed frames rest heads octets n
   gives_more f =
       let same : take n octets ≡ octets = take_all n octets (omega arith) in
       record { all = f.0; stands = record { goes_on = s.goes_on; whole = grown octets; each = s.each; within = s.within; at = f.1; heads_within = s.heads_within; used = subst (λ x. told (d.used + n) ≡ told (length (fed ++ x))) same used_now; left = subst (λ x. told (d.left + n) ≡ told (length (rest ++ x))) same left_now } }
 
   -- a frame that is whole with these octets
-  with_frame : (f : Frame) → IsFrame f → IsWithin d.max f → rest ++ take n octets ≡ spelling f → Stands (renewed (moved d place line n)) (fed ++ take n octets) (frames ++ f ∷ []) [] []
+  with_frame : (f : Frame) → IsFrame f → IsWithin d.max f → rest ++ take n octets ≡ spelling f → Tracks (renewed (moved d place line n)) (fed ++ take n octets) (frames ++ f ∷ []) [] []
   with_frame f is_frame small whole =
       let joined : flat_map spelling (frames ++ f ∷ []) ≡ flat_map spelling frames ++ spelling f = flat_map-append spelling frames (f ∷ []) ∙ ap (λ x. flat_map spelling frames ++ x) (append-nil (spelling f)) in
       record { goes_on = s.goes_on; whole = grown (take n octets) ∙ ap (λ x. flat_map spelling frames ++ x) whole ∙ sym joined ∙ sym (append-nil (flat_map spelling (frames ++ f ∷ []))); each = all_push IsFrame frames f s.each is_frame; within = all_push (IsWithin d.max) frames f s.within small; at = (refl, refl); heads_within = tt; used = used_now; left = refl }
 
-  gives_frame : EndsFrame (rest ++ take n octets) heads → GivesFrame (renewed (moved d place line n)) fed frames rest heads (take n octets)
+  gives_frame : EndsFrame (rest ++ take n octets) heads → GivesFrame (Tracks (renewed (moved d place line n))) fed frames rest heads (take n octets)
   gives_frame f =
       let small : AllByRecursion (λ (h : Head). h.size ≤ d.max) (f.head ∷ []) = subst (λ hs. AllByRecursion (λ (h : Head). h.size ≤ d.max) hs) f.heads_are s.heads_within in
       record { head = f.head; payload = f.payload; heads_are = f.heads_are; is_frame = f.is_frame; whole = f.whole; stands = with_frame (framed f.head f.payload) f.is_frame small.0 f.whole }
 
-  gives_seq : (seq : Seq) → (heads ≡ []) × IsSeq seq × (rest ++ take n octets ≡ spelling (seq_frame seq)) → GivesSeq seq (renewed (moved d place line n)) fed frames rest heads (take n octets)
+  gives_seq : (seq : Seq) → (heads ≡ []) × IsSeq seq × (rest ++ take n octets ≡ spelling (seq_frame seq)) → GivesSeq seq (Tracks (renewed (moved d place line n))) fed frames rest heads (take n octets)
   gives_seq seq f = record { none = f.0; is_seq = f.1; whole = f.2; stands = with_frame (seq_frame seq) f.1 tt f.2 }
 
   -- a header that is whole leads into its payload, or its trailer
@@ -78,7 +79,7 @@ module _ (d : DecoderState) (place : Place) (line : Line) (n : ℕ) (octets fed 
       let some : 0 < head.size = grind (arith, nat_tests) in
       (head, [], record { heads_are = refl; is_head = is_head; rest_is = whole ∙ sym (append-nil (header head)) }, omega arith, some)
 
-  gives_head : (head : Head) → (heads ≡ []) × IsHead head × (rest ++ take n octets ≡ header head) → head.size ≤ d.max → GivesHead head (record (moved d place line n) { place = behind_header head.size }) fed frames rest heads (take n octets)
+  gives_head : (head : Head) → (heads ≡ []) × IsHead head × (rest ++ take n octets ≡ header head) → head.size ≤ d.max → GivesHead head (Tracks (record (moved d place line n) { place = behind_header head.size })) d.max fed frames rest heads (take n octets)
   gives_head head f small =
       record { first = f.0; is_head = f.1; within = small; whole = f.2; stands = record { goes_on = s.goes_on; whole = grown (take n octets); each = s.each; within = s.within; at = at_payload head f.1 f.2 _ refl; heads_within = (small, tt); used = used_now; left = left_now } }
 
@@ -129,11 +130,11 @@ module _ (d : DecoderState) (place : Place) (line : Line) (n : ℕ) (octets fed 
   left_then : told (d.left + n) ≡ told (length rest + n)
   left_then = told-more d.left n (length rest) s.left
 
-  is_broken : (rule : Rule) → IsBroken (broken_by (moved d place line n) rule) rule (last_number (told (d.used + n))) (told (length rest + n))
+  is_broken : (rule : Rule) → HasStopped (broken_by (moved d place line n) rule) rule (last_number (told (d.used + n))) (told (length rest + n))
   is_broken rule = record { by = refl; left_is = left_then }
 
   decodes_head : (head : Head) → (heads ≡ []) × IsHead head × (rest ++ take n octets ≡ header head) → (b : Bool) → nat_lt d.max head.size ≡ b
-      → Decodes (cond b (Step.Broken Rule.Size (last_number (told (d.used + n)))) (Step.Head head)) (cond b (broken_by (moved d place line n) Rule.Size) (record (moved d place line n) { place = behind_header head.size })) fed frames rest heads octets n
+      → Tells (cond b (Step.Broken Rule.Size (last_number (told (d.used + n)))) (Step.Head head)) (cond b (broken_by (moved d place line n) Rule.Size) (record (moved d place line n) { place = behind_header head.size })) fed frames rest heads octets n
   decodes_head head f true e =
       let above : d.max < head.size = grind (arith, nat_tests) in
       (too_large head f above, is_broken Rule.Size)
@@ -142,7 +143,7 @@ module _ (d : DecoderState) (place : Place) (line : Line) (n : ℕ) (octets fed 
       gives_head head f small
 
   -- what is told is what was found
-  decodes : (found : Found) → Finds found place line rest heads octets n → Decodes (step_of (moved d place line n) found) (after_found (moved d place line n) found) fed frames rest heads octets n
+  decodes : (found : Found) → Finds found place line rest heads octets n → Tells (step_of (moved d place line n) found) (after_found (moved d place line n) found) fed frames rest heads octets n
   decodes Found.More f = gives_more f
   decodes (Found.Head head) f = decodes_head head f _ refl
   decodes Found.Frame f = gives_frame f
@@ -150,16 +151,16 @@ module _ (d : DecoderState) (place : Place) (line : Line) (n : ℕ) (octets fed 
   decodes Found.BadLine f = (dies_line f, is_broken Rule.Header)
   decodes Found.BadTrailer f = (dies_trailer f, is_broken Rule.Trailer)
 
-  pub decodes_as : (found : Found) (step : Step) (new : DecoderState) → step ≡ step_of (moved d place line n) found → new ≡ after_found (moved d place line n) found → Finds found place line rest heads octets n → Decodes step new fed frames rest heads octets n
+  pub decodes_as : (found : Found) (step : Step) (new : TrackerState) → step ≡ step_of (moved d place line n) found → new ≡ after_found (moved d place line n) found → Finds found place line rest heads octets n → Tells step new fed frames rest heads octets n
   decodes_as found step new e g f =
-      subst (λ x. Decodes x new fed frames rest heads octets n) (sym e) (subst (λ x. Decodes (step_of (moved d place line n) found) x fed frames rest heads octets n) (sym g) (decodes found f))
+      subst (λ x. Tells x new fed frames rest heads octets n) (sym e) (subst (λ x. Tells (step_of (moved d place line n) found) x fed frames rest heads octets n) (sym g) (decodes found f))
 
-max_by : (d : DecoderState) (head : Head) (b : Bool) → (cond b (broken_by d Rule.Size) (record d { place = behind_header head.size })).max ≡ d.max
+max_by : (d : TrackerState) (head : Head) (b : Bool) → (cond b (broken_by d Rule.Size) (record d { place = behind_header head.size })).max ≡ d.max
 max_by d head true = refl
 max_by d head false = refl
 
 -- the limit stays
-pub max-after_found : (d : DecoderState) (found : Found) → (after_found d found).max ≡ d.max
+pub max-after_found : (d : TrackerState) (found : Found) → (after_found d found).max ≡ d.max
 max-after_found d Found.More = refl
 max-after_found d (Found.Head head) = max_by d head (nat_lt d.max head.size)
 max-after_found d Found.Frame = refl

@@ -9,9 +9,10 @@ use Rattle.beep_frame.specs.declared.line.Line.{Line}
 use Rattle.beep_frame.specs.declared.finder.Place.{Place}
 use Rattle.beep_frame.specs.Frame.{Frame, IsHead, IsSeq, max_ansno_of}
 use Rattle.beep_frame.specs.Spelling.{header, header_line, seq_line, line_end, spelling, trailer, keyword, field, continuation, answer_field}
-use Rattle.beep_frame.specs.Stream.{IsUnfinished}
+use Rattle.beep_frame.specs.Stream.{IsUnfinished, Stream}
 use Rattle.beep_frame.specs.Line.{Turn, at_line, at_head, at_seq, dead, line_start}
 use Rattle.beep_frame.specs.Reading.{run, At}
+use Rattle.beep_frame.specs.Tracks.{TrackerState, Tracks}
 use Rattle.beep_frame.specs.Stands.{DecoderState, Stands}
 use Rattle.beep_frame.specs.Laws.{OneReading, NoneBeginsAnother, StaysAlive, TellsHead, Means}
 use Rattle.beep_frame.proofs.LineLemmas.{reads, ReadsTurn}
@@ -105,6 +106,12 @@ unfinished_at (Place.Payload left) line rest heads at = unfinished_payload rest 
 unfinished_at (Place.Trailer count) line rest heads at =
     unfinished_trailer rest at.0 at.1 count (at.2.is_head, at.3) at.4 (at.2.rest_is ∙ sym (append_assoc (header at.0) at.1 (take count trailer)))
 
+-- what a tracker that stands so has read
+pub read_by : (t : TrackerState) (fed : List ℕ) (frames : List Frame) (rest : List ℕ) (heads : List Head) → Tracks t fed frames rest heads → Stream fed frames rest
+read_by t fed frames rest heads s =
+    record { whole = s.whole; each = s.each; unfinished = unfinished_at t.place t.line rest heads s.at }
+
 pub means : (d : DecoderState) (fed : List ℕ) (frames : List Frame) (rest : List ℕ) (heads : List Head) → Stands d fed frames rest heads → Means d fed frames rest heads
 means d fed frames rest heads s =
-    record { stream = record { whole = s.whole; each = s.each; unfinished = unfinished_at d.place d.line rest heads s.at }; within = s.within; tells = tells_head d.place d.line rest heads s.at }
+    let t = s.tracks in
+    record { stream = read_by d.tracker fed frames rest heads t; within = t.within; tells = tells_head d.tracker.place d.tracker.line rest heads t.at }

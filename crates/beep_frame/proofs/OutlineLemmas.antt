@@ -1,4 +1,4 @@
--- What a plain reading holds after each step of its decoder, and what it then answers.
+-- What a plain reading holds after each step of its tracker, and what it then answers.
 use Rattle.std.proofs.Common.{◌≡◌, ℕ, suc, ◌+◌, ◌-◌, ◌^◌, ◌<◌, ◌≤◌, false, List, [], ◌∷◌, ◌++◌, length, take, drop, Option, Some, None, inl, inr, refl, ap, sym, ◌∙◌, arith, subst, append_assoc, length-append, length-drop, take-append-drop}
 use Rattle.std.specs.List.{flat_map}
 use Rattle.std.proofs.lemmas.List.{take_all, drop_at, length-take-le, map-append}
@@ -6,18 +6,19 @@ use Rattle.std.proofs.Math.Seq.{take-append_seam, take-add}
 use Rattle.beep_frame.specs.declared.head.Head.{Head}
 use Rattle.beep_frame.specs.declared.head.TheConstants.{MAX_NUMBER}
 use Rattle.beep_frame.specs.declared.rule.Rule.{Rule}
-use Rattle.beep_frame.specs.declared.decoder.Step.{Step}
+use Rattle.beep_frame.specs.declared.step.Step.{Step}
 use Rattle.beep_frame.specs.declared.outline.PlainFrame.{PlainFrame}
 use Rattle.beep_frame.specs.declared.outline.Begun.{Begun}
 use Rattle.beep_frame.specs.declared.outline.Reading.{Reading}
 use Rattle.beep_frame.specs.Frame.{Frame, framed, seq_frame}
 use Rattle.beep_frame.specs.Spelling.{header, trailer, spelling}
-use Rattle.beep_frame.specs.Stream.{Stream, DiesAt}
-use Rattle.beep_frame.specs.Stands.{DecoderState, Stands, told}
-use Rattle.beep_frame.specs.Decodes.{Decodes, BreaksBy, is_broken}
+use Rattle.beep_frame.specs.Stream.{Stream, DiesAt, BreaksBy}
+use Rattle.beep_frame.specs.Told.{told}
+use Rattle.beep_frame.specs.Tracks.{TrackerState, Tracks}
+use Rattle.beep_frame.specs.Decodes.{Tells, is_broken}
 use Rattle.beep_frame.specs.Outline.{frame_of, frames_of, DiesBy, IsWhole, IsDead}
 use Rattle.beep_frame.specs.Outlining.{Notes, Holds, HasRoom, Adds, Ends, Follows}
-use Rattle.beep_frame.proofs.LawLemmas.{means}
+use Rattle.beep_frame.proofs.LawLemmas.{read_by}
 
 -- a payload lies behind what comes before it
 payload_at : (front payload tail read : List ℕ) (body size : ℕ) → body ≡ length front → length payload ≡ size → read ≡ front ++ (payload ++ tail) → take size (drop body read) ≡ payload
@@ -29,7 +30,7 @@ regrouped : (frames head payload tail : List ℕ) → frames ++ (head ++ payload
 regrouped frames head payload tail =
     ap (λ x. frames ++ x) (append_assoc head payload tail) ∙ sym (append_assoc frames head (payload ++ tail))
 
-module _ (r : Reading) (fed : List ℕ) (h : Holds r fed) (piece : List ℕ) (n : ℕ) (d : DecoderState) (limit : d.max ≡ r.decoder.max) (read : List ℕ) (joined : fed ++ take n piece ≡ read) where
+module _ (r : Reading) (fed : List ℕ) (h : Holds r fed) (piece : List ℕ) (n : ℕ) (d : TrackerState) (limit : d.max ≡ r.tracker.max) (read : List ℕ) (joined : fed ++ take n piece ≡ read) where
   abbrev pub frames : List Frame
   frames = frames_of r.frames.items
 
@@ -37,31 +38,31 @@ module _ (r : Reading) (fed : List ℕ) (h : Holds r fed) (piece : List ℕ) (n 
   behind : read ≡ flat_map spelling frames ++ (h.rest ++ take n piece)
   behind = sym joined ∙ ap (λ x. x ++ take n piece) h.stands.whole ∙ append_assoc (flat_map spelling frames) h.rest (take n piece)
 
-  more : (new : Reading) → Follows Step.More (record r { decoder = d }) new read → Decodes Step.More d fed frames h.rest h.heads piece n → Holds new read
+  more : (new : Reading) → Follows Step.More (record r { tracker = d }) new read → Tells Step.More d fed frames h.rest h.heads piece n → Holds new read
   more new f g =
       let all : piece ≡ take n piece = sym (take_all n piece (omega (arith, g.all))) in
-      let stands : Stands d read frames (h.rest ++ take n piece) h.heads = subst (λ x. Stands d x frames (h.rest ++ take n piece) h.heads) joined (subst (λ x. Stands d (fed ++ x) frames (h.rest ++ x) h.heads) all g.stands) in
+      let stands : Tracks d read frames (h.rest ++ take n piece) h.heads = subst (λ x. Tracks d x frames (h.rest ++ take n piece) h.heads) joined (subst (λ x. Tracks d (fed ++ x) frames (h.rest ++ x) h.heads) all g.stands) in
       subst (λ x. Holds x read) (sym f) (record { rest = h.rest ++ take n piece; heads = h.heads; stands = stands; max = limit ∙ h.max; notes = h.notes })
 
-  headed : (head : Head) (new : Reading) → Follows (Step.Head head) (record r { decoder = d }) new read → Decodes (Step.Head head) d fed frames h.rest h.heads piece n → Holds new read
+  headed : (head : Head) (new : Reading) → Follows (Step.Head head) (record r { tracker = d }) new read → Tells (Step.Head head) d fed frames h.rest h.heads piece n → Holds new read
   headed head new f g =
-      let stands : Stands d read frames (h.rest ++ take n piece) (head ∷ []) = subst (λ x. Stands d x frames (h.rest ++ take n piece) (head ∷ [])) joined g.stands in
+      let stands : Tracks d read frames (h.rest ++ take n piece) (head ∷ []) = subst (λ x. Tracks d x frames (h.rest ++ take n piece) (head ∷ [])) joined g.stands in
       let body : length read ≡ length (flat_map spelling frames ++ header head) = ap length (behind ∙ ap (λ x. flat_map spelling frames ++ x) g.whole) in
       subst (λ x. Holds x read) (sym f) (record { rest = h.rest ++ take n piece; heads = head ∷ []; stands = stands; max = limit ∙ h.max; notes = (refl, body) })
 
   -- one frame more
-  added : (frame : PlainFrame) (f : Frame) (new : Reading) → frame_of frame ≡ f → Adds frame (record r { decoder = d }) new → Stands d (fed ++ take n piece) (frames ++ f ∷ []) [] [] → Holds new read
+  added : (frame : PlainFrame) (f : Frame) (new : Reading) → frame_of frame ≡ f → Adds frame (record r { tracker = d }) new → Tracks d (fed ++ take n piece) (frames ++ f ∷ []) [] [] → Holds new read
   added frame f new e a g =
       let all : frames_of new.frames.items ≡ frames ++ f ∷ [] = ap frames_of a.frames ∙ map-append frame_of r.frames.items (frame ∷ []) ∙ ap (λ x. frames ++ x ∷ []) e in
-      let stands : Stands new.decoder read (frames_of new.frames.items) [] [] = subst (λ x. Stands x read (frames_of new.frames.items) [] []) (sym a.decoder) (subst (λ x. Stands d read x [] []) (sym all) (subst (λ x. Stands d x (frames ++ f ∷ []) [] []) joined g)) in
-      record { rest = []; heads = []; stands = stands; max = ap (λ (x : DecoderState). x.max) a.decoder ∙ limit ∙ h.max; notes = subst (λ b. Notes b (frames_of new.frames.items) []) (sym a.begun) refl }
+      let stands : Tracks new.tracker read (frames_of new.frames.items) [] [] = subst (λ x. Tracks x read (frames_of new.frames.items) [] []) (sym a.tracker) (subst (λ x. Tracks d read x [] []) (sym all) (subst (λ x. Tracks d x (frames ++ f ∷ []) [] []) joined g)) in
+      record { rest = []; heads = []; stands = stands; max = ap (λ (x : TrackerState). x.max) a.tracker ∙ limit ∙ h.max; notes = subst (λ b. Notes b (frames_of new.frames.items) []) (sym a.begun) refl }
 
   -- what ends with a data frame
   ended : (head : Head) (payload : List ℕ) → h.rest ++ take n piece ≡ spelling (framed head payload) → read ≡ (flat_map spelling frames ++ header head) ++ (payload ++ trailer)
   ended head payload whole =
       behind ∙ ap (λ x. flat_map spelling frames ++ x) whole ∙ regrouped (flat_map spelling frames) (header head) payload trailer
 
-  framed_by : (begun : Option Begun) (new : Reading) → Notes begun frames h.heads → Ends begun (record r { decoder = d }) new read → Decodes Step.Frame d fed frames h.rest h.heads piece n → Holds new read
+  framed_by : (begun : Option Begun) (new : Reading) → Notes begun frames h.heads → Ends begun (record r { tracker = d }) new read → Tells Step.Frame d fed frames h.rest h.heads piece n → Holds new read
   framed_by None new w f g = let two : [] ≡ g.head ∷ [] = sym w ∙ g.heads_are in absurd (cc)
   framed_by (Some begun) new w f g =
       let heads : begun.head ∷ [] ≡ g.head ∷ [] = sym w.0 ∙ g.heads_are in
@@ -73,14 +74,14 @@ module _ (r : Reading) (fed : List ℕ) (h : Holds r fed) (piece : List ℕ) (n 
       added (PlainFrame.Data begun.head f.0) (framed g.head g.payload) new frame f.2 g.stands
 
   -- each step leaves a reading that holds what came
-  pub followed : (step : Step) (new : Reading) → is_broken step ≡ false → Follows step (record r { decoder = d }) new read → Decodes step d fed frames h.rest h.heads piece n → Holds new read
+  pub followed : (step : Step) (new : Reading) → is_broken step ≡ false → Follows step (record r { tracker = d }) new read → Tells step d fed frames h.rest h.heads piece n → Holds new read
   followed Step.More new b f g = more new f g
   followed (Step.Head head) new b f g = headed head new f g
   followed Step.Frame new b f g = framed_by r.begun new h.notes f g
   followed (Step.Seq seq) new b f g = added (PlainFrame.Told seq) (seq_frame seq) new refl f g.stands
   followed (Step.Broken rule place) new b f g = cc
 
-  room_by : (begun : Option Begun) → Notes begun frames h.heads → Decodes Step.Frame d fed frames h.rest h.heads piece n → HasRoom Step.Frame begun (length read)
+  room_by : (begun : Option Begun) → Notes begun frames h.heads → Tells Step.Frame d fed frames h.rest h.heads piece n → HasRoom Step.Frame begun (length read)
   room_by None w g = tt
   room_by (Some begun) w g =
       let heads : begun.head ∷ [] ≡ g.head ∷ [] = sym w.0 ∙ g.heads_are in
@@ -91,7 +92,7 @@ module _ (r : Reading) (fed : List ℕ) (h : Holds r fed) (piece : List ℕ) (n 
       omega (arith, all, long, body, length-append g.payload trailer)
 
   -- a payload that ends lies within what was read
-  pub room : (step : Step) → Decodes step d fed frames h.rest h.heads piece n → HasRoom step r.begun (length read)
+  pub room : (step : Step) → Tells step d fed frames h.rest h.heads piece n → HasRoom step r.begun (length read)
   room Step.More g = tt
   room (Step.Head head) g = tt
   room Step.Frame g = room_by r.begun h.notes g
@@ -107,8 +108,8 @@ not_broken Step.Frame n = refl
 not_broken (Step.Seq seq) n = refl
 not_broken (Step.Broken rule place) n = absurd (n rule place refl)
 
-pub decodes_by : (step by : Step) (d : DecoderState) (fed : List ℕ) (frames : List Frame) (rest : List ℕ) (heads : List Head) (piece : List ℕ) (n : ℕ) → step ≡ by → Decodes step d fed frames rest heads piece n → Decodes by d fed frames rest heads piece n
-decodes_by step by d fed frames rest heads piece n e g = subst (λ x. Decodes x d fed frames rest heads piece n) e g
+pub decodes_by : (step by : Step) (d : TrackerState) (fed : List ℕ) (frames : List Frame) (rest : List ℕ) (heads : List Head) (piece : List ℕ) (n : ℕ) → step ≡ by → Tells step d fed frames rest heads piece n → Tells by d fed frames rest heads piece n
+decodes_by step by d fed frames rest heads piece n e g = subst (λ x. Tells x d fed frames rest heads piece n) e g
 
 -- no header has a size above the greatest number
 dies_by : (rule : Rule) (max : ℕ) (before : List ℕ) (frames : List Frame) (octet : ℕ) → max ≡ MAX_NUMBER → BreaksBy rule max before frames octet → DiesAt before octet × DiesBy rule before
@@ -127,10 +128,10 @@ read_with octets at n = ap (λ x. take at octets ++ take n x) (slice_left octets
 -- the octets of a whole reading are a stream
 pub alive : (r : Reading) (octets : List ℕ) (at left : ℕ) (h : Holds r (take at octets)) → at ≡ length octets → length octets < 2 ^ 64 → left ≡ told (length h.rest) → IsWhole octets (frames_of r.frames.items) left
 alive r octets at left h e small l =
-    let stream : Stream octets (frames_of r.frames.items) h.rest = subst (λ x. Stream x (frames_of r.frames.items) h.rest) (take_all at octets (omega arith)) ((means r.decoder (take at octets) (frames_of r.frames.items) h.rest h.heads h.stands).stream) in
+    let stream : Stream octets (frames_of r.frames.items) h.rest = subst (λ x. Stream x (frames_of r.frames.items) h.rest) (take_all at octets (omega arith)) (read_by r.tracker (take at octets) (frames_of r.frames.items) h.rest h.heads h.stands) in
     record { rest = h.rest; stream = stream; count_is = omega (arith, l, ap length stream.whole, length-append (flat_map spelling (frames_of r.frames.items)) h.rest) }
 
-module _ (r : Reading) (octets : List ℕ) (at : ℕ) (h : Holds r (take at octets)) (inside : at ≤ length octets) (small : length octets < 2 ^ 64) (piece : List ℕ) (piece_is : piece ≡ drop at octets) (n : ℕ) (within : n ≤ length piece) (d : DecoderState) (limit : d.max ≡ r.decoder.max) (rule : Rule) (place : ℕ) (g : Decodes (Step.Broken rule place) d (take at octets) (frames_of r.frames.items) h.rest h.heads piece n) where
+module _ (r : Reading) (octets : List ℕ) (at : ℕ) (h : Holds r (take at octets)) (inside : at ≤ length octets) (small : length octets < 2 ^ 64) (piece : List ℕ) (piece_is : piece ≡ drop at octets) (n : ℕ) (within : n ≤ length piece) (d : TrackerState) (limit : d.max ≡ r.tracker.max) (rule : Rule) (place : ℕ) (g : Tells (Step.Broken rule place) d (take at octets) (frames_of r.frames.items) h.rest h.heads piece n) where
   whole : octets ≡ (take at octets ++ g.0.before) ++ g.0.octet ∷ drop n piece
   whole =
       sym (take-append-drop at octets) ∙ ap (λ x. take at octets ++ x) (sym piece_is ∙ sym (take-append-drop n piece) ∙ ap (λ x. x ++ drop n piece) g.0.taken_is ∙ append_assoc g.0.before (g.0.octet ∷ []) (drop n piece)) ∙ sym (append_assoc (take at octets) g.0.before (g.0.octet ∷ drop n piece))

@@ -4,46 +4,46 @@ use Rattle.std.specs.Prelude.{◌≡◌, ℕ, ◌+◌, ◌<◌, ◌≤◌, ◌�
 use Rattle.beep_frame.specs.declared.head.Head.{Head}
 use Rattle.beep_frame.specs.declared.seq.Seq.{Seq}
 use Rattle.beep_frame.specs.declared.rule.Rule.{Rule}
-use Rattle.beep_frame.specs.declared.decoder.Step.{Step}
+use Rattle.beep_frame.specs.declared.step.Step.{Step}
 use Rattle.beep_frame.specs.Frame.{Frame, framed, seq_frame, IsFrame, IsHead, IsSeq}
 use Rattle.beep_frame.specs.Spelling.{header, spelling}
-use Rattle.std.specs.List.{flat_map}
-use Rattle.beep_frame.specs.Stream.{Stream, DiesAt, InTrailer}
-use Rattle.beep_frame.specs.Stands.{DecoderState, Stands, IsBroken, told}
+use Rattle.beep_frame.specs.Stream.{Stream, BreaksBy}
+use Rattle.beep_frame.specs.Told.{told}
+use Rattle.beep_frame.specs.Tracks.{TrackerState, Tracks, HasStopped}
+use Rattle.beep_frame.specs.Stands.{DecoderState, Stands, IsBroken}
+
+-- what is said of a state after octets: of all that were fed, the frames, the rest, and the header of the rest that was told
+abbrev pub Word : Type 1
+Word = List ℕ → List Frame → List ℕ → List Head → Type 0
 
 -- no octet is left, and no step is due
-pub record GivesMore (new : DecoderState) (fed : List ℕ) (frames : List Frame) (rest : List ℕ) (heads : List Head) (octets : List ℕ) (used : ℕ) : Type 0 where
+pub record GivesMore (Stand : Word) (fed : List ℕ) (frames : List Frame) (rest : List ℕ) (heads : List Head) (octets : List ℕ) (used : ℕ) : Type 0 where
   pub all : used ≡ length octets
-  pub stands : Stands new (fed ++ octets) frames (rest ++ octets) heads
+  pub stands : Stand (fed ++ octets) frames (rest ++ octets) heads
 
 -- the last octet used is this header's LF
-pub record GivesHead (head : Head) (new : DecoderState) (fed : List ℕ) (frames : List Frame) (rest : List ℕ) (heads : List Head) (taken : List ℕ) : Type 0 where
+pub record GivesHead (head : Head) (Stand : Word) (max : ℕ) (fed : List ℕ) (frames : List Frame) (rest : List ℕ) (heads : List Head) (taken : List ℕ) : Type 0 where
   pub first : heads ≡ []
   pub is_head : IsHead head
-  pub within : head.size ≤ new.max
+  pub within : head.size ≤ max
   pub whole : rest ++ taken ≡ header head
-  pub stands : Stands new (fed ++ taken) frames (rest ++ taken) (head ∷ [])
+  pub stands : Stand (fed ++ taken) frames (rest ++ taken) (head ∷ [])
 
 -- the last octet used ends the data frame whose header was told
-pub record GivesFrame (new : DecoderState) (fed : List ℕ) (frames : List Frame) (rest : List ℕ) (heads : List Head) (taken : List ℕ) : Type 0 where
+pub record GivesFrame (Stand : Word) (fed : List ℕ) (frames : List Frame) (rest : List ℕ) (heads : List Head) (taken : List ℕ) : Type 0 where
   pub head : Head
   pub payload : List ℕ
   pub heads_are : heads ≡ head ∷ []
   pub is_frame : IsFrame (framed head payload)
   pub whole : rest ++ taken ≡ spelling (framed head payload)
-  pub stands : Stands new (fed ++ taken) (frames ++ framed head payload ∷ []) [] []
+  pub stands : Stand (fed ++ taken) (frames ++ framed head payload ∷ []) [] []
 
 -- the last octet used ends this SEQ
-pub record GivesSeq (seq : Seq) (new : DecoderState) (fed : List ℕ) (frames : List Frame) (rest : List ℕ) (heads : List Head) (taken : List ℕ) : Type 0 where
+pub record GivesSeq (seq : Seq) (Stand : Word) (fed : List ℕ) (frames : List Frame) (rest : List ℕ) (heads : List Head) (taken : List ℕ) : Type 0 where
   pub none : heads ≡ []
   pub is_seq : IsSeq seq
   pub whole : rest ++ taken ≡ spelling (seq_frame seq)
-  pub stands : Stands new (fed ++ taken) (frames ++ seq_frame seq ∷ []) [] []
-
--- what an octet behind these octets breaks: the stream is dead there, outside a trailer's place or in one; or it ends a header whose size is above the limit
-abbrev pub BreaksBy : Rule → ℕ → List ℕ → List Frame → ℕ → Type 0
-BreaksBy rule max before frames octet =
-    ((rule ≡ Rule.Header) × DiesAt before octet × (InTrailer before → ⊥)) ⊎ ((rule ≡ Rule.Trailer) × DiesAt before octet × InTrailer before) ⊎ ((rule ≡ Rule.Size) × (head : Head) × IsHead head × (max < head.size) × (before ++ octet ∷ [] ≡ flat_map spelling frames ++ header head))
+  pub stands : Stand (fed ++ taken) (frames ++ seq_frame seq ∷ []) [] []
 
 -- the stream breaks the rule at the last octet used, whose number is the place
 pub record Breaks (rule : Rule) (place max : ℕ) (fed : List ℕ) (frames : List Frame) (rest taken : List ℕ) : Type 0 where
@@ -63,10 +63,18 @@ is_broken (Step.Seq seq) = false
 is_broken (Step.Broken rule place) = true
 
 -- what the answer says, by the step
+abbrev pub Says : Step → Word → (Rule → ℕ → ℕ → Type 0) → ℕ → List ℕ → List Frame → List ℕ → List Head → List ℕ → ℕ → Type 0
+Says Step.More Stand Stop max fed frames rest heads octets used = GivesMore Stand fed frames rest heads octets used
+Says (Step.Head head) Stand Stop max fed frames rest heads octets used = GivesHead head Stand max fed frames rest heads (take used octets)
+Says Step.Frame Stand Stop max fed frames rest heads octets used = GivesFrame Stand fed frames rest heads (take used octets)
+Says (Step.Seq seq) Stand Stop max fed frames rest heads octets used = GivesSeq seq Stand fed frames rest heads (take used octets)
+Says (Step.Broken rule place) Stand Stop max fed frames rest heads octets used =
+    Breaks rule place max fed frames rest (take used octets) × Stop rule place (told (length rest + used))
+
+-- what a tracker answers, and what it is then
+abbrev pub Tells : Step → TrackerState → List ℕ → List Frame → List ℕ → List Head → List ℕ → ℕ → Type 0
+Tells step new fed frames rest heads octets used = Says step (Tracks new) (HasStopped new) new.max fed frames rest heads octets used
+
+-- what a decoder answers, and what it is then
 abbrev pub Decodes : Step → DecoderState → List ℕ → List Frame → List ℕ → List Head → List ℕ → ℕ → Type 0
-Decodes Step.More new fed frames rest heads octets used = GivesMore new fed frames rest heads octets used
-Decodes (Step.Head head) new fed frames rest heads octets used = GivesHead head new fed frames rest heads (take used octets)
-Decodes Step.Frame new fed frames rest heads octets used = GivesFrame new fed frames rest heads (take used octets)
-Decodes (Step.Seq seq) new fed frames rest heads octets used = GivesSeq seq new fed frames rest heads (take used octets)
-Decodes (Step.Broken rule place) new fed frames rest heads octets used =
-    Breaks rule place new.max fed frames rest (take used octets) × IsBroken new rule place (told (length rest + used))
+Decodes step new fed frames rest heads octets used = Says step (Stands new) (IsBroken new) new.tracker.max fed frames rest heads octets used

@@ -4,8 +4,8 @@ use Rattle.std.specs.List.{AllByRecursion}
 use Rattle.beep_frame.specs.declared.head.Head.{Head}
 use Rattle.beep_frame.specs.Frame.{Frame, IsFrame, IsHead}
 use Rattle.beep_frame.specs.Spelling.{header, spelling}
-use Rattle.beep_frame.specs.Stream.{Stream, IsAlive}
-use Rattle.beep_frame.specs.Stands.{DecoderState, IsWithin}
+use Rattle.beep_frame.specs.Stream.{Stream, IsAlive, IsWithin}
+use Rattle.beep_frame.specs.Stands.{DecoderState}
 
 -- the frames and the rest of a stream are unique
 abbrev pub OneReading : Type 0
@@ -39,5 +39,5 @@ TellsHead rest heads = ((heads ≡ []) × HasNoHead rest) ⊎ ((head : Head) × 
 -- a decoder that stands so has read a stream of these frames and this rest, each within its limit
 pub record Means (decoder : DecoderState) (fed : List ℕ) (frames : List Frame) (rest : List ℕ) (heads : List Head) : Type 0 where
   pub stream : Stream fed frames rest
-  pub within : AllByRecursion (IsWithin decoder.max) frames
+  pub within : AllByRecursion (IsWithin decoder.tracker.max) frames
   pub tells : TellsHead rest heads

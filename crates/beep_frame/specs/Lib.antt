@@ -6,7 +6,10 @@ pub mod Line
 pub mod Stream
 pub mod Reading
 pub mod Finding
+pub mod Told
+pub mod Tracks
 pub mod Stands
+pub mod Keeping
 pub mod Decodes
 pub mod Telling
 pub mod Laws

@@ -1,16 +1,16 @@
--- What a plain reading holds after each step of its decoder, for its proofs.
+-- What a plain reading holds after each step of its tracker, for its proofs.
 use Rattle.std.specs.Prelude.{◌≡◌, ℕ, ◌+◌, ◌≤◌, Option, Some, None, List, [], ◌∷◌, ◌++◌, length, take, drop}
 use Rattle.std.specs.List.{flat_map}
 use Rattle.beep_frame.specs.declared.head.Head.{Head}
 use Rattle.beep_frame.specs.declared.head.TheConstants.{MAX_NUMBER}
-use Rattle.beep_frame.specs.declared.decoder.Step.{Step}
+use Rattle.beep_frame.specs.declared.step.Step.{Step}
 use Rattle.beep_frame.specs.declared.outline.PlainFrame.{PlainFrame}
 use Rattle.beep_frame.specs.declared.outline.Begun.{Begun}
 use Rattle.beep_frame.specs.declared.outline.Reading.{Reading}
 use Rattle.beep_frame.specs.Held.{Held}
 use Rattle.beep_frame.specs.Frame.{Frame}
 use Rattle.beep_frame.specs.Spelling.{header, spelling}
-use Rattle.beep_frame.specs.Stands.{Stands}
+use Rattle.beep_frame.specs.Tracks.{Tracks}
 use Rattle.beep_frame.specs.Outline.{frames_of}
 
 -- the header that was told, and the octets up to its end
@@ -22,8 +22,8 @@ Notes (Some begun) frames heads = (heads ≡ begun.head ∷ []) × (begun.body �
 pub record Holds (reading : Reading) (fed : List ℕ) : Type 0 where
   pub rest : List ℕ
   pub heads : List Head
-  pub stands : Stands reading.decoder fed (frames_of reading.frames.items) rest heads
-  pub max : reading.decoder.max ≡ MAX_NUMBER
+  pub stands : Tracks reading.tracker fed (frames_of reading.frames.items) rest heads
+  pub max : reading.tracker.max ≡ MAX_NUMBER
   pub notes : Notes reading.begun (frames_of reading.frames.items) heads
 
 -- the payload that ends lies within so many octets
@@ -38,7 +38,7 @@ HasRoom (Step.Broken rule place) begun count = Unit {0}
 -- one frame more, and none is begun
 pub record Adds (frame : PlainFrame) (old new : Reading) : Type 0 where
   pub frames : new.frames.items ≡ old.frames.items ++ frame ∷ []
-  pub decoder : new.decoder ≡ old.decoder
+  pub tracker : new.tracker ≡ old.tracker
   pub begun : new.begun ≡ None
 
 -- the data frame that was begun has ended

@@ -1,45 +1,37 @@
--- What a decoder has read: the frames of the octets that it was fed, and where it stands in the next.
--- The code keeps neither octets nor frames. A caller uses Stands as a word, and opens it by the laws alone.
-use Rattle.std.specs.Prelude.{◌≡◌, ℕ, ◌^◌, ◌%◌, ◌≤◌, Option, Some, None, List, ◌++◌, length}
-use Rattle.std.specs.List.{flat_map, AllByRecursion}
+-- What a decoder has read and what it keeps: the frames of the octets that it was fed, and the payload of the last header's frame.
+-- The code keeps one payload and no frame. A caller uses Stands as a word, and opens it by the laws alone.
+use Rattle.std.specs.Prelude.{◌≡◌, ℕ, ◌+◌, ◌≤◌, Bool, false, List, [], ◌∷◌, ◌++◌, length, take, drop}
 use Rattle.beep_frame.specs.declared.head.Head.{Head}
 use Rattle.beep_frame.specs.declared.rule.Rule.{Rule}
-use Rattle.beep_frame.specs.declared.line.Line.{Line}
-use Rattle.beep_frame.specs.declared.finder.Place.{Place}
-use Rattle.beep_frame.specs.Frame.{Frame, framed, seq_frame, IsFrame}
-use Rattle.beep_frame.specs.Spelling.{spelling}
-use Rattle.beep_frame.specs.Reading.{At}
+use Rattle.beep_frame.specs.Frame.{Frame, framed}
+use Rattle.beep_frame.specs.Spelling.{header}
+use Rattle.beep_frame.specs.Held.{Held}
+use Rattle.beep_frame.specs.Tracks.{TrackerState, Tracks, HasStopped}
 
 -- a decoder, apart from how it lies in memory
 pub record DecoderState : Type 0 where
-  pub max : ℕ
-  pub place : Place
-  pub line : Line
-  pub left : ℕ
-  pub used : ℕ
-  pub broken : Option (Rule × ℕ)
+  pub tracker : TrackerState
+  pub head : Head
+  pub payload : Held
+  pub whole : Bool
 
--- a number of octets as it is told: modulo 2^64
-abbrev pub told : ℕ → ℕ
-told n = n % 2 ^ 64
+-- the octets of a payload among those since the last whole frame
+abbrev pub payload_in : Head → List ℕ → List ℕ
+payload_in head rest = take head.size (drop (length (header head)) rest)
 
--- the payload has at most so many octets
-abbrev pub IsWithin : ℕ → Frame → Type 0
-IsWithin max (framed head payload) = head.size ≤ max
-IsWithin max (seq_frame seq) = Unit {0}
+-- it keeps the header that was told and the payload so far; between headers those of the last frame, where that is a data frame
+abbrev pub Keeps : DecoderState → List Frame → List ℕ → List Head → Type 0
+Keeps decoder frames rest [] =
+    (before : List Frame) (head : Head) (payload : List ℕ) → frames ≡ before ++ framed head payload ∷ [] → (decoder.head ≡ head) × (decoder.payload.octets ≡ payload)
+Keeps decoder frames rest (head ∷ heads) = (decoder.head ≡ head) × (decoder.payload.octets ≡ payload_in head rest)
 
 -- so many octets were fed; they are these frames and this rest; of the rest this header was told, if it is whole
 pub record Stands (decoder : DecoderState) (fed : List ℕ) (frames : List Frame) (rest : List ℕ) (heads : List Head) : Type 0 where
-  pub goes_on : decoder.broken ≡ None
-  pub whole : fed ≡ flat_map spelling frames ++ rest
-  pub each : AllByRecursion IsFrame frames
-  pub within : AllByRecursion (IsWithin decoder.max) frames
-  pub at : At decoder.place decoder.line rest heads
-  pub heads_within : AllByRecursion (λ (head : Head). head.size ≤ decoder.max) heads
-  pub used : decoder.used ≡ told (length fed)
-  pub left : decoder.left ≡ told (length rest)
+  pub tracks : Tracks decoder.tracker fed frames rest heads
+  pub keeps : Keeps decoder frames rest heads
+  pub room : decoder.tracker.max ≤ length decoder.payload.octets + decoder.payload.spare
 
 -- the stream broke this rule at this octet, and so many octets were used since the last whole frame
 pub record IsBroken (decoder : DecoderState) (rule : Rule) (place left : ℕ) : Type 0 where
-  pub by : decoder.broken ≡ Some (rule, place)
-  pub left_is : decoder.left ≡ left
+  pub stopped : HasStopped decoder.tracker rule place left
+  pub none : decoder.whole ≡ false

@@ -1,9 +1,10 @@
 -- What a stream of octets is: whole frames, and less than one more (RFC 3080, section 2.2.1).
 -- The definition is over the whole stream, so no cut of it into reads appears here.
-use Rattle.std.specs.Prelude.{◌≡◌, ℕ, ◌<◌, List, [], ◌∷◌, ◌++◌, take}
+use Rattle.std.specs.Prelude.{◌≡◌, ℕ, ◌<◌, ◌≤◌, ◌⊎◌, List, [], ◌∷◌, ◌++◌, take}
 use Rattle.std.specs.List.{flat_map, AllByRecursion}
 use Rattle.beep_frame.specs.declared.head.Head.{Head}
-use Rattle.beep_frame.specs.Frame.{Frame, framed, IsFrame}
+use Rattle.beep_frame.specs.declared.rule.Rule.{Rule}
+use Rattle.beep_frame.specs.Frame.{Frame, framed, seq_frame, IsHead, IsFrame}
 use Rattle.beep_frame.specs.Spelling.{spelling, header, trailer}
 
 -- less than a frame: the spelling of some frame has more octets after these
@@ -39,3 +40,15 @@ pub record InTrailer (before : List ℕ) : Type 0 where
   pub is_frame : IsFrame (framed head payload)
   pub fewer : count < 5
   pub whole : before ≡ flat_map spelling frames ++ (header head ++ payload ++ take count trailer)
+
+-- ---- frames of which each is taken
+
+-- the payload has at most so many octets
+abbrev pub IsWithin : ℕ → Frame → Type 0
+IsWithin max (framed head payload) = head.size ≤ max
+IsWithin max (seq_frame seq) = Unit {0}
+
+-- what an octet behind these octets breaks: the stream is dead there, outside a trailer's place or in one; or it ends a header whose size is above the limit
+abbrev pub BreaksBy : Rule → ℕ → List ℕ → List Frame → ℕ → Type 0
+BreaksBy rule max before frames octet =
+    ((rule ≡ Rule.Header) × DiesAt before octet × (InTrailer before → ⊥)) ⊎ ((rule ≡ Rule.Trailer) × DiesAt before octet × InTrailer before) ⊎ ((rule ≡ Rule.Size) × (head : Head) × IsHead head × (max < head.size) × (before ++ octet ∷ [] ≡ flat_map spelling frames ++ header head))

@@ -1,15 +1,16 @@
--- What a decoder answers to what was found, and what it is then: for its proofs.
+-- What a tracker answers to what was found, and what it is then: for its proofs.
 use Rattle.std.specs.Prelude.{ℕ, ◌+◌, ◌==◌, nat_lt, if◌then◌else◌, Some}
 use Rattle.beep_frame.specs.declared.rule.Rule.{Rule}
 use Rattle.beep_frame.specs.declared.line.Line.{Line}
-use Rattle.beep_frame.specs.declared.decoder.Step.{Step}
+use Rattle.beep_frame.specs.declared.step.Step.{Step}
 use Rattle.beep_frame.specs.declared.finder.Found.{Found}
 use Rattle.beep_frame.specs.declared.finder.Place.{Place}
 use Rattle.beep_frame.specs.Line.{line_start}
-use Rattle.beep_frame.specs.Stands.{DecoderState, told}
+use Rattle.beep_frame.specs.Told.{told}
+use Rattle.beep_frame.specs.Tracks.{TrackerState}
 
 -- so many octets were used, and led there
-abbrev pub moved : DecoderState → Place → Line → ℕ → DecoderState
+abbrev pub moved : TrackerState → Place → Line → ℕ → TrackerState
 moved d place line count =
     record d { place = place; line = line; left = told (d.left + count); used = told (d.used + count) }
 
@@ -21,15 +22,15 @@ behind_header size = if size == 0 then Place.Trailer 0 else Place.Payload size
 abbrev pub last_number : ℕ → ℕ
 last_number used = told (used + 18446744073709551615)
 
-abbrev pub broken_by : DecoderState → Rule → DecoderState
+abbrev pub broken_by : TrackerState → Rule → TrackerState
 broken_by d rule = record d { broken = Some (rule, last_number d.used) }
 
--- the decoder between two frames
-abbrev pub renewed : DecoderState → DecoderState
+-- the tracker between two frames
+abbrev pub renewed : TrackerState → TrackerState
 renewed d = record d { place = Place.Line; line = line_start; left = 0 }
 
 -- the answer
-abbrev pub step_of : DecoderState → Found → Step
+abbrev pub step_of : TrackerState → Found → Step
 step_of d Found.More = Step.More
 step_of d (Found.Head head) = if nat_lt d.max head.size then Step.Broken Rule.Size (last_number d.used) else Step.Head head
 step_of d Found.Frame = Step.Frame
@@ -37,8 +38,8 @@ step_of d (Found.Seq seq) = Step.Seq seq
 step_of d Found.BadLine = Step.Broken Rule.Header (last_number d.used)
 step_of d Found.BadTrailer = Step.Broken Rule.Trailer (last_number d.used)
 
--- the decoder after it
-abbrev pub after_found : DecoderState → Found → DecoderState
+-- the tracker after it
+abbrev pub after_found : TrackerState → Found → TrackerState
 after_found d Found.More = d
 after_found d (Found.Head head) =
     if nat_lt d.max head.size then broken_by d Rule.Size else record d { place = behind_header head.size }

@@ -30,6 +30,8 @@ impl Model for Octets {
 }
 
 impl Octets {
+    ghost use Rattle.beep_frame.specs.Held.{GrowsBy, KeepsRoom};
+
     /// An empty list without room. It takes no memory.
     pub fn new(alloc: Global) -> Octets
         ensures { result.octets ≡ [] }
@@ -37,6 +39,11 @@ impl Octets {
         Octets {
             bytes: Vec::new(alloc),
         }
+    }
+
+    /// Where its memory comes from.
+    pub fn alloc(&self) -> Global {
+        *self.bytes.allocator()
     }
 
     /// Makes room for at least `n` more octets. It takes memory only where that room isn't there.
@@ -80,6 +87,19 @@ impl Octets {
         match self.extend(bytes) {
             Ok(()) => {}
             Err(NoMemory) => unreachable!(),
+        }
+    }
+
+    /// Appends `bytes` where they find room, and nothing of them otherwise. It takes no memory.
+    pub fn extend_within(&mut self, bytes: &[u8])
+        ensures appended { length bytes.now ≤ self.old.spare
+            → self.new.octets ≡ self.old.octets ++ bytes.now }
+        ensures full { self.old.spare < length bytes.now → self.new ≡ self.old }
+        ensures used { GrowsBy self.old self.new (length bytes.now) }
+        ensures room { KeepsRoom self.old self.new }
+    {
+        if bytes.len() <= self.spare() {
+            self.extend_spare(bytes);
         }
     }
 

@@ -2,11 +2,12 @@
 //! of its frames, what is left, and where it dies. Its contract is the definition of a stream.
 ghost use Rattle.std.specs.Prelude.{◌≡◌, ◌+◌, ◌≤◌, length, take, drop, IfOk, OnOk};
 
-use crate::decoder::{Decoder, Step};
 use crate::head::{Head, MAX_NUMBER};
 use crate::octets::{NoMemory, Octets};
 use crate::rule::Rule;
 use crate::seq::Seq;
+use crate::step::Step;
+use crate::tracker::Tracker;
 use std::alloc::Global;
 
 /// A frame with all of its octets.
@@ -40,7 +41,7 @@ struct Begun {
 /// A reading that is under way.
 #[derive(Drop)]
 struct Reading {
-    decoder: Decoder,
+    tracker: Tracker,
     frames: Vec<PlainFrame>,
     begun: Option<Begun>,
 }
@@ -52,13 +53,13 @@ impl Outline {
     pub fn of(alloc: Global, octets: &[u8]) -> Result<Outline, NoMemory>
         ensures { IfOk result (λ outline. Outlines outline octets.now) }
     {
-        let mut reading = Reading::new(alloc)?;
+        let mut reading = Reading::new(alloc);
         let mut at = 0;
         while at < octets.len() {
-            let (count, step) = reading.decoder.feed(&octets[at..]);
+            let (count, step) = reading.tracker.feed(&octets[at..]);
             if let Step::Broken(rule, place) = step {
                 return Ok(Outline {
-                    rest: reading.decoder.left() - 1,
+                    rest: reading.tracker.left() - 1,
                     frames: reading.frames,
                     dead: Some((rule, place)),
                 });
@@ -67,7 +68,7 @@ impl Outline {
             reading.follow(alloc, step, &octets[..at])?;
         }
         Ok(Outline {
-            rest: reading.decoder.left(),
+            rest: reading.tracker.left(),
             frames: reading.frames,
             dead: None,
         })
@@ -78,15 +79,14 @@ impl Reading {
     ghost use Rattle.std.specs.Prelude.{[]};
     ghost use Rattle.beep_frame.specs.Outlining.{Holds, Follows, HasRoom, Adds, Ends};
 
-    fn new(alloc: Global) -> Result<Reading, NoMemory>
-        ensures { IfOk result (λ reading. Holds reading []) }
+    fn new(alloc: Global) -> Reading
+        ensures { Holds result [] }
     {
-        let decoder = Decoder::new(alloc, MAX_NUMBER)?;
-        Ok(Reading {
-            decoder,
+        Reading {
+            tracker: Tracker::new(MAX_NUMBER),
             frames: Vec::new(alloc),
             begun: None,
-        })
+        }
     }
 
     /// Keeps what the last of these octets completes.

@@ -2,8 +2,9 @@
 //! 3080, section 2.2.1; RFC 3081, section 3.1).
 
 use super::*;
-use crate::head::MAX_NUMBER;
-use crate::kind::Kind;
+use crate::limits::MAX_PAYLOAD;
+use crate::rule::Rule;
+use crate::seq::Seq;
 
 // Frames of 22, 11 and 25 octets, and then one octet and its dead successor.
 static STREAM: &[u8] = b"RPY 0 1 . 307 0\r\nEND\r\nSEQ 1 2 3\r\nANS 1 0 * 0 3 7\r\nabcEND\r\nENX";
@@ -55,13 +56,17 @@ fn feed_all(decoder: &mut Decoder, piece: &[u8], steps: &mut Vec<Step>) -> Resul
     Ok(())
 }
 
+fn has_broken(steps: &[Step]) -> bool {
+    matches!(steps.last(), Some(Step::Broken(_, _)))
+}
+
 #[test]
 fn each_cut_gives_the_same_steps(rt: HostRuntime) -> Result<(), NoMemory> {
     for cut in 0..=STREAM.len() {
-        let mut decoder = Decoder::new(rt.alloc(), MAX_NUMBER)?;
+        let mut decoder = Decoder::new(rt.alloc(), MAX_PAYLOAD)?;
         let mut steps = Vec::new(rt.alloc());
         feed_all(&mut decoder, &STREAM[..cut], &mut steps)?;
-        if decoder.broken.is_none() {
+        if !has_broken(&steps) {
             feed_all(&mut decoder, &STREAM[cut..], &mut steps)?;
         }
         assert_eq!(rt; steps.as_slice(), STEPS.as_slice(), "cut at {cut}");
@@ -85,7 +90,7 @@ fn a_greeting_may_be_cut_anywhere(rt: HostRuntime) -> Result<(), NoMemory> {
         ansno: 0,
     });
     for cut in 0..=greeting.len() {
-        let mut decoder = Decoder::new(rt.alloc(), 65536)?;
+        let mut decoder = Decoder::new(rt.alloc(), MAX_PAYLOAD)?;
         let mut steps = Vec::new(rt.alloc());
         feed_all(&mut decoder, &greeting[..cut], &mut steps)?;
         feed_all(&mut decoder, &greeting[cut..], &mut steps)?;
@@ -101,10 +106,10 @@ fn a_greeting_may_be_cut_anywhere(rt: HostRuntime) -> Result<(), NoMemory> {
 
 #[test]
 fn single_octets_give_the_same_steps(rt: HostRuntime) -> Result<(), NoMemory> {
-    let mut decoder = Decoder::new(rt.alloc(), MAX_NUMBER)?;
+    let mut decoder = Decoder::new(rt.alloc(), MAX_PAYLOAD)?;
     let mut steps = Vec::new(rt.alloc());
     for octet in STREAM {
-        if decoder.broken.is_none() {
+        if !has_broken(&steps) {
             feed_all(&mut decoder, &[*octet], &mut steps)?;
         }
     }
@@ -128,7 +133,7 @@ fn left_counts_from_the_last_whole_frame(rt: HostRuntime) -> Result<(), NoMemory
         (59, 1),
     ];
     for (fed, left) in rows {
-        let mut decoder = Decoder::new(rt.alloc(), MAX_NUMBER)?;
+        let mut decoder = Decoder::new(rt.alloc(), MAX_PAYLOAD)?;
         let mut steps = Vec::new(rt.alloc());
         let piece = STREAM.get(..fed).unwrap_or(STREAM);
         feed_all(&mut decoder, piece, &mut steps)?;
@@ -139,7 +144,7 @@ fn left_counts_from_the_last_whole_frame(rt: HostRuntime) -> Result<(), NoMemory
 
 #[test]
 fn a_broken_decoder_answers_the_same_for_ever(rt: HostRuntime) -> Result<(), NoMemory> {
-    let mut decoder = Decoder::new(rt.alloc(), MAX_NUMBER)?;
+    let mut decoder = Decoder::new(rt.alloc(), MAX_PAYLOAD)?;
     let broken = Step::Broken(Rule::Header, 5);
     assert_eq!(rt; decoder.feed(b"MSG 01"), (6, broken));
     assert_eq!(rt; decoder.feed(b"MSG 1 0 . 0 0\r\n"), (0, broken));
@@ -151,12 +156,67 @@ fn a_broken_decoder_answers_the_same_for_ever(rt: HostRuntime) -> Result<(), NoM
 // A header of 17 octets with its CR and LF numbers 17 and 18.
 #[test]
 fn a_size_above_the_limit_is_told_at_the_headers_end(rt: HostRuntime) -> Result<(), NoMemory> {
-    let mut decoder = Decoder::new(rt.alloc(), 65536)?;
+    let mut decoder = Decoder::new(rt.alloc(), MAX_PAYLOAD)?;
     let broken = Step::Broken(Rule::Size, 18);
     assert_eq!(rt; decoder.feed(b"MSG 1 0 . 0 65537\r\n"), (19, broken));
-    let mut decoder = Decoder::new(rt.alloc(), 65536)?;
+    let mut decoder = Decoder::new(rt.alloc(), MAX_PAYLOAD)?;
     let (count, step) = decoder.feed(b"MSG 1 0 . 0 65536\r\n");
     assert_eq!(rt; count, 19);
     assert!(rt; matches!(&step, Step::Head(_)));
+    Ok(())
+}
+
+/// Feeds a piece, and writes each whole frame's number of octets and its payload.
+fn lend_all(decoder: &mut Decoder, piece: &[u8], lent: &mut Octets) -> Result<(), NoMemory> {
+    let mut rest = piece;
+    for _ in 0..=piece.len() {
+        let (count, step) = decoder.feed(rest);
+        rest = &rest[count..];
+        match step {
+            Step::More | Step::Broken(_, _) => break,
+            Step::Frame => {
+                let frame = decoder.frame();
+                lent.extend(&[b'0' + (frame.head.size % 10) as u8, b':'])?;
+                lent.extend(frame.payload)?;
+                lent.extend(b" ")?;
+            }
+            Step::Head(_) | Step::Seq(_) => {}
+        }
+    }
+    Ok(())
+}
+
+// Payloads of no octet, of three, of five that look like a trailer, and of one.
+#[test]
+fn each_cut_lends_the_same_payloads(rt: HostRuntime) -> Result<(), NoMemory> {
+    let stream: &[u8] =
+        b"RPY 0 1 . 0 0\r\nEND\r\nANS 1 0 * 0 3 7\r\nabcEND\r\nSEQ 1 2 3\r\nMSG 1 0 . 3 5\r\nEND\r\nEND\r\nMSG 1 1 . 8 1\r\nxEND\r\n";
+    for cut in 0..=stream.len() {
+        let mut decoder = Decoder::new(rt.alloc(), MAX_PAYLOAD)?;
+        let mut lent = Octets::new(rt.alloc());
+        lend_all(&mut decoder, &stream[..cut], &mut lent)?;
+        lend_all(&mut decoder, &stream[cut..], &mut lent)?;
+        assert_eq!(rt;
+            lent.as_slice(),
+            b"0: 3:abc 5:END\r\n 1:x ".as_slice(),
+            "cut at {cut}"
+        );
+    }
+    Ok(())
+}
+
+// The largest payload that is taken, octet by octet.
+#[test]
+fn a_payload_of_the_greatest_size_is_lent_whole(rt: HostRuntime) -> Result<(), NoMemory> {
+    let mut decoder = Decoder::new(rt.alloc(), MAX_PAYLOAD)?;
+    let mut lent = Octets::new(rt.alloc());
+    lend_all(&mut decoder, b"MSG 1 0 . 0 65536\r\n", &mut lent)?;
+    for _ in 0..MAX_PAYLOAD {
+        lend_all(&mut decoder, b"y", &mut lent)?;
+    }
+    lend_all(&mut decoder, b"END\r\n", &mut lent)?;
+    assert_eq!(rt; lent.len(), 65539);
+    assert!(rt; lent.as_slice().starts_with(b"6:yy"));
+    assert!(rt; lent.as_slice().ends_with(b"yy "));
     Ok(())
 }

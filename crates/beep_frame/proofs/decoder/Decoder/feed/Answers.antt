@@ -1,13 +1,9 @@
-use Rattle.std.proofs.Common.{ap, sym, ◌∙◌, subst}
-use Rattle.beep_frame.specs.Stands.{DecoderState, Stands}
-use Rattle.beep_frame.proofs.DecodeLemmas.{decodes_as, max-after_found}
+use Rattle.std.proofs.Common.{arith, sym, subst}
+use Rattle.beep_frame.specs.Stands.{Stands}
+use Rattle.beep_frame.proofs.PayloadLemmas.{decodes}
 use Rattle.beep_frame.proofs.decoder.Decoder.feed.Goals as goal
 
 pub returns-clause-decodes : goal.returns-clause-decodes
 returns-clause-decodes c = λ fed frames rest heads s.
     let old = subst (λ d. Stands d fed frames rest heads) (sym c.self.view_is) s in
-    decodes_as _ c.find-count.new.place c.find-count.new.line c.find-count.result.0 c.args.bytes.now fed frames rest heads old c.find-count.ensures.within c.find-count.result.1 c.tell.result c.tell.new.self c.tell.ensures.step c.tell.ensures.after (c.find-count.ensures.found rest heads old.at)
-
-pub returns-clause-kept : goal.returns-clause-kept
-returns-clause-kept c =
-    ap (λ (d : DecoderState). d.max) c.tell.ensures.after ∙ max-after_found _ c.find-count.result.1 ∙ ap (λ (d : DecoderState). d.max) c.self.view_is
+    decodes _ c.keep.new.self c.feed-count.new.self fed frames rest heads old c.args.bytes.now c.feed-count.result.0 c.min.result c.feed-count.ensures.within (omega (arith, c.min.ensures, c.wanted-wanted.ensures)) c.feed-count.ensures.kept c.feed-count.result.1 c.keep.ensures (c.feed-count.ensures.decodes fed frames rest heads old.tracks)

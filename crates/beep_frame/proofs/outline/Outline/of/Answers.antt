@@ -1,5 +1,5 @@
 use Rattle.std.proofs.Common.{arith, ◌<◌, ◌^◌, length, take}
-use Rattle.beep_frame.specs.declared.decoder.Step.{Step}
+use Rattle.beep_frame.specs.declared.step.Step.{Step}
 use Rattle.beep_frame.specs.Outline.{frames_of}
 use Rattle.beep_frame.proofs.OutlineLemmas.{alive, dead, left_is, followed, room, read_with, slice_left, not_broken, decodes_by}
 use Rattle.beep_frame.proofs.outline.Outline.of.Goals as goal

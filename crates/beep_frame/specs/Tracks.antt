@@ -1,0 +1,44 @@
+-- What a tracker has read: the frames of the octets that it was fed, and where it stands in the next, for proofs.
+-- The code keeps neither octets nor frames.
+use Rattle.std.specs.Prelude.{◌≡◌, ℕ, ◌≤◌, Option, Some, None, List, ◌++◌, length}
+use Rattle.std.specs.List.{flat_map, AllByRecursion}
+use Rattle.beep_frame.specs.declared.head.Head.{Head}
+use Rattle.beep_frame.specs.declared.rule.Rule.{Rule}
+use Rattle.beep_frame.specs.declared.line.Line.{Line}
+use Rattle.beep_frame.specs.declared.finder.Place.{Place}
+use Rattle.beep_frame.specs.Frame.{Frame, IsFrame}
+use Rattle.beep_frame.specs.Spelling.{spelling}
+use Rattle.beep_frame.specs.Stream.{IsWithin}
+use Rattle.beep_frame.specs.Reading.{At}
+use Rattle.beep_frame.specs.Told.{told}
+
+-- a tracker, apart from how it lies in memory
+pub record TrackerState : Type 0 where
+  pub max : ℕ
+  pub place : Place
+  pub line : Line
+  pub left : ℕ
+  pub used : ℕ
+  pub broken : Option (Rule × ℕ)
+
+-- how many octets of a payload are still to come at a place
+abbrev pub wanted_at : Place → ℕ
+wanted_at Place.Line = 0
+wanted_at (Place.Payload left) = left
+wanted_at (Place.Trailer count) = 0
+
+-- so many octets were fed; they are these frames and this rest; of the rest this header was told, if it is whole
+pub record Tracks (tracker : TrackerState) (fed : List ℕ) (frames : List Frame) (rest : List ℕ) (heads : List Head) : Type 0 where
+  pub goes_on : tracker.broken ≡ None
+  pub whole : fed ≡ flat_map spelling frames ++ rest
+  pub each : AllByRecursion IsFrame frames
+  pub within : AllByRecursion (IsWithin tracker.max) frames
+  pub at : At tracker.place tracker.line rest heads
+  pub heads_within : AllByRecursion (λ (head : Head). head.size ≤ tracker.max) heads
+  pub used : tracker.used ≡ told (length fed)
+  pub left : tracker.left ≡ told (length rest)
+
+-- the stream broke this rule at this octet, and so many octets were used since the last whole frame
+pub record HasStopped (tracker : TrackerState) (rule : Rule) (place left : ℕ) : Type 0 where
+  pub by : tracker.broken ≡ Some (rule, place)
+  pub left_is : tracker.left ≡ left
