@@ -20,3 +20,4 @@ pub mod MomentsLemmas
 pub mod MarksLemmas
 pub mod OrderLemmas
 pub mod OutlineLemmas
+pub mod SpellingLemmas

@@ -21,6 +21,7 @@ mod outline;
 mod role;
 mod rule;
 mod seq;
+mod spelling;
 mod tag;
 mod verdict;
 
@@ -35,5 +36,6 @@ pub use outline::{Outline, PlainFrame};
 pub use role::Role;
 pub use rule::Rule;
 pub use seq::Seq;
+pub use spelling::{SEQ_ROOM, SPELL_ROOM, spell, spell_seq};
 pub use tag::Tag;
 pub use verdict::{broken_rule, broken_within, exchange_rule};
