@@ -1,16 +1,17 @@
-//! What an exchange keeps of one direction, and the rules that it can tell from that.
-ghost use Rattle.std.specs.Prelude.{◌≡◌, ◌+◌, ◌-◌, ◌<◌, ◌≤◌, ◌==◌, ◌∷◌, ◌++◌, [], true, false, IfOk, IsTrue, length, take, drop, map, min, if◌then◌else◌, vec_len, vec_capacity};
+//! What an exchange keeps of one direction, and how frames change it.
+ghost use Rattle.std.specs.Prelude.{◌≡◌, ◌+◌, ◌-◌, ◌<◌, ◌≤◌, ◌==◌, ◌∷◌, ◌++◌, [], true, false, IfOk, IsTrue, length, take, drop, min, if◌then◌else◌};
 ghost use Rattle.std.specs.VecDeque.{deque_len, deque_capacity};
-ghost use Rattle.beep_frame.specs.Broken.{first_of, breaks_nul_shape};
 ghost use Rattle.beep_frame.specs.Journal.{implied};
 ghost use Rattle.beep_frame.specs.Marks.{goes_on};
-ghost use Rattle.beep_exchange.specs.Kept.{begins, is_open, has_number, is_current, is_early, octets_in, has_answer, breaks_not_continued, goes_on_request, changes_message, changes_reply, breaks_kind_changed, breaks_number_in_use, breaks_never_asked, breaks_early_reply, breaks_already_answered, breaks_out_of_turn, breaks_nul_not_after_ans, breaks_nul_too_soon, breaks_empty_answer, breaks_too_many_requests, breaks_too_many_answers, shape_tests, limit_tests, judged, fresh, began_kept, passed_kept, replied_kept, grown, continued, completed};
+ghost use Rattle.beep_exchange.specs.Kept.{begins, is_open, has_number, is_current, is_early, octets_in, has_answer, fresh, began_kept, passed_kept, replied_kept};
 
-use crate::answer::Answer;
-use beep_frame::{Head, Kind, MAX_ANSWERS, MAX_REQUESTS, NoMemory, Rule};
+use crate::answer::{Answer, complete_answer, continue_answer, has_among, octets_among};
+use beep_frame::{Head, Kind, MAX_ANSWERS, MAX_REQUESTS, NoMemory};
 use std::alloc::Global;
 use std::collections::VecDeque;
 use std::marker::Model;
+
+mod rules;
 
 /// One direction: its frame under way and the one before, its last requests, and the reply to the oldest that waits.
 #[derive(Drop)]
@@ -165,172 +166,6 @@ impl Way {
         octets_among(number, self.answers.as_slice())
     }
 
-    /// The first rule that a header of this direction breaks, where `theirs` is the other one. Its cost is constant
-    /// for the first frame of a reply to the oldest request that waits, and else bounded by what is kept.
-    pub fn judge(&self, theirs: &Way, head: &Head) -> Option<Rule>
-        ensures { result ≡ judged self.now theirs.now head.now }
-    {
-        match self.judge_shape(theirs, head) {
-            Some(rule) => Some(rule),
-            None => self.judge_limits(theirs, head),
-        }
-    }
-
-    fn judge_shape(&self, theirs: &Way, head: &Head) -> Option<Rule>
-        ensures { result ≡ first_of (shape_tests self.now theirs.now head.now) }
-    {
-        if breaks_nul_shape(head) {
-            Some(Rule::NulShape)
-        } else if self.breaks_not_continued(head) {
-            Some(Rule::NotContinued)
-        } else if self.breaks_kind_changed(theirs, head) {
-            Some(Rule::KindChanged)
-        } else if self.breaks_number_in_use(head) {
-            Some(Rule::NumberInUse)
-        } else if theirs.breaks_never_asked(head) {
-            Some(Rule::NeverAsked)
-        } else if theirs.breaks_early_reply(head) {
-            Some(Rule::EarlyReply)
-        } else if theirs.breaks_already_answered(head) {
-            Some(Rule::AlreadyAnswered)
-        } else if theirs.breaks_out_of_turn(head) {
-            Some(Rule::OutOfTurn)
-        } else if theirs.breaks_nul_not_after_ans(head) {
-            Some(Rule::NulNotAfterAns)
-        } else if theirs.breaks_nul_too_soon(head) {
-            Some(Rule::NulTooSoon)
-        } else {
-            None
-        }
-    }
-
-    fn judge_limits(&self, theirs: &Way, head: &Head) -> Option<Rule>
-        ensures { result ≡ first_of (limit_tests self.now theirs.now head.now) }
-    {
-        if theirs.breaks_empty_answer(head) {
-            Some(Rule::EmptyAnswer)
-        } else if self.breaks_too_many_requests(head) {
-            Some(Rule::TooManyRequests)
-        } else if theirs.breaks_too_many_answers(head) {
-            Some(Rule::TooManyAnswers)
-        } else {
-            None
-        }
-    }
-
-    fn breaks_not_continued(&self, head: &Head) -> bool
-        ensures { result ≡ breaks_not_continued self.now head.now }
-    {
-        match self.before {
-            None => false,
-            Some(before) => before.more && before.msgno != head.msgno,
-        }
-    }
-
-    fn breaks_kind_changed(&self, theirs: &Way, head: &Head) -> bool
-        ensures { result ≡ breaks_kind_changed self.now theirs.now head.now }
-    {
-        if head.kind.is_nul() {
-            self.goes_on_request(head)
-        } else {
-            self.changes_message(head) || (head.kind.is_reply() && theirs.changes_reply(head))
-        }
-    }
-
-    fn goes_on_request(&self, head: &Head) -> bool
-        ensures { result ≡ goes_on_request self.now head.now }
-    {
-        match self.before {
-            None => false,
-            Some(before) => goes_on(head, &before) && before.kind.is_msg(),
-        }
-    }
-
-    fn changes_message(&self, head: &Head) -> bool
-        ensures { result ≡ changes_message self.now head.now }
-    {
-        match self.before {
-            None => false,
-            Some(before) => goes_on(head, &before) && !before.kind.is_same(head.kind),
-        }
-    }
-
-    fn changes_reply(&self, head: &Head) -> bool
-        ensures { result ≡ changes_reply self.now head.now }
-    {
-        self.is_current(head.msgno)
-            && match self.kind {
-                None => false,
-                Some(kind) => !kind.is_same(head.kind),
-            }
-    }
-
-    fn breaks_number_in_use(&self, head: &Head) -> bool
-        ensures { result ≡ breaks_number_in_use self.now head.now }
-    {
-        self.is_new_request(head) && self.has_whole(head.msgno)
-    }
-
-    fn breaks_never_asked(&self, head: &Head) -> bool
-        ensures { result ≡ breaks_never_asked self.now head.now }
-    {
-        head.kind.is_reply() && !self.is_current(head.msgno) && !self.has_number(head.msgno)
-    }
-
-    fn breaks_early_reply(&self, head: &Head) -> bool
-        ensures { result ≡ breaks_early_reply self.now head.now }
-    {
-        head.kind.is_reply() && self.is_early(head.msgno)
-    }
-
-    fn breaks_already_answered(&self, head: &Head) -> bool
-        ensures { result ≡ breaks_already_answered self.now head.now }
-    {
-        head.kind.is_reply() && !self.is_current(head.msgno) && !self.has_waiting(head.msgno)
-    }
-
-    fn breaks_out_of_turn(&self, head: &Head) -> bool
-        ensures { result ≡ breaks_out_of_turn self.now head.now }
-    {
-        head.kind.is_reply() && !self.is_current(head.msgno)
-    }
-
-    fn breaks_nul_not_after_ans(&self, head: &Head) -> bool
-        ensures { result ≡ breaks_nul_not_after_ans self.now head.now }
-    {
-        head.kind.is_nul()
-            && match self.kind {
-                None => false,
-                Some(kind) => !kind.is_ans(),
-            }
-    }
-
-    fn breaks_nul_too_soon(&self, head: &Head) -> bool
-        ensures { result ≡ breaks_nul_too_soon self.now head.now }
-    {
-        head.kind.is_nul() && self.answers.len() > 0
-    }
-
-    fn breaks_empty_answer(&self, head: &Head) -> bool
-        ensures { result ≡ breaks_empty_answer self.now head.now }
-    {
-        head.kind.is_ans() && !head.more && head.size == 0 && self.octets_in(head.ansno) == 0
-    }
-
-    fn breaks_too_many_requests(&self, head: &Head) -> bool
-        ensures { result ≡ breaks_too_many_requests self.now head.now }
-    {
-        self.is_new_request(head) && self.waiting >= MAX_REQUESTS as usize
-    }
-
-    fn breaks_too_many_answers(&self, head: &Head) -> bool
-        ensures { result ≡ breaks_too_many_answers self.now head.now }
-    {
-        head.kind.is_ans()
-            && !self.has_answer(head.ansno)
-            && self.answers.len() >= MAX_ANSWERS as usize
-    }
-
     /// Notes a header of this direction.
     pub fn begin(&mut self, head: &Head)
         requires { begins self.old head.now ≡ true → self.old.waiting < MAX_REQUESTS }
@@ -390,86 +225,9 @@ fn push_newest(numbers: &mut VecDeque<u32>, number: u32)
     numbers.push_front_reserved(number);
 }
 
-/// Notes a frame of an answer that goes on, with so many octets.
-fn continue_answer(answers: &mut Vec<Answer>, number: u32, size: u32)
-    requires capacity { MAX_ANSWERS ≤ vec_capacity answers.old }
-    requires within { vec_len answers.old ≤ MAX_ANSWERS }
-    ensures items { answers.new.items ≡ continued number size answers.old.items }
-    ensures capacity { vec_capacity answers.new ≡ vec_capacity answers.old }
-    ensures within { vec_len answers.new ≤ MAX_ANSWERS }
-{
-    if has_among(number, answers.as_slice()) {
-        grow(answers.as_mut_slice(), number, size);
-    } else if answers.len() < MAX_ANSWERS as usize {
-        answers.push_reserved(Answer {
-            number,
-            octets: size,
-        });
-    }
-}
-
-/// Notes the last frame of an answer.
-fn complete_answer(answers: &mut Vec<Answer>, number: u32)
-    ensures items { answers.new.items ≡ completed number answers.old.items }
-    ensures capacity { vec_capacity answers.new ≡ vec_capacity answers.old }
-    ensures within { vec_len answers.new ≤ vec_len answers.old }
-{
-    answers.retain(|answer| answer.number != number);
-}
-
-/// Whether one of these answers has this number.
-fn has_among(number: u32, answers: &[Answer]) -> bool
-    ensures { result ≡ has_answer number answers.now }
-{
-    answers.iter().any(|answer| answer.number == number)
-}
-
-/// Adds octets to the answer of a number.
-fn grow(answers: &mut [Answer], number: u32, size: u32)
-    ensures { answers.new ≡ map (grown number size) answers.old }
-{
-    for i in 0..answers.len() {
-        answers[i] = grown(answers[i], number, size);
-    }
-}
-
-fn grown(answer: Answer, number: u32, size: u32) -> Answer
-    ensures { result ≡ grown number size answer }
-{
-    if answer.number != number {
-        return answer;
-    }
-    Answer {
-        number,
-        octets: answer.octets.saturating_add(size),
-    }
-}
-
-/// The octets of the unfinished answer of a number, among these.
-fn octets_among(number: u32, answers: &[Answer]) -> u32
-    ensures { result ≡ octets_in number answers.now }
-{
-    match answers {
-        [] => 0,
-        [answer, others @ ..] => {
-            if answer.number == number {
-                answer.octets
-            } else {
-                octets_among(number, others)
-            }
-        }
-    }
-}
-
 /// Whether a header goes on with the message of the frame before it.
 fn goes_on(head: &Head, before: &Head) -> bool
     ensures { result ≡ goes_on head.now before.now }
 {
     before.more && before.msgno == head.msgno
-}
-
-fn breaks_nul_shape(head: &Head) -> bool
-    ensures { result ≡ breaks_nul_shape head.now }
-{
-    head.kind.is_nul() && (head.more || head.size > 0)
 }

@@ -21,3 +21,4 @@ pub mod MarksLemmas
 pub mod OrderLemmas
 pub mod OutlineLemmas
 pub mod PayloadLemmas
+pub mod SpellingLemmas

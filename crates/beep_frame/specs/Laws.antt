@@ -41,3 +41,13 @@ pub record Means (decoder : DecoderState) (fed : List ℕ) (frames : List Frame)
   pub stream : Stream fed frames rest
   pub within : AllByRecursion (IsWithin decoder.tracker.max) frames
   pub tells : TellsHead rest heads
+
+-- a stream that begins with a frame's spelling is that frame, and then a stream of what follows
+abbrev pub ReadAsItsFrame : Type 0
+ReadAsItsFrame =
+    (f : Frame) (more : List ℕ) (frames : List Frame) (rest : List ℕ) → IsFrame f → Stream (spelling f ++ more) frames rest → (others : List Frame) × (frames ≡ f ∷ others) × Stream more others rest
+
+-- a frame's spelling before a stream is a stream of that frame and the others
+abbrev pub BeginsAStream : Type 0
+BeginsAStream =
+    (f : Frame) (more : List ℕ) (others : List Frame) (rest : List ℕ) → IsFrame f → Stream more others rest → Stream (spelling f ++ more) (f ∷ others) rest

@@ -7,7 +7,7 @@ ghost use Rattle.beep_frame.specs.declared.tag.Tag.{Tag};
 ghost use Rattle.beep_frame.specs.declared.journal.Side.{Side};
 ghost use Rattle.beep_frame.specs.Frame.{Frame};
 ghost use Rattle.beep_frame.specs.Stands.{Stands};
-ghost use Rattle.beep_frame.specs.Laws.{OneReading, NoneBeginsAnother, StaysAlive, Means};
+ghost use Rattle.beep_frame.specs.Laws.{OneReading, NoneBeginsAnother, StaysAlive, Means, ReadAsItsFrame, BeginsAStream};
 ghost use Rattle.beep_frame.specs.Journal.{Item};
 ghost use Rattle.beep_frame.specs.Marks.{Request, requests, waiting, is_whole, is_answered, reply, marks};
 ghost use Rattle.beep_frame.specs.Broken.{IsUnbroken, broken_within, exchange_rule, octet_rules, first_of, with_octets};
@@ -96,4 +96,14 @@ pub fn marks_are_the_octets_of_frames()
 /// The end marks are those of the complete frames, in order.
 pub fn end_marks_are_the_complete_frames()
     ensures { (side : Side) (past : List Item) → mark_ends (marks side past) ≡ frame_ends side past }
+{}
+
+/// Where octets begin with the spelling of a frame, each reading of them begins with that frame.
+pub fn a_spelling_is_read_as_its_frame()
+    ensures { ReadAsItsFrame }
+{}
+
+/// The spelling of a frame may stand before each stream.
+pub fn a_spelling_begins_a_stream()
+    ensures { BeginsAStream }
 {}

@@ -1,7 +1,7 @@
 -- The closure's answer is the test of the filter.
 use Rattle.std.proofs.Common.{rules}
 use Rattle.std.proofs.lemmas.Fn.{filter_same}
-use Rattle.beep_exchange.proofs.way.complete_answer.Goals as goal
+use Rattle.beep_exchange.proofs.answer.complete_answer.Goals as goal
 
 pub returns-clause-items : goal.returns-clause-items
 returns-clause-items c = filter_same _ _ _ (λ x b f' k. search rules) _ _ c.retain.ensures.filtered

@@ -3,7 +3,7 @@ use Rattle.std.proofs.Common.{arith, get_or}
 use Rattle.std.proofs.lemmas.List.{get_or_default}
 use Rattle.std.proofs.lemmas.List.Edits.{map_over_more}
 use Rattle.beep_exchange.specs.Kept.{grown}
-use Rattle.beep_exchange.proofs.way.grow.Goals as goal
+use Rattle.beep_exchange.proofs.answer.grow.Goals as goal
 
 pub loop-i-preserved : goal.loop-i-preserved
 loop-i-preserved c =
