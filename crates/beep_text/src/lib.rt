@@ -8,11 +8,14 @@
 
 mod attr;
 mod element;
+#[cfg(test)]
+mod examples;
 pub mod laws;
 mod level;
 mod limits;
 mod mode;
 mod octet;
+mod outcome;
 mod read;
 mod reader;
 mod split;
@@ -21,6 +24,7 @@ mod write;
 
 pub use element::{Element, Item};
 pub use limits::{MAX_NAME, MAX_NESTED, MAX_TEXT};
+pub use outcome::{Outcome, decide};
 pub use read::{TextError, read_element};
 pub use split::split_entity;
 pub use text::Text;
