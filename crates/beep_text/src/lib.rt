@@ -8,6 +8,7 @@
 
 mod attr;
 mod element;
+mod ending;
 #[cfg(test)]
 mod examples;
 pub mod laws;
