@@ -1,5 +1,5 @@
 -- What the reader's answer for a text says of what can follow it.
-use Rattle.std.proofs.Common.{◌≡◌, ℕ, suc, ◌<◌, ◌≤◌, true, false, ◌==◌, List, [], ◌∷◌, ◌++◌, length, take, refl, sym, subst, append-nil, arith, eqb-true}
+use Rattle.std.proofs.Common.{◌≡◌, ℕ, suc, ◌<◌, true, false, ◌==◌, List, [], ◌∷◌, length, refl, sym, subst, append-nil, arith, eqb-true}
 use Rattle.std.proofs.lemmas.Bool.{eqb-false}
 use Rattle.std.proofs.lemmas.List.{take_all}
 use Rattle.beep_text.specs.Tree.{Tree, nothing}
