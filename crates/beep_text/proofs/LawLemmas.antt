@@ -42,7 +42,7 @@ one_value body e f first second =
 pub prefix_alive : (xs ys : List ℕ) → IsAlive (xs ++ ys) → IsAlive xs
 prefix_alive xs ys alive = (ys ++ alive.0, alive.1, subst (λ (x : List ℕ). IsBody x alive.1) (append_assoc xs ys alive.0) alive.2)
 
-take_alive : (body : List ℕ) (m n : ℕ) → m ≤ n → IsAlive (take n body) → IsAlive (take m body)
+pub take_alive : (body : List ℕ) (m n : ℕ) → m ≤ n → IsAlive (take n body) → IsAlive (take m body)
 take_alive body m n less alive =
     subst IsAlive (take-take m n body less) (prefix_alive (take m (take n body)) (drop m (take n body)) (subst IsAlive (sym (take-append-drop m (take n body))) alive))
 

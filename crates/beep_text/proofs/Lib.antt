@@ -3,6 +3,7 @@ mod CharLemmas
 mod ElementLemmas
 mod FinishLemmas
 mod LawLemmas
+mod OutcomeLemmas
 mod PlaceLemmas
 mod ReachedLemmas
 mod ReadLemmas

@@ -1,24 +1,22 @@
 -- Where a text is refused inside a reference.
-use Rattle.std.proofs.Common.{◌≡◌, ℕ, zero, suc, ◌+◌, ◌-◌, ◌*◌, ◌<◌, ◌≤◌, ◌⊎◌, Bool, true, false, ◌&&◌, ◌||◌, not, ◌==◌, nat_lt, nat_le, cond, if◌then◌else◌, List, [], ◌∷◌, ◌++◌, length, take, drop, get_or, codes, inl, inr, ⊎_elim, true≢false, Option, Some, None, refl, sym, ap, ap₂, subst, ◌∙◌, append_assoc, append-nil, arith, length-append, eqb-true, ltb-true, ltb-false, lt-ltb, leb-true}
+use Rattle.std.proofs.Common.{◌≡◌, ℕ, zero, suc, ◌+◌, ◌*◌, ◌<◌, ◌≤◌, ◌⊎◌, Bool, true, false, ◌&&◌, ◌||◌, not, ◌==◌, nat_lt, nat_le, List, [], ◌∷◌, ◌++◌, length, take, drop, get_or, codes, inl, inr, ⊎_elim, true≢false, Option, Some, None, refl, sym, ap, ap₂, subst, ◌∙◌, append_assoc, arith, length-append, eqb-true, ltb-true, lt-ltb}
 use Rattle.std.specs.List.{list_all}
-use Rattle.std.proofs.lemmas.Bool.{eqb-false}
 use Rattle.std.proofs.lemmas.List.{take-take, take_at, drop_at, take_all, take-append-drop, length-take-le, length-drop}
 use Rattle.std.proofs.lemmas.Bool.Decides.{nat_tests}
-use Rattle.beep_text.specs.declared.attr.Attr.{Attr}
 use Rattle.beep_text.specs.declared.mode.Letters.{Letters}
 use Rattle.beep_text.specs.declared.mode.Part.{Part}
 use Rattle.beep_text.specs.declared.mode.Taken.{Taken}
 use Rattle.beep_text.specs.declared.mode.Mode.{Mode}
-use Rattle.beep_text.specs.Characters.{is_space, is_allowed, is_digit, is_name, is_begun_name, is_name_start, is_name_char}
+use Rattle.beep_text.specs.Characters.{is_name, is_name_char}
 use Rattle.beep_text.specs.Lawful.{has_name}
-use Rattle.beep_text.specs.Tree.{Items, Tree, nothing}
-use Rattle.beep_text.specs.Elements.{Written, plain, named, decimal, hexadecimal, written_text, is_reference, is_hex_digit, has_reference, name_of, digit_of, IsAlive, IsBody, IsBegun, IsEntity, Stops}
-use Rattle.beep_text.specs.Machine.{State, start, step, step_in, run, taken_after, char_taken, is_fresh, is_nil, letter_after, letters_taken, is_no_letter, named_taken, digit_taken, base_of, is_digit_in, value_taken, content_taken, section_taken, unended, is_ref, in_ref}
+use Rattle.beep_text.specs.Tree.{Tree}
+use Rattle.beep_text.specs.Elements.{Written, plain, named, decimal, hexadecimal, written_text, is_reference, digit_of, IsAlive, IsBody, IsBegun, IsEntity, Stops}
+use Rattle.beep_text.specs.Machine.{State, start, step, step_in, run, taken_after, is_fresh, letter_after, is_no_letter, named_taken, base_of, is_digit_in, value_taken, content_taken, section_taken, unended, is_ref, in_ref}
 use Rattle.beep_text.proofs.ElementLemmas.{left_of, right_of, both, is_false}
 use Rattle.beep_text.proofs.WrittenLemmas.{by_test}
 use Rattle.beep_text.proofs.CanonicalLemmas.{name_chars}
-use Rattle.beep_text.proofs.CharLemmas.{PartText, IsNumber, letters_text, number_front}
-use Rattle.beep_text.proofs.ReachedLemmas.{Inside, IsOpen, ReachedIn, Reached}
+use Rattle.beep_text.proofs.CharLemmas.{PartText, letters_text, number_front}
+use Rattle.beep_text.proofs.ReachedLemmas.{Inside, IsOpen, ReachedIn}
 use Rattle.beep_text.proofs.ReadingLemmas.{named_cases}
 use Rattle.beep_text.proofs.RunLemmas.{st, run-append}
 use Rattle.beep_text.proofs.StepLemmas.{Stepped, read-reached, run-none}

@@ -1,22 +1,22 @@
 -- What the reader's loop gives for a whole body.
-use Rattle.std.proofs.Common.{◌≡◌, ℕ, zero, suc, ◌+◌, ◌<◌, ◌≤◌, Bool, true, false, ◌&&◌, not, ◌==◌, cond, if◌then◌else◌, List, [], ◌∷◌, ◌++◌, length, map, take, get_or, Option, Some, None, refl, sym, ap, ap₂, subst, true≢false, ◌∙◌, arith}
+use Rattle.std.proofs.Common.{◌≡◌, ℕ, suc, ◌+◌, ◌<◌, ◌≤◌, Bool, true, false, not, ◌==◌, if◌then◌else◌, List, [], ◌∷◌, ◌++◌, length, take, get_or, Option, Some, None, refl, sym, ap, subst, ◌∙◌, arith}
 use Rattle.std.specs.List.{list_all}
-use Rattle.std.proofs.lemmas.List.{take_more, take_all, length-take-le}
+use Rattle.std.proofs.lemmas.List.{take_more}
 use Rattle.beep_text.specs.declared.limits.TheConstants.{MAX_TEXT, MAX_NESTED}
 use Rattle.beep_text.specs.declared.mode.Mode.{Mode}
 use Rattle.beep_text.specs.declared.read.TextError.{TextError}
-use Rattle.beep_text.specs.Tree.{Items, Tree, nothing, with_chars, with_child}
+use Rattle.beep_text.specs.Tree.{Items, Tree}
 use Rattle.beep_text.specs.Lawful.{are_attrs, are_items, depth_of, IsElement}
-use Rattle.beep_text.specs.Elements.{attr_said, items_of, IsBody, IsEntity, Stops}
+use Rattle.beep_text.specs.Elements.{IsBody, IsEntity}
 use Rattle.beep_text.specs.Refused.{Refuses}
 use Rattle.beep_text.specs.Machine.{State, start, step, run, in_ref}
 use Rattle.beep_text.specs.Reading.{MayEnd, last_amp, last_amp_from, refusal_of, child_of, element_of, is_trail}
 use Rattle.beep_text.proofs.ElementLemmas.{left_of, right_of, is_false}
 use Rattle.beep_text.proofs.LawLemmas.{attrs_lawful, pieces_items}
-use Rattle.beep_text.proofs.PlaceLemmas.{RefText, InRef, in_ref_text, entity_place, no_entity, stops_at, stops_short}
+use Rattle.beep_text.proofs.PlaceLemmas.{in_ref_text, entity_place, no_entity, stops_at, stops_short}
 use Rattle.beep_text.proofs.ReachedLemmas.{Inside, IsOpen, Opening, ReachedIn, Reached}
 use Rattle.beep_text.proofs.WrittenLemmas.{by_test}
-use Rattle.beep_text.proofs.RunLemmas.{body_of, body-run, run-append}
+use Rattle.beep_text.proofs.RunLemmas.{body-run, run-append}
 use Rattle.beep_text.proofs.StepLemmas.{Stepped, read-reached}
 
 -- ---- an element that may end is lawful

@@ -9,3 +9,4 @@ pub mod Split
 pub mod Machine
 pub mod Reading
 pub mod Refused
+pub mod Decided

@@ -8,11 +8,15 @@
 
 mod attr;
 mod element;
+mod ending;
+#[cfg(test)]
+mod examples;
 pub mod laws;
 mod level;
 mod limits;
 mod mode;
 mod octet;
+mod outcome;
 mod read;
 mod reader;
 mod split;
@@ -21,6 +25,7 @@ mod write;
 
 pub use element::{Element, Item};
 pub use limits::{MAX_NAME, MAX_NESTED, MAX_TEXT};
+pub use outcome::{Outcome, decide};
 pub use read::{TextError, read_element};
 pub use split::split_entity;
 pub use text::Text;

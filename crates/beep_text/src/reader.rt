@@ -1,15 +1,13 @@
 //! The reader of elements, one octet at a time (RFC 3080, section 6.4).
 ghost use Rattle.std.specs.Prelude.{◌≡◌, ℕ, ◌+◌, ◌<◌, ◌≤◌, false, [], ◌∷◌, ◌++◌, fold, replicate, OnOk, IfOk};
 ghost use Rattle.beep_text.specs.declared.mode.Taken.{Taken};
-ghost use Rattle.beep_text.specs.Lawful.{IsElement};
-ghost use Rattle.beep_text.specs.Machine.{lead_step, begun_step, naming_step, tag_step, slash_step, attr_step, equals_step, quote_step, value_step, value_taken, content_step, content_taken, bang_step, section_step, section_taken, unended, closing_step, closed_step, ended, step, start, opened, with_setting, with_items, dashed};
+ghost use Rattle.beep_text.specs.Machine.{lead_step, begun_step, naming_step, tag_step, attr_step, equals_step, quote_step, value_step, value_taken, content_step, content_taken, bang_step, section_step, section_taken, unended, step, start, opened, with_setting, with_items, dashed};
 ghost use Rattle.beep_text.specs.Elements.{put as put_in};
-ghost use Rattle.beep_text.specs.Reading.{tree_in, state_of, Steps, MayEnd, element_of, child_of};
-ghost use Rattle.beep_text.specs.Listed.{items_listed};
+ghost use Rattle.beep_text.specs.Reading.{tree_in, state_of, Steps, MayEnd};
 
 use crate::attr::Attr;
-use crate::element::{Element, Item, push_attr};
-use crate::level::{has_name, has_room, push_item, put};
+use crate::element::{Item, push_attr};
+use crate::level::{has_name, has_room, put};
 use crate::limits::{MAX_NAME, MAX_NESTED};
 use crate::mode::{Mode, Part, Taken};
 use crate::octet::{char_taken, is_fresh, is_name_char, is_name_start, is_space, taken_after};
@@ -51,23 +49,6 @@ impl Reader {
             attr: Text::new(alloc),
             value: Text::new(alloc),
             mode: Mode::Lead,
-        }
-    }
-
-    /// The element, where the body may end.
-    pub(crate) fn finish(self) -> Option<Element>
-        ensures { result ≡ element_of self.mode (tree_in self.top).items }
-    {
-        let Reader {
-            below: _,
-            top,
-            attr: _,
-            value: _,
-            mode,
-        } = self;
-        match mode {
-            Mode::Trail => outermost(top.items),
-            _ => None,
         }
     }
 
@@ -170,16 +151,6 @@ impl Reader {
         self.attr = name;
         self.mode = Mode::Attr;
         Ok(true)
-    }
-
-    fn slash(&mut self, octet: u8) -> Result<bool, NoMemory>
-        requires ends { IsElement (tree_in self.old.top) }
-        ensures { IfOk result (λ went. Steps (slash_step (state_of self.old) octet) went (state_of self.new)) }
-    {
-        if octet == b'>' {
-            return self.end();
-        }
-        Ok(false)
     }
 
     fn attr(&mut self, octet: u8) -> Result<bool, NoMemory>
@@ -360,52 +331,6 @@ impl Reader {
         }
     }
 
-    fn closing(&mut self, n: usize, octet: u8) -> Result<bool, NoMemory>
-        requires ends { IsElement (tree_in self.old.top) }
-        ensures { IfOk result (λ went. Steps (closing_step (state_of self.old) n octet) went (state_of self.new)) }
-    {
-        if n >= self.top.name.len() {
-            return self.closed(octet);
-        }
-        if self.top.name.has_at(n, octet) {
-            self.mode = Mode::Closing(n + 1);
-            return Ok(true);
-        }
-        Ok(false)
-    }
-
-    fn closed(&mut self, octet: u8) -> Result<bool, NoMemory>
-        requires ends { IsElement (tree_in self.old.top) }
-        ensures { IfOk result (λ went. Steps (closed_step (state_of self.old) octet) went (state_of self.new)) }
-    {
-        if is_space(octet) {
-            self.mode = Mode::Closed;
-            return Ok(true);
-        }
-        if octet == b'>' {
-            return self.end();
-        }
-        Ok(false)
-    }
-
-    fn end(&mut self) -> Result<bool, NoMemory>
-        requires ends { IsElement (tree_in self.old.top) }
-        ensures { IfOk result (λ went. Steps (ended (state_of self.old)) went (state_of self.new)) }
-    {
-        let Some(up) = self.below.pop() else {
-            return Ok(false);
-        };
-        let Level { name, attrs, items } = mem::replace(&mut self.top, up);
-        let child = Element { name, attrs, items };
-        push_item(&mut self.top.items, Item::Child(child))?;
-        self.mode = if self.below.is_empty() {
-            Mode::Trail
-        } else {
-            Mode::Content(Part::Fresh)
-        };
-        Ok(true)
-    }
-
     /// Takes one octet, where one can follow.
     pub(crate) fn take(&mut self, octet: u8) -> Result<bool, NoMemory>
         requires ends { MayEnd self.old.mode (tree_in self.old.top) }
@@ -428,15 +353,5 @@ impl Reader {
             Mode::Closed => self.closed(octet),
             Mode::Trail => Ok(is_space(octet)),
         }
-    }
-}
-
-/// The last part, where it is an element.
-fn outermost(mut items: Vec<Item>) -> Option<Element>
-    ensures { result ≡ child_of (items_listed items.items) }
-{
-    match items.pop() {
-        Some(Item::Child(element)) => Some(element),
-        Some(Item::Chars(_)) | None => None,
     }
 }

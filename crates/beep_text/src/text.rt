@@ -1,5 +1,5 @@
 //! A list of characters, kept as text.
-ghost use Rattle.std.specs.Prelude.{◌≡◌, ◌==◌, ◌<◌, [], ◌∷◌, ◌++◌, length, chars, slice_get, slice_index, bytes_eq, IfOk, OnOk, OnErr};
+ghost use Rattle.std.specs.Prelude.{◌≡◌, ◌==◌, ◌+◌, ◌<◌, [], ◌∷◌, ◌++◌, length, chars, slice_get, slice_index, bytes_eq, IfOk, OnOk, OnErr};
 
 use beep_frame::NoMemory;
 use std::alloc::Global;
@@ -9,14 +9,18 @@ use std::marker::Model;
 #[derive(Debug, Drop)]
 pub struct Text {
     text: String,
+    // The number of characters, so that a name's length is had at each octet of it.
+    len: usize,
 }
 
 impl Model for Text {
-    ghost use Rattle.std.specs.Prelude.{ℕ, List, chars, string_bytes};
+    ghost use Rattle.std.specs.Prelude.{◌≡◌, ℕ, List, length, chars, string_bytes};
 
     ghost Value = { List ℕ };
 
     ghost view = { λ t. chars (string_bytes t.text) };
+
+    ghost invariant = { λ t. t.len ≡ length (chars (string_bytes t.text)) };
 }
 
 impl Text {
@@ -26,6 +30,7 @@ impl Text {
     {
         Text {
             text: String::new(alloc),
+            len: 0,
         }
     }
 
@@ -35,14 +40,15 @@ impl Text {
         ensures err { OnErr result (self.new ≡ self.old) }
     {
         self.text.push(character)?;
+        self.len = one_more(self.len, self.text.as_str().len());
         Ok(())
     }
 
-    /// How many characters the list has. It takes time in its length.
+    /// How many characters the list has.
     pub fn len(&self) -> usize
         ensures { result ≡ length self.now }
     {
-        self.text.chars().count()
+        self.len
     }
 
     /// The character at `i`. It takes time in `i`.
@@ -79,6 +85,7 @@ impl Text {
     {
         Ok(Text {
             text: self.text.clone()?,
+            len: self.len,
         })
     }
 
@@ -92,4 +99,12 @@ impl Text {
             None => false,
         }
     }
+}
+
+/// One more than a count of characters that are fewer than these octets, so that it fits.
+fn one_more(count: usize, octets: usize) -> usize
+    requires { count < octets }
+    ensures { result ≡ count + 1 }
+{
+    count + 1
 }

@@ -1,4 +1,4 @@
-use Rattle.std.proofs.Common.{◌≡◌, ◌≤◌, length, drop}
+use Rattle.std.proofs.Common.{◌≡◌, ◌≤◌, drop}
 use Rattle.beep_text.specs.Reading.{last_amp, last_amp_from}
 use Rattle.beep_text.proofs.read.last_amp.Given as goal
 

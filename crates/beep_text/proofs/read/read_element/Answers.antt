@@ -1,4 +1,4 @@
-use Rattle.std.proofs.Common.{◌≡◌, ℕ, ◌∙◌, ap, sym, subst, take, length, get_or, Some, None, Option, if◌then◌else◌, refl, arith}
+use Rattle.std.proofs.Common.{◌∙◌, ap, sym, subst, take, get_or, Some, None, if◌then◌else◌, refl, arith}
 use Rattle.std.proofs.lemmas.List.{take_all, length-take-le}
 use Rattle.beep_text.specs.declared.read.TextError.{TextError}
 use Rattle.beep_text.specs.Refused.{Refuses}
