@@ -39,6 +39,11 @@ impl Octets {
         }
     }
 
+    /// Where its memory comes from.
+    pub fn alloc(&self) -> Global {
+        *self.bytes.allocator()
+    }
+
     /// Makes room for at least `n` more octets. It takes memory only where that room isn't there.
     pub fn reserve(&mut self, n: usize) -> Result<(), NoMemory>
         ensures ok { OnOk result (n ≤ self.new.spare) }

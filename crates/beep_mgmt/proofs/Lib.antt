@@ -1,0 +1,9 @@
+mod Base64Lemmas
+mod BoolLemmas
+mod MessageLemmas
+mod NumberLemmas
+mod PartLemmas
+mod ProfileLemmas
+mod TextLemmas
+mod WordLemmas
+mod WritableLemmas

@@ -1,0 +1,5 @@
+pub mod Form
+pub mod Said
+pub mod Written
+pub mod Message
+pub mod Parts
