@@ -1,12 +1,14 @@
-use Rattle.std.proofs.Common.{◌≡◌, ℕ, zero, suc, ◌+◌, ◌*◌, ◌/◌, ◌%◌, ◌<◌, ◌==◌, Bool, true, false, ◌&&◌, not, cond, nat_lt, List, [], ◌∷◌, ◌++◌, length, replicate, slice_index, refl, sym, ap, ◌∙◌, arith, Result, Ok}
+use Rattle.std.proofs.Common.{◌≡◌, ℕ, zero, suc, ◌+◌, ◌*◌, ◌/◌, ◌%◌, ◌<◌, ◌==◌, Bool, true, false, ◌&&◌, not, cond, nat_lt, List, [], ◌∷◌, ◌++◌, length, replicate, slice_index, refl, sym, ap, ◌∙◌, arith, lt-ltb, ltb-true, Result, Ok, encode_utf8_all}
 use Rattle.std.specs.List.{list_all, filter}
 use Rattle.std.proofs.lemmas.List.Folds.{list_all-append}
+use Rattle.std.proofs.lemmas.Str.{encode_ascii}
 use Rattle.std.proofs.lemmas.Bool.Decides.{nat_tests}
 use Rattle.base64.specs.GeneralPurpose.{encode_of, decode_of, IsBytes, IsConsistent}
 use Rattle.base64.specs.Engines.{standard}
 use Rattle.base64.specs.Rfc4648.{encode_symbols, encode_group, encode, padding_len}
 use Rattle.base64.proofs.EngineFacts.{decode_of-encode_of}
 use Rattle.beep_text.specs.Characters.{is_space, is_allowed}
+use Rattle.beep_mgmt.specs.Sized.{is_octet}
 use Rattle.beep_mgmt.proofs.BoolLemmas.{both, left_of, right_of}
 
 -- the octet is printable and no white space
@@ -78,8 +80,28 @@ pub symbols-filtered : (cs : List ℕ) → list_all is_symbol cs ≡ true → fi
 symbols-filtered [] are = refl
 symbols-filtered (c ∷ cs) are = rw (symbol-unspaced c (left_of (is_symbol c) _ are), symbols-filtered cs (right_of (is_symbol c) _ are)) refl
 
+symbol-ascii : (c : ℕ) → is_symbol c ≡ true → c < 128
+symbol-ascii c is = grind (arith, nat_tests)
+
+-- the octets of symbols are their characters
+pub symbols-encoded : (cs : List ℕ) → list_all is_symbol cs ≡ true → encode_utf8_all cs ≡ cs
+symbols-encoded [] are = refl
+symbols-encoded (c ∷ cs) are =
+    ap (λ bs. bs ++ encode_utf8_all cs) (encode_ascii c (symbol-ascii c (left_of (is_symbol c) _ are))) ∙ ap (λ bs. c ∷ bs) (symbols-encoded cs (right_of (is_symbol c) _ are))
+
 consistent : IsConsistent standard
 consistent = refl
 
 pub decoded-encoded : (m : List ℕ) → IsBytes m → decode_of standard (encode_of standard m) ≡ Ok m
 decoded-encoded m bytes = decode_of-encode_of standard m consistent bytes
+
+-- ---- octets
+
+pub octets_from : (cs : List ℕ) → IsBytes cs → list_all is_octet cs ≡ true
+octets_from [] bytes = refl
+octets_from (c ∷ cs) bytes = both (is_octet c) _ (lt-ltb c 256 (bytes 0)) (octets_from cs (λ i. bytes (suc i)))
+
+pub octets_are : (cs : List ℕ) → list_all is_octet cs ≡ true → IsBytes cs
+octets_are [] are i = omega arith
+octets_are (c ∷ cs) are zero = ltb-true c 256 (left_of (is_octet c) _ are)
+octets_are (c ∷ cs) are (suc i) = octets_are cs (right_of (is_octet c) _ are) i

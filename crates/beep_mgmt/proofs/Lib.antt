@@ -1,5 +1,7 @@
+mod BackLemmas
 mod Base64Lemmas
 mod BoolLemmas
+mod FormLemmas
 mod MessageLemmas
 mod NumberLemmas
 mod PartLemmas

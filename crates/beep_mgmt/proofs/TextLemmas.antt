@@ -1,4 +1,4 @@
-use Rattle.std.proofs.Common.{◌≡◌, ℕ, Bool, true, false, ◌&&◌, cond, List, [], ◌∷◌, ◌++◌, length, Option, Some, None, chars, IsUtf8, refl, sym, ap, ◌∙◌, subst, Result, Ok, Err, IfOk}
+use Rattle.std.proofs.Common.{◌≡◌, ℕ, Bool, true, false, ◌&&◌, cond, List, [], ◌∷◌, ◌++◌, length, Option, Some, None, chars, IsUtf8, refl, sym, ap, ◌∙◌, subst, Result, Ok, Err, IfOk, OnOk}
 use Rattle.std.specs.Str.{is_utf8}
 use Rattle.std.specs.List.{list_all}
 use Rattle.std.proofs.lemmas.Str.{IsUtf8-from_is_utf8, is_utf8-from_IsUtf8}
@@ -22,3 +22,8 @@ text_kept octets utf8 allowed is =
 pub holds_at : {T E : Type 0} (P : T → Type 0) (r : Result T E) (x : T) → IfOk r (λ y. y ≡ x) → P x → IfOk r P
 holds_at P (Ok y) x is holds = subst P (sym is) holds
 holds_at P (Err e) x is holds = tt
+
+-- what holds, holds where a result is Ok
+pub on_ok : {T E : Type 0} (r : Result T E) (P : Type 0) → P → OnOk r P
+on_ok (Ok y) P holds = holds
+on_ok (Err e) P holds = tt

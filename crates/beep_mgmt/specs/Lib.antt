@@ -1,4 +1,5 @@
 pub mod Form
+pub mod Sized
 pub mod Said
 pub mod Written
 pub mod Message

@@ -11,10 +11,12 @@ pub mod laws;
 mod limits;
 mod mgmt;
 mod number;
+
 mod profile;
 mod profiles;
 mod read;
 mod said;
+mod sized;
 mod space;
 mod text;
 mod word;

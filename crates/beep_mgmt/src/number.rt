@@ -80,12 +80,20 @@ fn digit_at(text: &Text, i: usize) -> Option<u64>
 pub(crate) fn decimal_text(alloc: Global, number: u32) -> Result<Text, NoMemory>
     ensures { IfOk result (λ text. text ≡ decimal number) }
 {
-    let mut text = if number < 10 {
-        Text::new(alloc)
-    } else {
-        decimal_text(alloc, number / 10)?
-    };
+    if number < 10 {
+        return digit_text(alloc, number);
+    }
+    let mut text = decimal_text(alloc, number / 10)?;
     text.push(digit(number % 10))?;
+    Ok(text)
+}
+
+fn digit_text(alloc: Global, number: u32) -> Result<Text, NoMemory>
+    requires { number < 10 }
+    ensures { IfOk result (λ text. text ≡ decimal number) }
+{
+    let mut text = Text::new(alloc);
+    text.push(digit(number))?;
     Ok(text)
 }
 
@@ -104,7 +112,7 @@ pub(crate) fn code_text(alloc: Global, code: u16) -> Result<Text, NoMemory>
 /// The digit of a number below ten.
 fn digit(number: u32) -> char
     requires { number < 10 }
-    ensures { result ≡ number + 48 }
+    ensures { result ≡ 48 + number }
 {
     (b'0' + number as u8) as char
 }
