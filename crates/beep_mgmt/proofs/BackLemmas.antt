@@ -32,9 +32,10 @@ one_digit m small = (both (is_digit (48 + m)) true (digit-is m small) refl, omeg
 
 more_digits : (m : ℕ) (ds : List ℕ) → 10 ≤ m → Spells (m / 10) ds → Spells m (ds ++ (48 + m % 10) ∷ [])
 more_digits m ds large is =
-    let last = 48 + m % 10 in
-    (list_all-append is_digit ds (last ∷ []) ∙ both _ _ is.0 (both (is_digit last) true (digit-is (m % 10) (omega arith)) refl),
-        fold_push (λ n c. 10 * n + digit_of c) 0 ds last ∙ omega (arith, is.1, digit-value (m % 10) (omega arith)))
+    let last = 48 + m % 10 in (
+      list_all-append is_digit ds (last ∷ []) ∙ both _ _ is.0 (both (is_digit last) true (digit-is (m % 10) (omega arith)) refl),
+      fold_push (λ n c. 10 * n + digit_of c) 0 ds last ∙ omega (arith, is.1, digit-value (m % 10) (omega arith)),
+    )
 
 pub decimal_spells : (n : ℕ) → n < 2 ^ 64 → Spells n (decimal n)
 decimal_spells n small = decimal_by_steps Spells one_digit more_digits n small

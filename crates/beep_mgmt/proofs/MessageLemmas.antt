@@ -58,7 +58,7 @@ ended body e is = record {
   spaces_after = list_all-append is_space is.after (13 ∷ 10 ∷ []) ∙ both _ _ is.spaces_after refl;
   one = is.one;
   pieces = is.pieces;
-  value = is.value
+  value = is.value;
 }
 
 pub message_says : (form : Form) → IsBody (element_text (element_as form)) (element_as form) → form_said (element_as form) ≡ Some form → Says (message_text form) form
@@ -68,5 +68,5 @@ message_says form is said =
     record {
       element = element_as form;
       body = subst (λ (x : List ℕ). IsBody x (element_as form)) (sym body) (ended text (element_as form) is);
-      form_is = said
+      form_is = said;
     }

@@ -11,7 +11,6 @@ pub mod laws;
 mod limits;
 mod mgmt;
 mod number;
-
 mod profile;
 mod profiles;
 mod read;

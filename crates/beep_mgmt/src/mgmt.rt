@@ -20,11 +20,20 @@ pub enum Mgmt {
         profiles: Profiles,
     },
     /// The profile that a channel was started with.
-    Chosen { profile: Profile },
+    Chosen {
+        profile: Profile,
+    },
     /// A request to close a channel, or the session by the number 0.
-    Close { number: u32, code: u16, note: Text },
+    Close {
+        number: u32,
+        code: u16,
+        note: Text,
+    },
     /// That a request to close is met.
     Okay,
     /// Why a request isn't met.
-    Fault { code: u16, note: Text },
+    Fault {
+        code: u16,
+        note: Text,
+    },
 }

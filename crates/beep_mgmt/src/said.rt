@@ -75,7 +75,12 @@ fn put_part(item: &Item, out: &mut Octets) -> Result<(), NoMemory>
 }
 
 /// The profile of this content, where it is readable and no more than is kept.
-fn profile_with(alloc: Global, uri: Text, encoding: Encoding, text: Octets) -> Result<Profile, NoMemory>
+fn profile_with(
+    alloc: Global,
+    uri: Text,
+    encoding: Encoding,
+    text: Octets,
+) -> Result<Profile, NoMemory>
     ensures { IfOk result (λ p. plain_profile p ≡ profile_with uri encoding (octets_said encoding text.octets)) }
 {
     match octets_said(alloc, encoding, text)? {

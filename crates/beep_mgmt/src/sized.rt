@@ -15,7 +15,9 @@ pub(crate) fn is_sized(m: &Mgmt)
     match m {
         Mgmt::Greeting { profiles, .. } => have_octets(profiles),
         Mgmt::Start {
-            number, profiles, ..
+            number,
+            profiles,
+            ..
         } => {
             is_u32(*number);
             have_octets(profiles);
@@ -29,8 +31,7 @@ pub(crate) fn is_sized(m: &Mgmt)
 
 fn is_u32(number: u32)
     ensures { IsTrue (is_u32 number) }
-{
-}
+{}
 
 fn have_octets(profiles: &Profiles)
     ensures { IsTrue (list_all has_octets (map plain_profile profiles.now)) }
@@ -48,5 +49,4 @@ fn are_octets(content: &Octets)
 
 fn each_is_octet(octets: &[u8])
     ensures { IsTrue (list_all is_octet octets.now) }
-{
-}
+{}

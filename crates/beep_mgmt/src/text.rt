@@ -62,3 +62,6 @@ pub(crate) fn base64_text(alloc: Global, octets: &[u8]) -> Result<Text, NoMemory
     let symbols = STANDARD.encode(alloc, octets)?;
     text_of(alloc, symbols.as_str())
 }
+
+#[cfg(test)]
+mod tests;
