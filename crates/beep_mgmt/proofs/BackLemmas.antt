@@ -1,20 +1,16 @@
-use Rattle.std.proofs.Common.{◌≡◌, ℕ, ◌+◌, ◌-◌, ◌*◌, ◌/◌, ◌%◌, ◌^◌, ◌<◌, ◌≤◌, ◌==◌, Bool, true, false, ◌&&◌, ◌||◌, not, cond, nat_le, nat_lt, List, [], ◌∷◌, ◌++◌, length, fold, get_or, slice_index, Option, Some, None, Ok, chars, encode_utf8_all, refl, sym, ap, subst, ◌∙◌, arith, codes, append_assoc, append-nil, length-append, lt-ltb, ltb-true, ltb-false, ne_eqb, le-leb}
-use Rattle.std.specs.Prelude.{bytes_eq}
-use Rattle.std.specs.List.{list_all, filter}
+use Rattle.std.proofs.Common.{◌≡◌, ℕ, ◌+◌, ◌*◌, ◌/◌, ◌%◌, ◌^◌, ◌<◌, ◌≤◌, ◌==◌, true, false, ◌||◌, not, cond, nat_lt, List, [], ◌∷◌, ◌++◌, length, slice_index, Some, None, refl, ap, ◌∙◌, arith, lt-ltb, ltb-true, ltb-false, ne_eqb, le-leb}
+use Rattle.std.specs.List.{list_all}
 use Rattle.std.specs.Fmt.{decimal}
-use Rattle.std.specs.Str.{is_utf8}
-use Rattle.std.specs.Result.{result_ok}
 use Rattle.std.proofs.lemmas.Fmt.{decimal_by_steps, decimal_digit, first_decimal, length-decimal-le, decimal_nonempty}
-use Rattle.std.proofs.lemmas.Str.{encodes-chars, IsUtf8-from_is_utf8}
 use Rattle.std.proofs.lemmas.List.Folds.{list_all-append}
 use Rattle.std.proofs.lemmas.List.Sums.{fold_push}
 use Rattle.std.proofs.Math.Bool.{or-true}
 use Rattle.std.proofs.lemmas.Bool.Decides.{nat_tests}
 use Rattle.beep_text.specs.Characters.{is_digit, is_allowed}
 use Rattle.beep_text.specs.Elements.{number_of, digit_of}
-use Rattle.beep_mgmt.specs.Said.{is_number, number_said, is_code, code_said}
+use Rattle.beep_mgmt.specs.Said.{is_number, number_said, code_said}
 use Rattle.beep_mgmt.specs.Written.{code_digits}
-use Rattle.beep_mgmt.proofs.BoolLemmas.{both, left_of, right_of, by_test}
+use Rattle.beep_mgmt.proofs.BoolLemmas.{both, left_of, right_of}
 
 -- ---- numbers
 

@@ -1,11 +1,11 @@
-use Rattle.std.proofs.Common.{◌≡◌, ℕ, zero, suc, ◌+◌, ◌*◌, ◌/◌, ◌%◌, ◌<◌, ◌==◌, Bool, true, false, ◌&&◌, not, cond, nat_lt, List, [], ◌∷◌, ◌++◌, length, replicate, slice_index, refl, sym, ap, ◌∙◌, arith, lt-ltb, ltb-true, Result, Ok, encode_utf8_all}
+use Rattle.std.proofs.Common.{◌≡◌, ℕ, zero, suc, ◌+◌, ◌*◌, ◌/◌, ◌%◌, ◌<◌, Bool, true, ◌&&◌, not, nat_lt, List, [], ◌∷◌, ◌++◌, length, replicate, slice_index, refl, ap, ◌∙◌, arith, lt-ltb, ltb-true, Ok, encode_utf8_all}
 use Rattle.std.specs.List.{list_all, filter}
 use Rattle.std.proofs.lemmas.List.Folds.{list_all-append}
 use Rattle.std.proofs.lemmas.Str.{encode_ascii}
 use Rattle.std.proofs.lemmas.Bool.Decides.{nat_tests}
 use Rattle.base64.specs.GeneralPurpose.{encode_of, decode_of, IsBytes, IsConsistent}
 use Rattle.base64.specs.Engines.{standard}
-use Rattle.base64.specs.Rfc4648.{encode_symbols, encode_group, encode, padding_len}
+use Rattle.base64.specs.Rfc4648.{encode_symbols, encode_group, padding_len}
 use Rattle.base64.proofs.EngineFacts.{decode_of-encode_of}
 use Rattle.beep_text.specs.Characters.{is_space, is_allowed}
 use Rattle.beep_mgmt.specs.Sized.{is_octet}

@@ -1,24 +1,22 @@
-use Rattle.std.proofs.Common.{◌≡◌, ℕ, ◌<◌, ◌≤◌, ◌==◌, ◌^◌, Bool, true, false, ◌&&◌, not, cond, nat_le, nat_lt, List, [], ◌∷◌, ◌++◌, length, fold, Option, Some, None, Ok, chars, encode_utf8_all, refl, sym, ap, ap₂, ◌∙◌, arith, codes, append_assoc, append-nil, ltb-true}
-use Rattle.std.specs.Prelude.{bytes_eq}
+use Rattle.std.proofs.Common.{◌≡◌, ℕ, ◌<◌, ◌≤◌, ◌^◌, Bool, true, false, ◌&&◌, not, cond, nat_le, List, [], ◌∷◌, ◌++◌, length, fold, Option, Some, None, chars, encode_utf8_all, refl, sym, ap, ap₂, ◌∙◌, arith, codes, append_assoc, append-nil, ltb-true}
 use Rattle.std.specs.List.{list_all, filter}
 use Rattle.std.specs.Fmt.{decimal}
-use Rattle.std.specs.Str.{is_utf8, IsAscii}
+use Rattle.std.specs.Str.{is_utf8}
 use Rattle.std.specs.Result.{result_ok}
-use Rattle.std.proofs.lemmas.Str.{encodes-chars, IsUtf8-from_is_utf8, chars-IsAscii}
+use Rattle.std.proofs.lemmas.Str.{encodes-chars, IsUtf8-from_is_utf8}
 use Rattle.std.proofs.lemmas.Bool.Decides.{nat_tests}
 use Rattle.base64.specs.GeneralPurpose.{encode_of, decode_of}
 use Rattle.base64.specs.Engines.{standard}
-use Rattle.beep_text.specs.declared.attr.Attr.{Attr}
-use Rattle.beep_text.specs.Characters.{is_allowed, is_space}
-use Rattle.beep_text.specs.Tree.{Tree, Items, nothing, with_chars, with_child}
+use Rattle.beep_text.specs.Characters.{is_space}
+use Rattle.beep_text.specs.Tree.{Tree, Items, nothing}
 use Rattle.beep_text.specs.Lawful.{value_named}
 use Rattle.beep_mgmt.specs.declared.profile.Encoding.{Encoding}
 use Rattle.beep_mgmt.specs.declared.limits.TheConstants.{MAX_CODE, MAX_CONTENT}
 use Rattle.beep_mgmt.specs.Form.{PlainProfile, Form, greeting, start, chosen, close, okay, fault}
-use Rattle.beep_mgmt.specs.Said.{number_said, number_or_zero, code_said, content_text, octets_said, profile_with, profile_of, profile_said, with_profile, profiles_said, note_said, is_blank, greeting_with, start_with, chosen_with, close_with, fault_with, form_said}
-use Rattle.beep_mgmt.specs.Written.{setting, optional, code_digits, run, element, is_text, encoding_as, profile_as, with_element, profiles_as, element_as, is_writable, same_encoding, comes_back_profile, comes_back, has_profile}
+use Rattle.beep_mgmt.specs.Said.{code_said, content_text, profile_with, profile_said, with_profile, profiles_said, note_said, greeting_with, start_with, chosen_with, close_with, fault_with, form_said}
+use Rattle.beep_mgmt.specs.Written.{setting, optional, code_digits, run, element, is_text, profile_as, with_element, profiles_as, element_as, is_writable, same_encoding, comes_back_profile, comes_back, has_profile}
 use Rattle.beep_mgmt.specs.Sized.{is_octet, has_octets, is_u32, is_sized}
-use Rattle.beep_mgmt.proofs.BoolLemmas.{both, left_of, right_of, by_test}
+use Rattle.beep_mgmt.proofs.BoolLemmas.{left_of, right_of}
 use Rattle.beep_mgmt.proofs.BackLemmas.{number_back, code_back}
 use Rattle.beep_mgmt.proofs.Base64Lemmas.{encoded-symbols, symbols-filtered, symbols-encoded, decoded-encoded, octets_are}
 

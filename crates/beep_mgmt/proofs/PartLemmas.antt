@@ -1,13 +1,12 @@
-use Rattle.std.proofs.Common.{◌≡◌, ℕ, ◌+◌, ◌<◌, ◌==◌, Bool, true, false, ◌&&◌, cond, List, [], ◌∷◌, ◌++◌, length, take, drop, fold, get_or, Option, Some, None, refl, sym, ap, ◌∙◌, append_assoc, append-nil, arith, chars, encode_utf8_all}
+use Rattle.std.proofs.Common.{◌≡◌, ℕ, ◌+◌, ◌<◌, false, ◌&&◌, List, [], ◌∷◌, ◌++◌, length, take, drop, fold, get_or, None, refl, sym, ap, ◌∙◌, append_assoc, arith}
 use Rattle.std.specs.List.{list_all}
-use Rattle.std.proofs.lemmas.List.{take-append-drop, take_all}
-use Rattle.std.proofs.lemmas.List.Sums.{fold_more, fold_push}
+use Rattle.std.proofs.lemmas.List.{take-append-drop}
+use Rattle.std.proofs.lemmas.List.Sums.{fold_more}
 use Rattle.beep_text.specs.declared.element.Item.{Item}
 use Rattle.beep_text.specs.Characters.{is_space}
-use Rattle.beep_text.specs.Tree.{Items, nothing, with_chars, with_child}
+use Rattle.beep_text.specs.Tree.{Items, nothing}
 use Rattle.beep_text.specs.Listed.{with_item, items_listed}
-use Rattle.beep_mgmt.specs.Form.{PlainProfile}
-use Rattle.beep_mgmt.specs.Said.{content_text, profiles_said, profile_said, with_profile, note_said, is_blank}
+use Rattle.beep_mgmt.specs.Said.{content_text, profiles_said, note_said, is_blank}
 use Rattle.beep_mgmt.specs.Parts.{part_text, with_part, is_blank_part}
 use Rattle.beep_mgmt.proofs.BoolLemmas.{and-false, same_either}
 

@@ -1,4 +1,4 @@
-use Rattle.std.proofs.Common.{◌≡◌, ℕ, zero, suc, ◌<◌, true, ◌&&◌, List, [], ◌∷◌, length, map, get_or, arith}
+use Rattle.std.proofs.Common.{◌≡◌, ℕ, zero, suc, ◌<◌, true, List, [], ◌∷◌, length, map, get_or, arith}
 use Rattle.std.specs.List.{list_all}
 use Rattle.beep_text.specs.Characters.{is_allowed}
 use Rattle.beep_mgmt.specs.declared.profile.Profile.{Profile}

@@ -1,4 +1,4 @@
-use Rattle.std.proofs.Common.{◌≡◌, ℕ, ◌+◌, ◌*◌, ◌<◌, ◌≤◌, ◌==◌, Bool, true, false, ◌&&◌, not, cond, nat_le, List, [], ◌∷◌, ◌++◌, length, Option, Some, None, refl, sym, ap, ◌∙◌, arith, codes}
+use Rattle.std.proofs.Common.{◌≡◌, ℕ, ◌+◌, ◌*◌, ◌≤◌, ◌==◌, true, ◌&&◌, nat_le, List, [], ◌∷◌, length, Option, Some, None, refl, ◌∙◌, arith, codes}
 use Rattle.std.specs.Prelude.{bytes_eq}
 use Rattle.std.specs.List.{list_all}
 use Rattle.std.proofs.lemmas.List.Folds.{list_all-append}
@@ -6,12 +6,12 @@ use Rattle.std.proofs.lemmas.Bool.Decides.{nat_tests}
 use Rattle.beep_text.specs.declared.attr.Attr.{Attr}
 use Rattle.beep_text.specs.Characters.{is_allowed, is_digit, is_name, is_space}
 use Rattle.beep_text.specs.Tree.{Tree, Items, nothing, with_chars, with_child}
-use Rattle.beep_text.specs.Lawful.{are_attrs, are_items, has_name, value_named, ends_in_chars, IsElement}
+use Rattle.beep_text.specs.Lawful.{are_attrs, are_items, value_named, IsElement}
 use Rattle.beep_text.specs.Canonical.{is_nothing}
 use Rattle.beep_text.specs.Elements.{number_of, digit_of}
 use Rattle.beep_mgmt.specs.declared.profile.Encoding.{Encoding}
 use Rattle.beep_mgmt.specs.declared.limits.TheConstants.{MAX_CODE, MAX_CONTENT}
-use Rattle.beep_mgmt.specs.Form.{PlainProfile, Form, okay}
+use Rattle.beep_mgmt.specs.Form.{PlainProfile, Form}
 use Rattle.beep_mgmt.specs.Said.{is_code, code_said, number_said, number_or_zero, encoding_said, content_text, octets_said, profile_with, profile_of, profile_said, with_profile, profiles_said, note_said, is_blank, greeting_with, start_with, chosen_with, close_with, fault_with, form_said}
 use Rattle.beep_mgmt.specs.Written.{is_allowed_option, is_uri_allowed, is_writable}
 use Rattle.beep_mgmt.proofs.BoolLemmas.{both, left_of, right_of, by_test}
@@ -129,13 +129,13 @@ chosen_writable None is = tt
 chosen_writable (Some p) is = is
 
 close_writable : (number code : Option ℕ) (note : Option (List ℕ)) → SmallCode code → is_allowed_option note ≡ true → Writable (close_with number code note)
-close_writable None code note small is = tt
-close_writable (Some number) None note small is = tt
+close_writable None code _ small is = tt
+close_writable (Some number) None _ small is = tt
 close_writable (Some number) (Some code) None small is = tt
 close_writable (Some number) (Some code) (Some note) small is = both _ _ small is
 
 fault_writable : (code : Option ℕ) (note : Option (List ℕ)) → SmallCode code → is_allowed_option note ≡ true → Writable (fault_with code note)
-fault_writable None note small is = tt
+fault_writable None _ small is = tt
 fault_writable (Some code) None small is = tt
 fault_writable (Some code) (Some note) small is = both _ _ small is
 

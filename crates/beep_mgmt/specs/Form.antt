@@ -1,6 +1,6 @@
 -- The values of the elements of channel zero (RFC 3080, section 2.3.1), apart from how they lie in memory.
 -- The code keeps texts, octets and lists with the room behind them; here they are plain lists.
-use Rattle.std.specs.Prelude.{ℕ, Bool, Option, Some, None, List, map}
+use Rattle.std.specs.Prelude.{ℕ, Bool, Option, List, map}
 use Rattle.beep_mgmt.specs.declared.profile.Encoding.{Encoding}
 use Rattle.beep_mgmt.specs.declared.profile.Profile.{Profile}
 use Rattle.beep_mgmt.specs.declared.mgmt.Mgmt.{Mgmt}

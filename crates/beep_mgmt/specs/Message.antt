@@ -1,6 +1,6 @@
 -- What a message of channel zero says, why another says nothing, and the one message that is written of a value (RFC 3080, section 2.3.1).
 -- The code splits the payload and reads an element; here the payload says a value or it doesn't.
-use Rattle.std.specs.Prelude.{◌≡◌, ℕ, ◌<◌, Option, Some, None, List, [], ◌∷◌, ◌++◌, length, drop, codes}
+use Rattle.std.specs.Prelude.{◌≡◌, ℕ, ◌<◌, Some, None, List, [], ◌∷◌, ◌++◌, length, drop, codes}
 use Rattle.beep_text.specs.Tree.{Tree}
 use Rattle.beep_text.specs.Elements.{IsBody}
 use Rattle.beep_text.specs.Split.{body_start}

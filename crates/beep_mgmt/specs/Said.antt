@@ -11,7 +11,6 @@ use Rattle.beep_text.specs.Tree.{Tree, Items, nothing, with_chars, with_child}
 use Rattle.beep_text.specs.Elements.{number_of}
 use Rattle.beep_text.specs.Lawful.{value_named}
 use Rattle.beep_text.specs.Canonical.{element_text, is_nothing}
-use Rattle.beep_text.specs.declared.attr.Attr.{Attr}
 use Rattle.beep_mgmt.specs.declared.profile.Encoding.{Encoding}
 use Rattle.beep_mgmt.specs.declared.limits.TheConstants.{MAX_CONTENT}
 use Rattle.beep_mgmt.specs.Form.{PlainProfile, Form, greeting, start, chosen, close, okay, fault}
@@ -128,13 +127,13 @@ chosen_with None = None
 chosen_with (Some profile) = Some (chosen profile)
 
 abbrev pub close_with : Option ℕ → Option ℕ → Option (List ℕ) → Option Form
-close_with None code note = None
-close_with (Some number) None note = None
+close_with None _ _ = None
+close_with (Some number) None _ = None
 close_with (Some number) (Some code) None = None
 close_with (Some number) (Some code) (Some note) = Some (close number code note)
 
 abbrev pub fault_with : Option ℕ → Option (List ℕ) → Option Form
-fault_with None note = None
+fault_with None _ = None
 fault_with (Some code) None = None
 fault_with (Some code) (Some note) = Some (fault code note)
 

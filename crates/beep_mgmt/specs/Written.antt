@@ -1,7 +1,7 @@
 -- The one element that is written of a value (RFC 3080, section 2.3.1), and which values can be written.
 -- The code builds an element part by part; here the element is one value.
 -- Choice: a profile is written by its URI and its octets alone, in Base64 only where they are no text (docs/DECISIONS.md, "Written profiles").
-use Rattle.std.specs.Prelude.{ℕ, ◌+◌, ◌/◌, ◌%◌, ◌^◌, Bool, true, false, ◌&&◌, ◌||◌, nat_le, nat_lt, ◌==◌, Option, Some, None, List, [], ◌∷◌, ◌++◌, length, fold, codes, chars, if◌then◌else◌}
+use Rattle.std.specs.Prelude.{ℕ, ◌+◌, ◌/◌, ◌%◌, Bool, true, false, ◌&&◌, nat_le, Option, Some, None, List, [], ◌∷◌, ◌++◌, length, fold, codes, chars, if◌then◌else◌}
 use Rattle.std.specs.List.{list_all}
 use Rattle.std.specs.Str.{is_utf8}
 use Rattle.std.specs.Fmt.{decimal}

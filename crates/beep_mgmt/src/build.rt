@@ -51,7 +51,9 @@ fn greeting_as(
     requires features { IsTrue (is_allowed_option features.now) }
     requires localize { IsTrue (is_allowed_option localize.now) }
     requires profiles { IsTrue (list_all is_uri_allowed (map plain_profile profiles.now)) }
-    ensures { IfOk result (λ e. e ≡ element (codes "greeting") (optional (codes "features") features.now ++ optional (codes "localize") localize.now) (profiles_as (map plain_profile profiles.now))) }
+    ensures { IfOk result (λ e. e ≡ element (codes "greeting")
+        (optional (codes "features") features.now ++ optional (codes "localize") localize.now)
+        (profiles_as (map plain_profile profiles.now))) }
 {
     let mut e = named(alloc, "greeting")?;
     set_optional(&mut e, "features", features)?;
@@ -68,7 +70,9 @@ fn start_as(
 ) -> Result<Element, NoMemory>
     requires server { IsTrue (is_allowed_option server.now) }
     requires profiles { IsTrue (list_all is_uri_allowed (map plain_profile profiles.now)) }
-    ensures { IfOk result (λ e. e ≡ element (codes "start") (setting (codes "number") (decimal number) ∷ optional (codes "serverName") server.now) (profiles_as (map plain_profile profiles.now))) }
+    ensures { IfOk result (λ e. e ≡ element (codes "start")
+        (setting (codes "number") (decimal number) ∷ optional (codes "serverName") server.now)
+        (profiles_as (map plain_profile profiles.now))) }
 {
     let mut e = named(alloc, "start")?;
     set(&mut e, "number", decimal_text(alloc, number)?)?;
@@ -80,7 +84,9 @@ fn start_as(
 fn close_as(alloc: Global, number: u32, code: u16, note: &Text) -> Result<Element, NoMemory>
     requires code { code ≤ MAX_CODE }
     requires note { IsTrue (list_all is_allowed note.now) }
-    ensures { IfOk result (λ e. e ≡ element (codes "close") (setting (codes "number") (decimal number) ∷ setting (codes "code") (code_digits code) ∷ []) (run note.now)) }
+    ensures { IfOk result (λ e. e ≡ element (codes "close")
+        (setting (codes "number") (decimal number) ∷ setting (codes "code") (code_digits code) ∷ [])
+        (run note.now)) }
 {
     let mut e = named(alloc, "close")?;
     set(&mut e, "number", decimal_text(alloc, number)?)?;
@@ -92,7 +98,8 @@ fn close_as(alloc: Global, number: u32, code: u16, note: &Text) -> Result<Elemen
 fn fault_as(alloc: Global, code: u16, note: &Text) -> Result<Element, NoMemory>
     requires code { code ≤ MAX_CODE }
     requires note { IsTrue (list_all is_allowed note.now) }
-    ensures { IfOk result (λ e. e ≡ element (codes "error") (setting (codes "code") (code_digits code) ∷ []) (run note.now)) }
+    ensures { IfOk result (λ e. e ≡ element (codes "error")
+        (setting (codes "code") (code_digits code) ∷ []) (run note.now)) }
 {
     let mut e = named(alloc, "error")?;
     set(&mut e, "code", code_text(alloc, code)?)?;
@@ -104,7 +111,8 @@ fn fault_as(alloc: Global, code: u16, note: &Text) -> Result<Element, NoMemory>
 fn push_profiles(alloc: Global, e: &mut Element, profiles: &Profiles) -> Result<(), NoMemory>
     requires empty { e.old.items ≡ nothing }
     requires allowed { IsTrue (list_all is_uri_allowed (map plain_profile profiles.now)) }
-    ensures { OnOk result (e.new ≡ record e.old { items = profiles_as (map plain_profile profiles.now) }) }
+    ensures { OnOk result (e.new ≡ record e.old
+        { items = profiles_as (map plain_profile profiles.now) }) }
 {
     for profile in profiles.as_slice() {
         push_profile(alloc, e, profile)?;
@@ -114,7 +122,8 @@ fn push_profiles(alloc: Global, e: &mut Element, profiles: &Profiles) -> Result<
 
 fn push_profile(alloc: Global, e: &mut Element, profile: &Profile) -> Result<(), NoMemory>
     requires allowed { IsTrue (list_all is_allowed profile.now.uri) }
-    ensures { OnOk result (e.new ≡ record e.old { items = with_element e.old.items (profile_as profile.now.uri profile.now.content.octets) }) }
+    ensures { OnOk result (e.new ≡ record e.old
+        { items = with_element e.old.items (profile_as profile.now.uri profile.now.content.octets) }) }
 {
     let child = profile_as(alloc, profile)?;
     e.push_item(Item::Child(child))
@@ -151,7 +160,8 @@ fn set(e: &mut Element, name: &str, value: Text) -> Result<(), NoMemory>
     requires named { IsTrue (is_name name.now) }
     requires new { has_name name.now e.old.attrs ≡ false }
     requires allowed { IsTrue (list_all is_allowed value) }
-    ensures { OnOk result (e.new ≡ record e.old { attrs = e.old.attrs ++ setting name.now value ∷ [] }) }
+    ensures { OnOk result (e.new ≡ record e.old
+        { attrs = e.old.attrs ++ setting name.now value ∷ [] }) }
 {
     e.push_attr(word_text(e.alloc(), name)?, value)
 }
@@ -161,7 +171,8 @@ fn set_optional(e: &mut Element, name: &str, value: &Option<Text>) -> Result<(),
     requires named { IsTrue (is_name name.now) }
     requires new { has_name name.now e.old.attrs ≡ false }
     requires allowed { IsTrue (is_allowed_option value.now) }
-    ensures { OnOk result (e.new ≡ record e.old { attrs = e.old.attrs ++ optional name.now value.now }) }
+    ensures { OnOk result (e.new ≡ record e.old
+        { attrs = e.old.attrs ++ optional name.now value.now }) }
 {
     match value {
         Some(value) => set(e, name, value.copy()?),

@@ -43,7 +43,10 @@ pub(crate) fn form_said(alloc: Global, element: &Element) -> Result<Option<Mgmt>
 }
 
 fn greeting_said(alloc: Global, element: &Element) -> Result<Option<Mgmt>, NoMemory>
-    ensures { IfOk result (λ m. option_map form_of m ≡ greeting_with (value_named (codes "features") element.now.attrs) (value_named (codes "localize") element.now.attrs) (profiles_said element.now.items)) }
+    ensures { IfOk result (λ m. option_map form_of m ≡ greeting_with
+        (value_named (codes "features") element.now.attrs)
+        (value_named (codes "localize") element.now.attrs)
+        (profiles_said element.now.items)) }
 {
     let Some(profiles) = profiles_said(alloc, element.items())? else {
         return Ok(None);
@@ -58,7 +61,10 @@ fn greeting_said(alloc: Global, element: &Element) -> Result<Option<Mgmt>, NoMem
 }
 
 fn start_said(alloc: Global, element: &Element) -> Result<Option<Mgmt>, NoMemory>
-    ensures { IfOk result (λ m. option_map form_of m ≡ start_with (number_said (value_named (codes "number") element.now.attrs)) (value_named (codes "serverName") element.now.attrs) (profiles_said element.now.items)) }
+    ensures { IfOk result (λ m. option_map form_of m ≡ start_with
+        (number_said (value_named (codes "number") element.now.attrs))
+        (value_named (codes "serverName") element.now.attrs)
+        (profiles_said element.now.items)) }
 {
     let Some(number) = number_said(value_of(element, "number")) else {
         return Ok(None);
@@ -87,7 +93,10 @@ fn chosen_said(alloc: Global, element: &Element) -> Result<Option<Mgmt>, NoMemor
 }
 
 fn close_said(alloc: Global, element: &Element) -> Result<Option<Mgmt>, NoMemory>
-    ensures { IfOk result (λ m. option_map form_of m ≡ close_with (number_or_zero (value_named (codes "number") element.now.attrs)) (code_said (value_named (codes "code") element.now.attrs)) (note_said element.now.items)) }
+    ensures { IfOk result (λ m. option_map form_of m ≡ close_with
+        (number_or_zero (value_named (codes "number") element.now.attrs))
+        (code_said (value_named (codes "code") element.now.attrs))
+        (note_said element.now.items)) }
 {
     let Some(number) = number_or_zero(value_of(element, "number")) else {
         return Ok(None);
@@ -102,7 +111,8 @@ fn close_said(alloc: Global, element: &Element) -> Result<Option<Mgmt>, NoMemory
 }
 
 fn okay_said(element: &Element) -> Option<Mgmt>
-    ensures { option_map form_of result ≡ (if is_blank element.now.items then Some okay else None) }
+    ensures { option_map form_of result
+        ≡ (if is_blank element.now.items then Some okay else None) }
 {
     if are_blank(element.items()) {
         Some(Mgmt::Okay)
@@ -112,7 +122,9 @@ fn okay_said(element: &Element) -> Option<Mgmt>
 }
 
 fn fault_said(alloc: Global, element: &Element) -> Result<Option<Mgmt>, NoMemory>
-    ensures { IfOk result (λ m. option_map form_of m ≡ fault_with (code_said (value_named (codes "code") element.now.attrs)) (note_said element.now.items)) }
+    ensures { IfOk result (λ m. option_map form_of m ≡ fault_with
+        (code_said (value_named (codes "code") element.now.attrs))
+        (note_said element.now.items)) }
 {
     let Some(code) = code_said(value_of(element, "code")) else {
         return Ok(None);
@@ -135,7 +147,8 @@ fn copied(text: Option<&Text>) -> Result<Option<Text>, NoMemory>
 
 /// The profiles that stand among white space, where there is nothing else.
 fn profiles_said(alloc: Global, items: &[Item]) -> Result<Option<Profiles>, NoMemory>
-    ensures { IfOk result (λ ps. option_map (map plain_profile) ps ≡ profiles_said (items_listed items.now)) }
+    ensures { IfOk result (λ ps. option_map (map plain_profile) ps
+        ≡ profiles_said (items_listed items.now)) }
 {
     let mut profiles = Profiles::new(alloc);
     for item in items {
@@ -148,7 +161,8 @@ fn profiles_said(alloc: Global, items: &[Item]) -> Result<Option<Profiles>, NoMe
 
 /// Appends the profile that a part says; false where it is neither a profile nor white space.
 fn put_profile(alloc: Global, item: &Item, profiles: &mut Profiles) -> Result<bool, NoMemory>
-    ensures { IfOk result (λ goes_on. (if goes_on then Some (map plain_profile profiles.new) else None) ≡ with_part (Some (map plain_profile profiles.old)) item.now) }
+    ensures { IfOk result (λ goes_on. (if goes_on then Some (map plain_profile profiles.new) else None)
+        ≡ with_part (Some (map plain_profile profiles.old)) item.now) }
 {
     match item {
         Item::Chars(text) => Ok(is_blank(text)),

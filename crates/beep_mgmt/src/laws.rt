@@ -1,4 +1,5 @@
-//! Laws above the definitions of specs/. The functions only call other laws: what they ensure is the law.
+//! Laws above the definitions of specs/. The functions only call laws of `beep_text`: what they
+//! ensure is the law.
 ghost use Rattle.std.specs.Prelude.{◌≡◌, ◌≤◌, ℕ, List, length};
 ghost use Rattle.beep_text.specs.declared.limits.TheConstants.{MAX_TEXT};
 ghost use Rattle.beep_mgmt.specs.declared.read.MgmtError.{MgmtError};
@@ -16,8 +17,8 @@ pub fn a_message_says_one_value()
 
 /// A message that says a value and isn't too long is read, want of memory apart.
 pub fn a_message_that_says_a_value_is_read()
-    ensures { (payload : List ℕ) (form : Form) (error : MgmtError) → Says payload form → length payload ≤ MAX_TEXT
-        → RefusesMessage payload error → error ≡ MgmtError.NoMemory }
+    ensures { (payload : List ℕ) (form : Form) (error : MgmtError)
+        → Says payload form → length payload ≤ MAX_TEXT → RefusesMessage payload error → error ≡ MgmtError.NoMemory }
 {
     a_body_says_one_element();
     a_body_stops_nowhere();

@@ -51,7 +51,8 @@ pub(crate) fn code_said(text: Option<&Text>) -> Option<u16>
 
 /// The number that at most ten digits spell, where there is nothing else.
 fn digits_said(text: &Text) -> Option<u64>
-    ensures value { result ≡ (if nat_le (length text.now) 10 && list_all is_digit text.now then Some (number_of 10 text.now) else None) }
+    ensures value { result ≡ (if nat_le (length text.now) 10 && list_all is_digit text.now
+        then Some (number_of 10 text.now) else None) }
     ensures within { IfSome result (λ n. n < 10 ^ length text.now) }
 {
     let len = text.len();
@@ -68,7 +69,8 @@ fn digits_said(text: &Text) -> Option<u64>
 /// What the character at `i` stands for, where it is a digit.
 fn digit_at(text: &Text, i: usize) -> Option<u64>
     requires { i < length text.now }
-    ensures { result ≡ (if is_digit (slice_index text.now i) then Some (slice_index text.now i - 48) else None) }
+    ensures { result ≡ (if is_digit (slice_index text.now i)
+        then Some (slice_index text.now i - 48) else None) }
 {
     match text.get(i) {
         Some(c) if '0' <= c && c <= '9' => Some(c as u64 - 48),

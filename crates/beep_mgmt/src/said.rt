@@ -57,7 +57,8 @@ fn encoding_said(name: Option<&Text>) -> Encoding
 
 /// Appends the content as it is written.
 fn put_content(items: &[Item], out: &mut Octets) -> Result<(), NoMemory>
-    ensures { OnOk result (out.new.octets ≡ out.old.octets ++ content_text (items_listed items.now)) }
+    ensures { OnOk result (out.new.octets
+        ≡ out.old.octets ++ content_text (items_listed items.now)) }
 {
     for item in items {
         put_part(item, out)?;
@@ -81,7 +82,8 @@ fn profile_with(
     encoding: Encoding,
     text: Octets,
 ) -> Result<Profile, NoMemory>
-    ensures { IfOk result (λ p. plain_profile p ≡ profile_with uri encoding (octets_said encoding text.octets)) }
+    ensures { IfOk result (λ p. plain_profile p
+        ≡ profile_with uri encoding (octets_said encoding text.octets)) }
 {
     match octets_said(alloc, encoding, text)? {
         Some(content) if content.len() <= MAX_CONTENT => Ok(Profile {

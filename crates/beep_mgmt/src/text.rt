@@ -24,7 +24,8 @@ pub(crate) fn text_of(alloc: Global, characters: &str) -> Result<Text, NoMemory>
 
 /// The octets as characters, where an element may hold them.
 pub(crate) fn text_in(alloc: Global, octets: &[u8]) -> Result<Option<Text>, NoMemory>
-    ensures { IfOk result (λ text. text ≡ (if is_text octets.now then Some (chars octets.now) else None)) }
+    ensures { IfOk result (λ text. text
+        ≡ (if is_text octets.now then Some (chars octets.now) else None)) }
 {
     let Ok(characters) = std::str::from_utf8(octets) else {
         return Ok(None);

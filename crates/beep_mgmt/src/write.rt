@@ -16,8 +16,10 @@ use beep_text::write_element;
 /// Appends the canonical message of a value: its MIME header, its element, and CR LF.
 pub fn write_mgmt(m: &Mgmt, out: &mut Octets) -> Result<(), NoMemory>
     requires writable { IsTrue (is_writable (form_of m.now)) }
-    ensures appended { OnOk result (out.new.octets ≡ out.old.octets ++ message_text (form_of m.now)) }
-    ensures back { OnOk result (IsTrue (comes_back (form_of m.now)) → Says (message_text (form_of m.now)) (form_of m.now)) }
+    ensures appended { OnOk result (out.new.octets
+        ≡ out.old.octets ++ message_text (form_of m.now)) }
+    ensures back { OnOk result (IsTrue (comes_back (form_of m.now))
+        → Says (message_text (form_of m.now)) (form_of m.now)) }
     ensures err { OnErr result (out.new.octets ≡ out.old.octets) }
     ensures room { out.old.spare ≤ out.new.spare + length (message_text (form_of m.now)) }
 {
@@ -31,11 +33,15 @@ pub fn write_mgmt(m: &Mgmt, out: &mut Octets) -> Result<(), NoMemory>
 /// Appends the canonical element of a value alone.
 pub fn write_mgmt_element(m: &Mgmt, out: &mut Octets) -> Result<(), NoMemory>
     requires writable { IsTrue (is_writable (form_of m.now)) }
-    ensures appended { OnOk result (out.new.octets ≡ out.old.octets ++ element_text (element_as (form_of m.now))) }
-    ensures back { IsTrue (comes_back (form_of m.now)) → form_said (element_as (form_of m.now)) ≡ Some (form_of m.now) }
-    ensures body { OnOk result (IsBody (element_text (element_as (form_of m.now))) (element_as (form_of m.now))) }
+    ensures appended { OnOk result (out.new.octets
+        ≡ out.old.octets ++ element_text (element_as (form_of m.now))) }
+    ensures back { IsTrue (comes_back (form_of m.now))
+        → form_said (element_as (form_of m.now)) ≡ Some (form_of m.now) }
+    ensures body { OnOk result (IsBody
+        (element_text (element_as (form_of m.now))) (element_as (form_of m.now))) }
     ensures err { OnErr result (out.new.octets ≡ out.old.octets) }
-    ensures room { out.old.spare ≤ out.new.spare + length (element_text (element_as (form_of m.now))) }
+    ensures room { out.old.spare
+        ≤ out.new.spare + length (element_text (element_as (form_of m.now))) }
 {
     is_sized(m);
     let element = element_as(out.alloc(), m)?;

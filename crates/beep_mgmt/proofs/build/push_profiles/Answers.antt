@@ -1,4 +1,4 @@
-use Rattle.std.proofs.Common.{◌∙◌, sym, ap, arith, true, map, List}
+use Rattle.std.proofs.Common.{◌∙◌, ap, arith, map, List}
 use Rattle.std.specs.List.{list_all}
 use Rattle.beep_text.specs.Characters.{is_allowed}
 use Rattle.beep_mgmt.specs.declared.profile.Profile.{Profile}

@@ -1,6 +1,5 @@
-use Rattle.std.proofs.Common.{◌∙◌, ap, ◌++◌, sym, encode_utf8_all, rules}
+use Rattle.std.proofs.Common.{◌∙◌, ap, sym, encode_utf8_all, rules}
 use Rattle.std.proofs.lemmas.Str.{encodes-chars}
-use Rattle.beep_mgmt.specs.Parts.{part_text}
 use Rattle.beep_mgmt.proofs.said.put_part.Goals as goal
 
 pub returns-in-Chars : goal.returns-in-Chars

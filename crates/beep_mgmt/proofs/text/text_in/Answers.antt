@@ -1,4 +1,4 @@
-use Rattle.std.proofs.Common.{◌≡◌, ℕ, true, List, sym, ap, ◌∙◌, chars, Some}
+use Rattle.std.proofs.Common.{true, ap, ◌∙◌, chars, Some}
 use Rattle.std.specs.List.{list_all}
 use Rattle.beep_text.specs.Characters.{is_allowed}
 use Rattle.beep_mgmt.proofs.TextLemmas.{no_text, text_kept}
