@@ -53,7 +53,7 @@ impl Model for Element {
 impl Element {
     ghost use Rattle.beep_text.specs.Characters.{is_name, is_allowed};
     ghost use Rattle.beep_text.specs.Tree.{nothing};
-    ghost use Rattle.beep_text.specs.Listed.{with_item, listed};
+    ghost use Rattle.beep_text.specs.Listed.{with_item, listed, items_listed};
     ghost use Rattle.beep_text.specs.Lawful.{IsElement, IsNext, has_name, value_named};
 
     /// An element of this name that holds nothing. It takes no memory.
@@ -69,7 +69,7 @@ impl Element {
     }
 
     /// Where its memory comes from.
-    pub(crate) fn alloc(&self) -> Global {
+    pub fn alloc(&self) -> Global {
         *self.attrs.allocator()
     }
 
@@ -99,6 +99,13 @@ impl Element {
     {
         let attr = self.attrs.get(i)?;
         Some((&attr.name, &attr.value))
+    }
+
+    /// The parts, in their order.
+    pub fn items(&self) -> &[Item]
+        ensures { items_listed result.now ≡ self.now.items }
+    {
+        &self.items
     }
 
     /// The part at `i`.

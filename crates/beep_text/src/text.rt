@@ -66,7 +66,7 @@ impl Text {
     }
 
     /// Whether the characters are those of `other`.
-    pub(crate) fn is(&self, other: &str) -> bool
+    pub fn is(&self, other: &str) -> bool
         ensures { result ≡ bytes_eq self.now (chars other.now) }
     {
         self.text.as_str() == other
@@ -80,7 +80,7 @@ impl Text {
     }
 
     /// The same characters again.
-    pub(crate) fn copy(&self) -> Result<Text, NoMemory>
+    pub fn copy(&self) -> Result<Text, NoMemory>
         ensures { IfOk result (λ text. text ≡ self.now) }
     {
         Ok(Text {

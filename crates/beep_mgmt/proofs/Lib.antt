@@ -1,0 +1,11 @@
+mod BackLemmas
+mod Base64Lemmas
+mod BoolLemmas
+mod FormLemmas
+mod MessageLemmas
+mod NumberLemmas
+mod PartLemmas
+mod ProfileLemmas
+mod TextLemmas
+mod WordLemmas
+mod WritableLemmas

@@ -1,0 +1,6 @@
+use Rattle.std.proofs.Common.{rules}
+use Rattle.std.proofs.lemmas.Fmt.{decimal_digit}
+use Rattle.beep_mgmt.proofs.number.digit_text.Goals as goal
+
+pub returns : goal.returns
+returns c = let digit = decimal_digit c.args.number c.requires in search rules

@@ -1,0 +1,70 @@
+//! Reading a message of channel zero (RFC 3080, section 2.3.1).
+ghost use Rattle.std.specs.Prelude.{◌≡◌, ◌<◌, length, drop, IfOk, IfErr, IsTrue, Err};
+ghost use Rattle.beep_text.specs.declared.limits.TheConstants.{MAX_TEXT};
+ghost use Rattle.beep_mgmt.specs.Form.{form_of};
+ghost use Rattle.beep_mgmt.specs.Message.{Says, RefusesMessage};
+ghost use Rattle.beep_mgmt.specs.Parts.{error_of};
+ghost use Rattle.beep_mgmt.specs.Written.{is_writable};
+
+use crate::form::form_said;
+use crate::mgmt::Mgmt;
+use beep_text::{MAX_TEXT, TextError, read_element, split_entity};
+use std::alloc::Global;
+use thiserror::Error;
+
+/// Why a payload isn't read. The places count octets of the body from 0.
+#[derive(Clone, Copy, Debug, PartialEq, Eq, Error)]
+pub enum MgmtError {
+    /// No octets can follow those before this place, or the body ends too soon.
+    #[error("malformed at {0}")]
+    Malformed(u32),
+    /// The same inside a reference, which begins at this place.
+    #[error("bad reference at {0}")]
+    Entity(u32),
+    /// The payload has more octets than are read.
+    #[error("too long")]
+    TooLong,
+    /// The body says an element that has no meaning on channel zero.
+    #[error("not an element of channel zero")]
+    Shape,
+    /// Want of memory; a later call may succeed.
+    #[error("want of memory")]
+    NoMemory,
+}
+
+/// The value that a payload says. It goes over the octets a few times.
+pub fn read_mgmt(alloc: Global, payload: &[u8]) -> Result<Mgmt, MgmtError>
+    ensures value { IfOk result (λ m. Says payload.now (form_of m)) }
+    ensures writable { IfOk result (λ m. IsTrue (is_writable (form_of m))) }
+    ensures refused { IfErr result (λ error. RefusesMessage payload.now error) }
+    ensures too_long { MAX_TEXT < length payload.now → result ≡ Err MgmtError.TooLong }
+{
+    if payload.len() > MAX_TEXT {
+        return Err(MgmtError::TooLong);
+    }
+    let start = split_entity(payload);
+    let element = match read_element(alloc, &payload[start..]) {
+        Ok(element) => element,
+        Err(error) => return Err(error_of(error)),
+    };
+    match form_said(alloc, &element) {
+        Ok(Some(mgmt)) => Ok(mgmt),
+        Ok(None) => Err(MgmtError::Shape),
+        Err(_) => Err(MgmtError::NoMemory),
+    }
+}
+
+/// The same refusal of a message.
+fn error_of(error: TextError) -> MgmtError
+    ensures { result ≡ error_of error }
+{
+    match error {
+        TextError::Malformed(place) => MgmtError::Malformed(place),
+        TextError::Entity(place) => MgmtError::Entity(place),
+        TextError::TooLong => MgmtError::TooLong,
+        TextError::NoMemory => MgmtError::NoMemory,
+    }
+}
+
+#[cfg(test)]
+mod tests;
