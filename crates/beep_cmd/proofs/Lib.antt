@@ -1,5 +1,8 @@
-pub mod ListingLemmas
-pub mod PassLemmas
-pub mod GoLemmas
-pub mod EndLemmas
-pub mod WordLemmas
+mod WordLemmas
+mod EntryLemmas
+mod ListingLemmas
+mod PieceLemmas
+mod PassLemmas
+mod GoLemmas
+mod EndLemmas
+mod CompleteLemmas

@@ -1,5 +1,6 @@
 pub mod CommandSet
 pub mod Texts
+pub mod Zero
 pub mod Show
 pub mod Listing
 pub mod Passing

@@ -1,18 +1,21 @@
 -- What a lister knows of the octets that it was given, for its proofs.
-use Rattle.std.specs.Prelude.{◌≡◌, ℕ, ◌+◌, ◌-◌, ◌<◌, ◌≤◌, take, Bool, true, false, List, [], ◌∷◌, ◌++◌, length}
+use Rattle.std.specs.Prelude.{◌≡◌, ℕ, ◌+◌, ◌-◌, ◌<◌, ◌≤◌, ◌&&◌, take, Bool, true, false, fold, Option, Some, None, List, [], ◌∷◌, ◌++◌, length}
 use Rattle.beep_frame.specs.declared.head.Head.{Head}
 use Rattle.beep_frame.specs.declared.rule.Rule.{Rule}
 use Rattle.beep_frame.specs.Held.{Held, KeepsRoom}
 use Rattle.beep_frame.specs.declared.step.Step.{Step}
-use Rattle.beep_frame.specs.Frame.{Frame}
+use Rattle.beep_frame.specs.Frame.{Frame, framed}
 use Rattle.beep_frame.specs.Spelling.{header}
 use Rattle.beep_frame.specs.Told.{told}
 use Rattle.beep_frame.specs.Stands.{Stands}
 use Rattle.beep_cmd.specs.declared.listing.Lister.{Lister}
+use Rattle.beep_cmd.specs.declared.listing.Listed.{Listed}
+use Rattle.beep_cmd.specs.declared.zero.Zero.{Zero}
 use Rattle.beep_frame.specs.declared.limits.TheConstants.{MAX_PAYLOAD}
-use Rattle.beep_cmd.specs.declared.listing.TheConstants.{LINE_ROOM, OUT_ROOM}
-use Rattle.beep_cmd.specs.Texts.{listing}
+use Rattle.beep_cmd.specs.declared.listing.TheConstants.{LINE_ROOM, OUT_ROOM, PIECE}
+use Rattle.beep_cmd.specs.Texts.{IsElementLine, message_with, ends_message, gathers, AreLines}
 use Rattle.beep_frame.specs.Stream.{BreaksBy}
+use Rattle.beep_cmd.specs.Zero.{HoldsZero}
 use Rattle.beep_cmd.specs.Show.{IsRead}
 
 -- the line that was gathered of a frame: the octets so far, and then its whole header
@@ -35,11 +38,35 @@ pub record EndsLine (line out line_new out_new : Held) : Type 0 where
   pub line_room : KeepsRoom line line_new
   pub out_room : KeepsRoom out out_new
 
--- the decoder, the lines and the count stay
+-- ---- what channel zero says
+
+-- elements are listed
+abbrev pub lists_elements : Option Zero → Bool
+lists_elements None = false
+lists_elements (Some zero) = true
+
+-- the message so far, where elements are listed
+abbrev pub HasMessage : Option Zero → List ℕ → Type 0
+HasMessage None message = Unit {0}
+HasMessage (Some zero) message = HoldsZero zero message
+
+-- the payloads of channel zero since the last complete one of these frames
+abbrev pub gathered : List Frame → List ℕ
+gathered frames = fold gathers [] frames
+
+-- what is listed of a frame besides its own line
+abbrev pub IsBeside : Bool → List ℕ → List ℕ → Type 0
+IsBeside false message text = text ≡ []
+IsBeside true message text = IsElementLine message text
+
+-- ---- each step
+
+-- the decoder, the lines, the message and the count stay
 pub record SameLines (old new : Lister) : Type 0 where
   pub decoder : new.decoder ≡ old.decoder
   pub out : new.out ≡ old.out
   pub frames : new.frames ≡ old.frames
+  pub zero : new.zero ≡ old.zero
 
 -- one line more
 pub record EndsFrame (line : Held) (old new : Lister) : Type 0 where
@@ -47,33 +74,88 @@ pub record EndsFrame (line : Held) (old new : Lister) : Type 0 where
   pub ends : EndsLine line old.out new.line new.out
   pub has_head : new.has_head ≡ false
   pub frames : new.frames ≡ told (old.frames + 1)
+  pub zero : new.zero ≡ old.zero
+  pub element : new.element ≡ old.element
+
+-- there is room for the line of a message, the line of a frame and the next piece, where elements are listed
+abbrev pub HasRoom : Option Zero → Lister → Lister → Type 0
+HasRoom None old new = (new.out ≡ old.out) × (new.element.octets ≡ [])
+HasRoom (Some zero) old new = length new.element.octets + OUT_ROOM ≤ new.out.spare
+
+-- what channel zero says with a data frame, behind these payloads of channel zero
+pub record SaysWith (f : Frame) (before : List ℕ) (old new : Lister) : Type 0 where
+  pub zero : HasMessage new.zero (gathers before f)
+  pub is_beside : IsBeside (lists_elements old.zero && ends_message f) (message_with before f) new.element.octets
+
+-- the line of a message was made, if a data frame completes one that is listed
+pub record ListsMessage (old new : Lister) : Type 0 where
+  pub decoder : new.decoder ≡ old.decoder
+  pub line : new.line ≡ old.line
+  pub has_head : new.has_head ≡ old.has_head
+  pub out : new.out.octets ≡ old.out.octets
+  pub frames : new.frames ≡ old.frames
+  pub elements : lists_elements new.zero ≡ lists_elements old.zero
+  pub room : HasRoom old.zero old new
+  pub spare : old.out.spare ≤ new.out.spare
+  pub says : (fed : List ℕ) (frames : List Frame) (head : Head) (payload before : List ℕ)
+      → Stands old.decoder fed (frames ++ framed head payload ∷ []) [] [] → HasMessage old.zero before → SaysWith (framed head payload) before old new
+
+-- one line more, and what stands beside it, of a data frame behind these payloads of channel zero
+pub record EndsWith (f : Frame) (before : List ℕ) (old new : Lister) : Type 0 where
+  pub zero : HasMessage new.zero (gathers before f)
+  pub beside : List ℕ
+  pub is_beside : IsBeside (lists_elements old.zero && ends_message f) (message_with before f) beside
+  pub written : length old.line.octets ≤ LINE_ROOM → length old.line.octets ≤ old.out.spare → 0 < old.out.spare
+      → new.out.octets ≡ ((old.out.octets ++ take (length old.line.octets - 2) old.line.octets) ++ 10 ∷ []) ++ beside
+
+-- a data frame has ended
+pub record EndsData (old new : Lister) : Type 0 where
+  pub decoder : new.decoder ≡ old.decoder
+  pub has_head : new.has_head ≡ false
+  pub frames : new.frames ≡ told (old.frames + 1)
+  pub elements : lists_elements new.zero ≡ lists_elements old.zero
+  pub cleared : new.line.octets ≡ []
+  pub line_room : KeepsRoom old.line new.line
+  pub fits : (k : ℕ) → k ≤ PIECE → length old.line.octets ≤ LINE_ROOM → 2 ≤ length old.line.octets → length old.line.octets + k ≤ old.out.spare → k ≤ new.out.spare
+  pub ends : (fed : List ℕ) (frames : List Frame) (head : Head) (payload before : List ℕ)
+      → Stands old.decoder fed (frames ++ framed head payload ∷ []) [] [] → HasMessage old.zero before → EndsWith (framed head payload) before old new
 
 -- what a step does to a lister
 abbrev pub Follows : Step → Lister → Lister → List ℕ → Type 0
 Follows Step.More old new taken = SameLines old new × (new.has_head ≡ old.has_head) × Gathered old.line new.line old.has_head taken
 Follows (Step.Head head) old new taken = SameLines old new × (new.has_head ≡ true) × Gathered old.line new.line old.has_head taken
-Follows Step.Frame old new taken = EndsFrame old.line old new
+Follows Step.Frame old new taken = EndsData old new
 Follows (Step.Seq seq) old new taken = (line : Held) × Gathered old.line line old.has_head taken × EndsFrame line old new
 Follows (Step.Broken rule place) old new taken = new ≡ old
 
+-- ---- over a piece
+
 -- the lister was given these octets, which are these frames and this rest
-pub record Holds (l : Lister) (fed : List ℕ) (frames : List Frame) (rest : List ℕ) (heads : List Head) : Type 0 where
+pub record Holds (elements : Bool) (l : Lister) (fed : List ℕ) (frames : List Frame) (rest : List ℕ) (heads : List Head) : Type 0 where
   pub stands : Stands l.decoder fed frames rest heads
   pub max : l.decoder.tracker.max ≡ MAX_PAYLOAD
   pub gathers : Gathers l.line.octets l.has_head rest heads
   pub room : LINE_ROOM ≤ length l.line.octets + l.line.spare
   pub frames_are : l.frames ≡ told (length frames)
+  pub elements_are : lists_elements l.zero ≡ elements
+  pub message : HasMessage l.zero (gathered frames)
+
+-- these frames came behind those, and their lines were added
+pub record Adds (elements : Bool) (frames more : List Frame) (old new : List ℕ) : Type 0 where
+  pub text : List ℕ
+  pub lines : AreLines elements (gathered frames) more text
+  pub written : new ≡ old ++ text
 
 -- all of a piece was listed
-pub record Lists (old new : Lister) (fed : List ℕ) (frames : List Frame) (piece : List ℕ) : Type 0 where
+pub record Lists (elements : Bool) (old new : Lister) (fed : List ℕ) (frames : List Frame) (piece : List ℕ) : Type 0 where
   pub more : List Frame
   pub rest : List ℕ
   pub heads : List Head
-  pub holds : Holds new (fed ++ piece) (frames ++ more) rest heads
-  pub written : new.out.octets ≡ old.out.octets ++ listing more
+  pub holds : Holds elements new (fed ++ piece) (frames ++ more) rest heads
+  pub adds : Adds elements frames more old.out.octets new.out.octets
 
 -- a piece was listed up to an octet at which the stream breaks a rule
-pub record ListsTo (rule : Rule) (place : ℕ) (old new : Lister) (fed : List ℕ) (frames : List Frame) (piece : List ℕ) : Type 0 where
+pub record ListsTo (rule : Rule) (place : ℕ) (elements : Bool) (old new : Lister) (fed : List ℕ) (frames : List Frame) (piece : List ℕ) : Type 0 where
   pub more : List Frame
   pub rest : List ℕ
   pub before : List ℕ
@@ -83,11 +165,28 @@ pub record ListsTo (rule : Rule) (place : ℕ) (old new : Lister) (fed : List �
   pub place_is : place ≡ told (length (fed ++ before))
   pub read : IsRead (fed ++ before) (frames ++ more) rest
   pub breaks : BreaksBy rule MAX_PAYLOAD (fed ++ before) (frames ++ more) octet
-  pub written : new.out.octets ≡ old.out.octets ++ listing more
+  pub adds : Adds elements frames more old.out.octets new.out.octets
+
+-- the first octets of a piece were listed
+pub record ListsFirst (elements : Bool) (old new : Lister) (fed : List ℕ) (frames : List Frame) (piece : List ℕ) : Type 0 where
+  pub asked : elements ≡ true
+  pub more : List Frame
+  pub rest : List ℕ
+  pub first : List ℕ
+  pub others : List ℕ
+  pub piece_is : piece ≡ first ++ others
+  pub read : IsRead (fed ++ first) (frames ++ more) rest
+  pub adds : Adds elements frames more old.out.octets new.out.octets
+
+-- what became of a piece
+abbrev pub ListsAs : Listed → Bool → Lister → Lister → List ℕ → List Frame → List ℕ → Type 0
+ListsAs Listed.Whole elements old new fed frames piece = Lists elements old new fed frames piece
+ListsAs (Listed.Broken rule place) elements old new fed frames piece = ListsTo rule place elements old new fed frames piece
+ListsAs Listed.NoMemory elements old new fed frames piece = ListsFirst elements old new fed frames piece
 
 -- so much of a piece was listed so far, and the rest of it finds room
-pub record ListsSoFar (old now : Lister) (fed : List ℕ) (frames : List Frame) (piece : List ℕ) (at : ℕ) : Type 0 where
-  pub lists : Lists old now fed frames (take at piece)
+pub record ListsSoFar (elements : Bool) (old now : Lister) (fed : List ℕ) (frames : List Frame) (piece : List ℕ) (at : ℕ) : Type 0 where
+  pub lists : Lists elements old now fed frames (take at piece)
   pub fits : length now.line.octets + (length piece - at) ≤ now.out.spare
 
 -- no line waits to be written, and there is room for those of the next piece, and for a last line
@@ -96,6 +195,6 @@ pub record IsClear (l : Lister) : Type 0 where
   pub room : OUT_ROOM ≤ l.out.spare
 
 -- the lister was given these octets, and their lines were written
-pub record Reads (l : Lister) (fed : List ℕ) (frames : List Frame) (rest : List ℕ) (heads : List Head) : Type 0 where
-  pub holds : Holds l fed frames rest heads
+pub record Reads (elements : Bool) (l : Lister) (fed : List ℕ) (frames : List Frame) (rest : List ℕ) (heads : List Head) : Type 0 where
+  pub holds : Holds elements l fed frames rest heads
   pub clear : IsClear l

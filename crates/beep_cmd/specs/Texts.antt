@@ -1,20 +1,68 @@
 -- What `show` writes: a line for each frame, and a last line.
 -- The code keeps no frame: it hands on the octets of each header as they came.
-use Rattle.std.specs.Prelude.{ℕ, List, [], ◌∷◌, ◌++◌, length, codes}
+use Rattle.std.specs.Prelude.{◌≡◌, ℕ, ◌<◌, ◌≤◌, ◌==◌, Bool, true, false, ◌&&◌, not, List, [], ◌∷◌, ◌++◌, length, codes, if◌then◌else◌}
 use Rattle.std.specs.Fmt.{decimal}
 use Rattle.std.specs.List.{flat_map}
 use Rattle.beep_frame.specs.declared.rule.Rule.{Rule}
 use Rattle.beep_frame.specs.Frame.{Frame, framed, seq_frame}
 use Rattle.beep_frame.specs.Spelling.{header_line, seq_line, spelling}
+use Rattle.beep_text.specs.declared.limits.TheConstants.{MAX_TEXT}
+use Rattle.beep_text.specs.Canonical.{element_text}
+use Rattle.beep_mgmt.specs.Form.{Form}
+use Rattle.beep_mgmt.specs.Written.{element_as}
+use Rattle.beep_mgmt.specs.Message.{Says}
 
 -- a frame's line: its header's text, or the SEQ's, without CRLF
 abbrev pub frame_line : Frame → List ℕ
 frame_line (framed head payload) = header_line head ++ 10 ∷ []
 frame_line (seq_frame seq) = seq_line seq ++ 10 ∷ []
 
--- a line for each frame
-abbrev pub listing : List Frame → List ℕ
-listing frames = flat_map frame_line frames
+-- ---- what channel zero says
+
+-- a line that begins with two spaces
+abbrev pub indented : List ℕ → List ℕ
+indented text = 32 ∷ 32 ∷ text ++ 10 ∷ []
+
+-- what is told of a message of channel zero: the canonical element of what it says, or that it says nothing, or that it is too long
+pub data IsTold (message text : List ℕ) : Type 0 where
+  element : (form : Form) → length message ≤ MAX_TEXT → Says message form → text ≡ element_text (element_as form) → IsTold message text
+  unreadable : length message ≤ MAX_TEXT → ((form : Form) → Says message form → ⊥) → text ≡ codes "unreadable" → IsTold message text
+  too_long : MAX_TEXT < length message → text ≡ codes "too long" → IsTold message text
+
+-- its line
+pub record IsElementLine (message line : List ℕ) : Type 0 where
+  pub text : List ℕ
+  pub is_told : IsTold message text
+  pub line_is : line ≡ indented text
+
+-- the payload of a data frame of channel zero, behind those that came before it
+abbrev pub message_with : List ℕ → Frame → List ℕ
+message_with before (framed head payload) = if head.channel == 0 then before ++ payload else before
+message_with before (seq_frame seq) = before
+
+-- the frame completes a message of channel zero
+abbrev pub ends_message : Frame → Bool
+ends_message (framed head payload) = head.channel == 0 && not head.more
+ends_message (seq_frame seq) = false
+
+-- the payloads of channel zero since its last complete data frame, with one frame more
+abbrev pub gathers : List ℕ → Frame → List ℕ
+gathers before f = if ends_message f then [] else message_with before f
+
+-- ---- the lines of frames
+
+-- the lines of a frame: its own, and where elements are listed that of the message which it completes
+pub data IsEntry (elements : Bool) (before : List ℕ) (f : Frame) (text : List ℕ) : Type 0 where
+  alone : (elements && ends_message f) ≡ false → text ≡ frame_line f → IsEntry elements before f text
+  with_element : (elements && ends_message f) ≡ true → (line : List ℕ) → IsElementLine (message_with before f) line → text ≡ frame_line f ++ line → IsEntry elements before f text
+
+-- the lines of frames, one after another, behind payloads of channel zero
+abbrev pub AreLines : Bool → List ℕ → List Frame → List ℕ → Type 0
+AreLines elements before [] text = text ≡ []
+AreLines elements before (f ∷ frames) text =
+    (entry others : List ℕ) × IsEntry elements before f entry × AreLines elements (gathers before f) frames others × (text ≡ entry ++ others)
+
+-- ---- other lines
 
 -- so many frames of so many octets
 abbrev pub totals_line : ℕ → ℕ → List ℕ

@@ -1,11 +1,13 @@
-//! A list of the frames of a stream: one line for each, gathered as its header comes.
-ghost use Rattle.std.specs.Prelude.{◌≡◌, ◌+◌, ◌≤◌, ◌++◌, ℕ, List, [], length, MatchOption, IfOk};
-ghost use Rattle.beep_frame.specs.Frame.{Frame};
+//! A list of the frames of a stream: one line for each, gathered as its header comes, and where that is
+//! asked for one more for what each message of channel zero says.
+ghost use Rattle.std.specs.Prelude.{◌≡◌, ◌+◌, ◌≤◌, ◌++◌, ℕ, Bool, true, List, [], ◌∷◌, length, IfOk, OnOk, OnErr};
+ghost use Rattle.beep_frame.specs.Frame.{Frame, framed};
 ghost use Rattle.beep_frame.specs.Held.{KeepsRoom};
+ghost use Rattle.beep_frame.specs.Stands.{Stands};
 ghost use Rattle.beep_frame.specs.declared.head.Head.{Head as header_type};
 ghost use Rattle.beep_cmd.specs.Listing.{Gathered, EndsLine};
 
-use crate::text::append;
+use crate::zero::Zero;
 use beep_frame::{Decoder, MAX_PAYLOAD, NoMemory, Octets, Rule, Step};
 use std::alloc::Global;
 
@@ -19,6 +21,17 @@ pub(crate) const PIECE: usize = 4096;
 /// whose header came before.
 pub(crate) const OUT_ROOM: usize = PIECE + LINE_ROOM;
 
+/// What became of a piece.
+#[derive(Clone, Copy, Debug, PartialEq, Eq)]
+pub(crate) enum Listed {
+    /// Its frames are listed.
+    Whole,
+    /// They are listed up to this octet, at which the stream broke this rule.
+    Broken(Rule, u64),
+    /// They are listed up to a message that found no memory.
+    NoMemory,
+}
+
 /// Lists the frames of a stream that comes in pieces. It keeps the text of one header.
 #[derive(Drop)]
 pub(crate) struct Lister {
@@ -31,53 +44,67 @@ pub(crate) struct Lister {
     pub(crate) out: Octets,
     /// The whole frames, modulo 2^64.
     pub(crate) frames: u64,
+    /// The message of channel zero under way, where elements are listed.
+    pub(crate) zero: Option<Zero>,
+    /// The line of the message that is complete.
+    pub(crate) element: Octets,
 }
 
 impl Lister {
-    ghost use Rattle.beep_cmd.specs.Listing.{Follows, EndsFrame, Holds, Lists, ListsTo, Reads};
+    ghost use Rattle.beep_cmd.specs.Listing.{Follows, EndsFrame, EndsData, ListsMessage, Holds, ListsAs, Reads, lists_elements};
 
-    /// A lister that was given nothing. It takes all the memory that it will need.
-    pub(crate) fn new(alloc: Global) -> Result<Lister, NoMemory>
-        ensures { IfOk result (λ lister. Reads lister [] [] [] []) }
+    /// A lister that was given nothing. It takes all the memory that it will need without elements.
+    pub(crate) fn new(alloc: Global, elements: bool) -> Result<Lister, NoMemory>
+        ensures { IfOk result (λ lister. Reads elements lister [] [] [] []) }
     {
         let decoder = Decoder::new(alloc, MAX_PAYLOAD)?;
         let mut line = Octets::new(alloc);
         line.reserve(LINE_ROOM)?;
         let mut out = Octets::new(alloc);
         out.reserve(OUT_ROOM)?;
+        let zero = if elements {
+            Some(Zero::new(alloc)?)
+        } else {
+            None
+        };
         Ok(Lister {
             decoder,
             line,
             has_head: false,
             out,
             frames: 0,
+            zero,
+            element: Octets::new(alloc),
         })
     }
 
-    /// Lists the frames that are whole with this piece. Where the stream breaks a rule, it tells
-    /// which, and the number of the octet.
-    pub(crate) fn list(&mut self, piece: &[u8]) -> Option<(Rule, u64)>
-        ensures lists { (fed : List ℕ) (frames : List Frame) (rest : List ℕ) (heads : List header_type)
-            → Holds self.old fed frames rest heads
+    /// Lists the frames that are whole with this piece.
+    pub(crate) fn list(&mut self, piece: &[u8]) -> Listed
+        ensures lists { (elements : Bool) (fed : List ℕ) (frames : List Frame) (rest : List ℕ) (heads : List header_type)
+            → Holds elements self.old fed frames rest heads → length piece.now ≤ PIECE
             → length self.old.line.octets + length piece.now ≤ self.old.out.spare
-            → MatchOption result (Lists self.old self.new fed frames piece.now)
-            (λ fault. ListsTo fault.0 fault.1 self.old self.new fed frames piece.now) }
+            → ListsAs result elements self.old self.new fed frames piece.now }
         ensures room { KeepsRoom self.old.out self.new.out }
     {
         let mut at = 0;
         while at < piece.len() {
             let (count, step) = self.decoder.feed(&piece[at..]);
             if let Step::Broken(rule, place) = step {
-                return Some((rule, place));
+                return Listed::Broken(rule, place);
             }
-            self.follow(step, &piece[at..at + count]);
-            at += count;
+            match self.follow(step, &piece[at..at + count]) {
+                Ok(()) => at += count,
+                Err(NoMemory) => return Listed::NoMemory,
+            }
         }
-        None
+        Listed::Whole
     }
 
-    fn follow(&mut self, step: Step, taken: &[u8])
-        ensures { Follows step self.old self.new taken.now }
+    fn follow(&mut self, step: Step, taken: &[u8]) -> Result<(), NoMemory>
+        requires whole { step ≡ Step.Frame → self.old.decoder.whole ≡ true }
+        ensures ok { OnOk result (Follows step self.old self.new taken.now) }
+        ensures err { OnErr result ((self.new.out.octets ≡ self.old.out.octets) × (lists_elements self.old.zero ≡ true)) }
+        ensures room { KeepsRoom self.old.out self.new.out }
     {
         match step {
             Step::More => gather(&mut self.line, self.has_head, taken),
@@ -85,13 +112,43 @@ impl Lister {
                 gather(&mut self.line, self.has_head, taken);
                 self.has_head = true;
             }
-            Step::Frame => self.end_frame(),
+            Step::Frame => return self.end_data(),
             Step::Seq(_) => {
                 gather(&mut self.line, self.has_head, taken);
                 self.end_frame();
             }
             Step::Broken(_, _) => {}
         }
+        Ok(())
+    }
+
+    /// Ends the line of a data frame, and lists the message of channel zero that it completes.
+    fn end_data(&mut self) -> Result<(), NoMemory>
+        requires whole { self.old.decoder.whole ≡ true }
+        ensures ok { OnOk result (EndsData self.old self.new) }
+        ensures err { OnErr result ((self.new.out.octets ≡ self.old.out.octets) × (lists_elements self.old.zero ≡ true)) }
+        ensures room { KeepsRoom self.old.out self.new.out }
+    {
+        self.list_message()?;
+        self.end_frame();
+        self.out.extend_within(self.element.as_slice());
+        Ok(())
+    }
+
+    /// Makes the line of the message that a data frame completes, and room for it.
+    fn list_message(&mut self) -> Result<(), NoMemory>
+        requires whole { self.old.decoder.whole ≡ true }
+        ensures ok { OnOk result (ListsMessage self.old self.new) }
+        ensures err { OnErr result ((self.new.out.octets ≡ self.old.out.octets) × (lists_elements self.old.zero ≡ true)) }
+        ensures room { KeepsRoom self.old.out self.new.out }
+    {
+        self.element.clear();
+        let Some(zero) = &mut self.zero else {
+            return Ok(());
+        };
+        let frame = self.decoder.frame();
+        zero.follow(frame.head, frame.payload, &mut self.element)?;
+        self.out.reserve(self.element.as_slice().len() + OUT_ROOM)
     }
 
     fn end_frame(&mut self)
@@ -108,7 +165,7 @@ fn gather(line: &mut Octets, whole: bool, taken: &[u8])
     ensures { Gathered line.old line.new whole taken.now }
 {
     if !whole {
-        append(line, taken);
+        line.extend_within(taken);
     }
 }
 
@@ -117,7 +174,7 @@ fn end_line(line: &mut Octets, out: &mut Octets)
     ensures { EndsLine line.old out.old line.new out.new }
 {
     let text = line.as_slice();
-    append(out, &text[..text.len().saturating_sub(2)]);
-    append(out, b"\n");
+    out.extend_within(&text[..text.len().saturating_sub(2)]);
+    out.extend_within(b"\n");
     line.clear();
 }

@@ -1,49 +1,37 @@
-//! The command `show`: the frames of its input, a line each.
-ghost use Rattle.std.specs.Prelude.{◌≡◌, ◌≢◌, ◌+◌, ◌≤◌, ℕ, Bool, false, Option, List, [], length};
+//! The command `show`: the frames of its input, a line each, and what channel zero says.
+ghost use Rattle.std.specs.Prelude.{◌≡◌, ◌+◌, ◌^◌, ◌<◌, ◌≤◌, ℕ, Bool, false, Option, List, [], length};
 ghost use Rattle.beep_frame.specs.Frame.{Frame};
 ghost use Rattle.beep_frame.specs.declared.head.Head.{Head as header_type};
-ghost use Rattle.beep_wires.specs.Counts.{Rose, next_count};
-ghost use Rattle.beep_cmd.specs.Listing.{Reads, IsClear};
+ghost use Rattle.beep_cmd.specs.Listing.{Reads};
 ghost use Rattle.beep_cmd.specs.Passing.{Passes, Goes, counts};
 ghost use Rattle.beep_cmd.specs.Show.{Shown, run_of};
+ghost use Rattle.beep_cmd.specs.declared.words.Settings.{Settings as settings_type};
 
-use crate::listing::{Lister, PIECE};
-use crate::text::append_last;
-use beep_frame::{NoMemory, Rule};
+use crate::ending::{Ending, append_last};
+use crate::listing::{Listed, Lister, PIECE};
+use crate::words::Settings;
+use beep_frame::NoMemory;
 use beep_wires::{Failed, Sink, Source, write_all};
 use std::alloc::Global;
 
-/// How many octets of its input a command reads at most, about a gibibyte: a guard against an input
-/// that never ends.
-pub const OCTETS: usize = 1073741824;
-
-/// What ended the reading.
-#[derive(Clone, Copy, Debug, PartialEq, Eq)]
-pub(crate) enum Ending {
-    /// The input ended behind so many octets.
-    Ended(u64),
-    /// As many octets came as are read at most.
-    Spent,
-    /// A read failed.
-    ReadFault,
-    /// A write failed.
-    WriteFault,
-    /// The stream broke this rule at this octet.
-    Broken(Rule, u64),
-}
-
-/// Runs `show`. It takes all its memory before the first read.
-pub(crate) fn show<I: Source, O: Sink>(alloc: Global, input: &mut I, output: &mut O) -> u8
+/// Runs `show`. Without elements it takes all its memory before the first read.
+pub(crate) fn show<I: Source, O: Sink>(
+    alloc: Global,
+    settings: Settings,
+    input: &mut I,
+    output: &mut O,
+) -> u8
     requires going { I.ended input.old ≡ false }
-    ensures shown { Shown result (run_of (I.left input.old) (I.left input.new) (O.written output.old)
+    ensures shown { Shown settings result (run_of (I.left input.old) (I.left input.new) (O.written output.old)
         (O.written output.new) (I.ended input.new) (I.faults input.old) (I.faults input.new)
         (O.faults output.old) (O.faults output.new)) }
-    ensures no_memory { result ≡ 7 → (input.new ≡ input.old) × (output.new ≡ output.old) }
-    ensures reads { I.reads input.new ≤ I.reads input.old + (OCTETS + 1) }
+    ensures no_memory { result ≡ 7 → settings.elements ≡ false
+        → (input.new ≡ input.old) × (output.new ≡ output.old) }
+    ensures reads { I.reads input.new ≤ I.reads input.old + (settings.octets + 1) }
 {
-    match Lister::new(alloc) {
+    match Lister::new(alloc, settings.elements) {
         Ok(mut lister) => {
-            let ending = list_input(&mut lister, input, output);
+            let ending = list_input(&mut lister, settings.octets, input, output);
             finish(&mut lister, ending, output)
         }
         Err(NoMemory) => 7,
@@ -52,14 +40,16 @@ pub(crate) fn show<I: Source, O: Sink>(alloc: Global, input: &mut I, output: &mu
 
 /// Writes the last line of an ending, and answers the status.
 fn finish<O: Sink>(lister: &mut Lister, ending: Ending, output: &mut O) -> u8
-    ensures finishes { (a : Option (List ℕ)) (b : Option (List ℕ)) (s : Option (List ℕ)) (ended : Bool)
-        (f : ℕ) (g : ℕ) (h : ℕ) → h ≤ O.faults output.old
-        → Goes ending lister.old a b s (O.written output.old) ended (counts f g) (counts h (O.faults output.old))
-        → Shown result (run_of a b s (O.written output.new) ended f g h (O.faults output.new)) }
-    ensures answers { result ≢ 7 }
+    ensures finishes { (settings : settings_type) (a : Option (List ℕ)) (b : Option (List ℕ)) (s : Option (List ℕ)) (ended : Bool)
+        (f : ℕ) (g : ℕ) (h : ℕ) → settings.octets < 2 ^ 32 → h ≤ O.faults output.old
+        → Goes ending settings lister.old a b s (O.written output.old) ended (counts f g) (counts h (O.faults output.old))
+        → Shown settings result (run_of a b s (O.written output.new) ended f g h (O.faults output.new)) }
+    ensures answers { result ≡ 7 → ending ≡ Ending.NoMemory }
 {
-    if let Ending::WriteFault = ending {
-        return 5;
+    match ending {
+        Ending::WriteFault => return 5,
+        Ending::NoMemory => return 7,
+        _ => {}
     }
     let left = lister.decoder.left();
     let status = append_last(&mut lister.out, ending, lister.frames, left);
@@ -72,23 +62,25 @@ fn finish<O: Sink>(lister: &mut Lister, ending: Ending, output: &mut O) -> u8
 /// Lists the input's frames, up to what ends the reading. It writes the lines of each read.
 pub(crate) fn list_input<I: Source, O: Sink>(
     lister: &mut Lister,
+    octets: u32,
     input: &mut I,
     output: &mut O,
 ) -> Ending
     requires going { I.ended input.old ≡ false }
-    ensures goes { Reads lister.old [] [] [] []
-        → Goes result lister.new (I.left input.old) (I.left input.new) (O.written output.old)
-        (O.written output.new) (I.ended input.new) (counts (I.faults input.old) (I.faults input.new))
-        (counts (O.faults output.old) (O.faults output.new)) }
-    ensures reads { I.reads input.new ≤ I.reads input.old + (OCTETS + 1) }
+    ensures goes { (elements : Bool) → Reads elements lister.old [] [] [] []
+        → Goes result (record { elements = elements; octets = octets }) lister.new (I.left input.old) (I.left input.new)
+        (O.written output.old) (O.written output.new) (I.ended input.new)
+        (counts (I.faults input.old) (I.faults input.new)) (counts (O.faults output.old) (O.faults output.new)) }
+    ensures reads { I.reads input.new ≤ I.reads input.old + (octets + 1) }
     ensures kept { O.faults output.old ≤ O.faults output.new }
 {
     let mut buf = [0; PIECE];
-    let mut left = OCTETS;
+    let most = octets as usize;
+    let mut left = most;
     while left > 0 {
         let room = left.min(PIECE);
         match input.read(&mut buf[..room]) {
-            Ok(0) => return Ending::Ended((OCTETS - left) as u64),
+            Ok(0) => return Ending::Ended((most - left) as u64),
             Ok(n) => {
                 left -= n;
                 if let Some(ending) = pass(lister, &buf[..n], output) {
@@ -98,22 +90,23 @@ pub(crate) fn list_input<I: Source, O: Sink>(
             Err(Failed) => return Ending::ReadFault,
         }
     }
-    Ending::Spent
+    Ending::Spent(octets)
 }
 
 /// Lists a piece and writes its lines. It answers what ends the reading, if anything does.
 fn pass<O: Sink>(lister: &mut Lister, piece: &[u8], output: &mut O) -> Option<Ending>
-    ensures passes { (fed : List ℕ) (frames : List Frame) (rest : List ℕ) (heads : List header_type)
-        → Reads lister.old fed frames rest heads → length piece.now ≤ PIECE
-        → Passes result lister.new fed frames piece.now (O.written output.old) (O.written output.new) (O.faults output.old) (O.faults output.new) }
+    ensures passes { (elements : Bool) (fed : List ℕ) (frames : List Frame) (rest : List ℕ) (heads : List header_type)
+        → Reads elements lister.old fed frames rest heads → length piece.now ≤ PIECE
+        → Passes result elements lister.new fed frames piece.now (O.written output.old) (O.written output.new) (O.faults output.old) (O.faults output.new) }
     ensures kept { O.faults output.old ≤ O.faults output.new }
 {
-    let broken = lister.list(piece);
+    let listed = lister.list(piece);
     let written = write_all(output, lister.out.as_slice());
     lister.out.clear();
-    match (written, broken) {
-        (Err(Failed), _) => Some(Ending::WriteFault),
-        (Ok(()), Some((rule, place))) => Some(Ending::Broken(rule, place)),
-        (Ok(()), None) => None,
+    match (listed, written) {
+        (Listed::NoMemory, _) => Some(Ending::NoMemory),
+        (_, Err(Failed)) => Some(Ending::WriteFault),
+        (Listed::Broken(rule, place), Ok(())) => Some(Ending::Broken(rule, place)),
+        (Listed::Whole, Ok(())) => None,
     }
 }

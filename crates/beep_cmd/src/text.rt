@@ -3,22 +3,9 @@ ghost use Rattle.std.specs.Prelude.{◌≡◌, ◌+◌, ◌≤◌, ◌++◌, [],
 ghost use Rattle.std.specs.Fmt.{decimal};
 ghost use Rattle.beep_frame.specs.Held.{GrowsBy, KeepsRoom};
 ghost use Rattle.beep_cmd.specs.Texts.{rule_name, totals_line, broken_line};
-ghost use Rattle.beep_cmd.specs.LastLine.{status_of, last_line};
 
-use crate::show::{Ending, OCTETS};
 use beep_frame::{Octets, Rule};
 use itoa::Buffer;
-
-/// Appends `bytes` where they find room, and nothing of them otherwise.
-pub(crate) fn append(out: &mut Octets, bytes: &[u8])
-    ensures appended { length bytes.now ≤ out.old.spare → out.new.octets ≡ out.old.octets ++ bytes.now }
-    ensures used { GrowsBy out.old out.new (length bytes.now) }
-    ensures room { KeepsRoom out.old out.new }
-{
-    if bytes.len() <= out.spare() {
-        out.extend_spare(bytes);
-    }
-}
 
 /// Appends a number in decimal, at most 20 octets, where it finds room.
 fn append_number(out: &mut Octets, n: u64)
@@ -27,7 +14,7 @@ fn append_number(out: &mut Octets, n: u64)
     ensures room { KeepsRoom out.old out.new }
 {
     let mut buffer = Buffer::new();
-    append(out, buffer.format(n).as_bytes());
+    out.extend_within(buffer.format(n).as_bytes());
 }
 
 /// Appends a label and a number, where they find room.
@@ -36,62 +23,32 @@ fn append_labelled(out: &mut Octets, label: &[u8], n: u64)
         → out.new.octets ≡ (out.old.octets ++ label.now) ++ decimal n }
     ensures used { GrowsBy out.old out.new (length label.now + 20) }
 {
-    append(out, label);
+    out.extend_within(label);
     append_number(out, n);
 }
 
 /// Appends a line of a label and a number, where it finds room.
-fn append_numbered(out: &mut Octets, label: &[u8], n: u64)
+pub(crate) fn append_numbered(out: &mut Octets, label: &[u8], n: u64)
     ensures appended { length label.now + 21 ≤ out.old.spare
         → out.new.octets ≡ (out.old.octets ++ label.now ++ decimal n) ++ 10 ∷ [] }
 {
     append_labelled(out, label, n);
-    append(out, b"\n");
+    out.extend_within(b"\n");
 }
 
-fn append_totals(out: &mut Octets, frames: u64, octets: u64)
+pub(crate) fn append_totals(out: &mut Octets, frames: u64, octets: u64)
     ensures appended { 64 ≤ out.old.spare → out.new.octets ≡ out.old.octets ++ totals_line frames octets }
 {
     append_labelled(out, b"frames ", frames);
     append_numbered(out, b" octets ", octets);
 }
 
-fn append_broken(out: &mut Octets, rule: Rule, place: u64)
+pub(crate) fn append_broken(out: &mut Octets, rule: Rule, place: u64)
     ensures appended { 64 ≤ out.old.spare → out.new.octets ≡ out.old.octets ++ broken_line rule place }
 {
-    append(out, b"! broken ");
-    append(out, name_of(rule).as_bytes());
+    out.extend_within(b"! broken ");
+    out.extend_within(name_of(rule).as_bytes());
     append_numbered(out, b" ", place);
-}
-
-/// Appends the last line of an ending, at most 64 octets, where it finds room, and answers its status.
-pub(crate) fn append_last(out: &mut Octets, ending: Ending, frames: u64, left: u64) -> u8
-    ensures status { result ≡ status_of ending left }
-    ensures appended { 64 ≤ out.old.spare → out.new.octets ≡ out.old.octets ++ last_line ending frames left }
-{
-    match ending {
-        Ending::Ended(octets) if left == 0 => {
-            append_totals(out, frames, octets);
-            0
-        }
-        Ending::Ended(_) => {
-            append_numbered(out, b"! cut ", left);
-            9
-        }
-        Ending::Spent => {
-            append_numbered(out, b"! spent ", OCTETS as u64);
-            11
-        }
-        Ending::ReadFault => {
-            append(out, b"! read fault\n");
-            4
-        }
-        Ending::WriteFault => 5,
-        Ending::Broken(rule, place) => {
-            append_broken(out, rule, place);
-            3
-        }
-    }
 }
 
 /// The name that a rule is printed by.

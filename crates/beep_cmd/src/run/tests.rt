@@ -155,8 +155,143 @@ fn a_stream_that_dies_or_is_cut_says_where(rt: HostRuntime) -> Result<(), Fail> 
 
 #[test]
 fn other_words_are_refused(rt: HostRuntime) -> Result<(), Fail> {
-    for words in ["", "show show", "Show", "showing", "sho"] {
+    let rows = [
+        "",
+        "show show",
+        "Show",
+        "showing",
+        "sho",
+        "--elements yes",
+        "--elements yes show",
+        "show --elements",
+        "show --elements maybe",
+        "show --elements Yes",
+        "show --elements=yes",
+        "show --elements yes --elements no",
+        "show --elements yes --elements yes",
+        "show yes --elements",
+        "show -elements yes",
+        "show --octets",
+        "show --octets 0",
+        "show --octets 073",
+        "show --octets +73",
+        "show --octets -73",
+        "show --octets 73x",
+        "show --octets 4294967296",
+        "show --octets 73 --octets 73",
+        "show --octets 73 --elements yes --octets 73",
+        "show --octets 73 yes",
+        "show --octets 73 --elements",
+        "show --window 4096",
+        "show --octets 73 --window 4096",
+        "replay",
+    ];
+    for words in rows {
         wants(&rt, words, GREETING, "! usage\n", 1)?;
+    }
+    Ok(())
+}
+
+// The words, what is written of a greeting, and the status.
+#[test]
+fn options_come_in_any_order(rt: HostRuntime) -> Result<(), Fail> {
+    let plain = "RPY 0 0 . 0 52\nframes 1 octets 73\n";
+    let told = "RPY 0 0 . 0 52\n  <greeting />\nframes 1 octets 73\n";
+    let rows = [
+        ("show --elements no", plain, 0),
+        ("show --elements yes", told, 0),
+        ("show --octets 74", plain, 0),
+        ("show --octets 4294967295", plain, 0),
+        ("show --elements yes --octets 74", told, 0),
+        ("show --octets 74 --elements yes", told, 0),
+        ("show --octets 74 --elements no", plain, 0),
+        ("show --octets 73", "RPY 0 0 . 0 52\n! spent 73\n", 11),
+        ("show --octets 72", "! spent 72\n", 11),
+        ("show --octets 1", "! spent 1\n", 11),
+    ];
+    for (words, output, status) in rows {
+        wants(&rt, words, GREETING, output, status)?;
+    }
+    Ok(())
+}
+
+#[test]
+fn no_more_is_read_than_is_asked_for(rt: HostRuntime) -> Result<(), Fail> {
+    let mut twice = Octets::new(rt.alloc());
+    twice.extend(GREETING)?;
+    twice.extend(GREETING)?;
+    let output = "RPY 0 0 . 0 52\n! spent 73\n";
+    wants(&rt, "show --octets 73", twice.as_slice(), output, 11)
+}
+
+// The first greeting is the example of RFC 3080, section 2.3.1.1, with one profile.
+#[test]
+fn messages_of_channel_zero_have_a_line(rt: HostRuntime) -> Result<(), Fail> {
+    let rows: [(&[u8], &str); 7] = [
+        (
+            b"RPY 0 0 . 0 110\r\nContent-Type: application/beep+xml\r\n\r\n<greeting>\r\n   <profile uri='http://iana.org/beep/TLS' />\r\n</greeting>\r\nEND\r\n",
+            "RPY 0 0 . 0 110\n  <greeting><profile uri='http://iana.org/beep/TLS' /></greeting>\nframes 1 octets 132\n",
+        ),
+        (
+            b"RPY 0 0 . 0 2\r\n\r\nEND\r\n",
+            "RPY 0 0 . 0 2\n  unreadable\nframes 1 octets 22\n",
+        ),
+        (
+            b"RPY 0 0 * 0 6\r\n\r\n<ok END\r\nSEQ 0 6 4096\r\nMSG 1 0 . 0 2\r\n<aEND\r\nRPY 0 0 . 6 2\r\n/>END\r\n",
+            "RPY 0 0 * 0 6\nSEQ 0 6 4096\nMSG 1 0 . 0 2\nRPY 0 0 . 6 2\n  <ok />\nframes 4 octets 84\n",
+        ),
+        (
+            b"MSG 0 1 . 0 31\r\n<close number='1' code='200' />END\r\n",
+            "MSG 0 1 . 0 31\n  <close number='1' code='200' />\nframes 1 octets 52\n",
+        ),
+        (
+            b"ANS 0 0 . 0 5 0\r\n<ok/>END\r\n",
+            "ANS 0 0 . 0 5 0\n  <ok />\nframes 1 octets 27\n",
+        ),
+        (
+            b"ERR 0 2 . 0 34\r\n<error code='550'>a&#13;b</error >END\r\nRPY 0 3 . 34 5\r\n<ok/>END\r\n",
+            "ERR 0 2 . 0 34\n  <error code='550'>a&#13;b</error>\nRPY 0 3 . 34 5\n  <ok />\nframes 2 octets 81\n",
+        ),
+        (
+            b"MSG 0 1 * 0 1\r\nxEND\r\n",
+            "MSG 0 1 * 0 1\nframes 1 octets 21\n",
+        ),
+    ];
+    for (input, output) in rows {
+        wants(&rt, "show --elements yes", input, output, 0)?;
+    }
+    Ok(())
+}
+
+/// Two data frames of one message on channel zero, of 65,536 octets together and one more.
+fn long_message(alloc: Global, extra: &[u8]) -> Result<Octets, Fail> {
+    let mut input = Octets::new(alloc);
+    input.extend(b"MSG 0 1 * 0 65535\r\n")?;
+    for _ in 0..65535 {
+        input.extend(b"x")?;
+    }
+    input.extend(b"END\r\n")?;
+    input.extend(extra)?;
+    input.extend(b"MSG 0 2 . 9 5\r\n<ok/>END\r\n")?;
+    Ok(input)
+}
+
+// A message of 65,536 octets is read, one of an octet more isn't, and the one behind it is.
+#[test]
+fn a_message_above_65536_octets_is_too_long(rt: HostRuntime) -> Result<(), Fail> {
+    let rows: [(&[u8], &str); 2] = [
+        (
+            b"MSG 0 1 . 65535 1\r\nxEND\r\n",
+            "MSG 0 1 * 0 65535\nMSG 0 1 . 65535 1\n  unreadable\nMSG 0 2 . 9 5\n  <ok />\nframes 3 octets 65609\n",
+        ),
+        (
+            b"MSG 0 1 . 65535 2\r\nxxEND\r\n",
+            "MSG 0 1 * 0 65535\nMSG 0 1 . 65535 2\n  too long\nMSG 0 2 . 9 5\n  <ok />\nframes 3 octets 65610\n",
+        ),
+    ];
+    for (extra, output) in rows {
+        let input = long_message(rt.alloc(), extra)?;
+        wants(&rt, "show --elements yes", input.as_slice(), output, 0)?;
     }
     Ok(())
 }

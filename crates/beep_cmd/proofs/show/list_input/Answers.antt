@@ -1,4 +1,4 @@
-use Rattle.std.proofs.Common.{◌≡◌, ◌≤◌, ◌==◌, true, false, [], length, arith, ◌∙◌, length-take}
+use Rattle.std.proofs.Common.{◌≡◌, ◌<◌, ◌≤◌, ◌==◌, true, false, [], length, refl, arith, ◌∙◌, length-take}
 use Rattle.std.proofs.KnownBytes.{Consumes-kept, Consumes-nil}
 use Rattle.std.proofs.lemmas.Bool.Decides.{nat_tests}
 use Rattle.beep_cmd.proofs.GoLemmas.{went_none, went_ended, went_fault, passed_none, passed_some, rose_later, short_piece}
@@ -6,21 +6,22 @@ use Rattle.beep_cmd.proofs.show.list_input.Goals as goal
 
 pub loop-left-init : goal.loop-left-init
 loop-left-init g c =
-    (omega arith, c.requires.going, omega arith, omega arith, omega arith, λ r. went_none c.args.lister.now _ _ r)
+    (omega arith, c.requires.going, omega arith, omega arith, omega arith, λ elements r. went_none (record { elements = elements; octets = c.args.octets }) c.args.lister.now _ _ r)
 
 pub returns-in-Ok-eq0-clause-goes : goal.returns-in-Ok-eq0-clause-goes
-returns-in-Ok-eq0-clause-goes g c = λ r.
+returns-in-Ok-eq0-clause-goes g c = λ elements r.
     let none = rw c.in-Ok-eq0.field-0-test at c.in-Ok-eq0.ensures.octets.0 in
     let end : (c.in-Ok-eq0.field-0 == 0) ≡ true = grind (arith, nat_tests, c.in-Ok-eq0.field-0-test) in
-    let w = went_ended c.loop-left.lister _ _ _ _ _ c.loop-left.left c.read.new.buf c.loop-left.invariant.0 (c.loop-left.invariant.5 r) none in
-    (c.in-Ok-eq0.ensures.end ∙ end, w.0, w.1, w.2)
+    let room : 0 < length c.read.new.buf = omega (arith, c.read.auto.buf, length-take c.min-room.result c.loop-left.buf) in
+    let w = went_ended (record { elements = elements; octets = c.args.octets }) c.loop-left.lister _ _ _ _ _ c.loop-left.left c.read.new.buf c.loop-left.invariant.0 (c.loop-left.invariant.5 elements r) none in
+    (c.in-Ok-eq0.ensures.end ∙ end, c.in-Ok-eq0.ensures.octets.1 c.in-Ok-eq0.field-0-test room, (w.0, w.1, w.2))
 
 pub returns-in-Some-clause-goes : goal.returns-in-Some-clause-goes
-returns-in-Some-clause-goes g c = λ r.
-    let on = c.loop-left.invariant.5 r in
+returns-in-Some-clause-goes g c = λ elements r.
+    let on = c.loop-left.invariant.5 elements r in
     let some : c.in-Ok.n ≤ length c.read.new.buf = omega (arith, c.in-Ok.ensures.within, c.read.auto.buf, length-take c.min-room.result c.loop-left.buf) in
     let few : c.in-Ok.n ≤ c.loop-left.left = omega (arith, c.in-Ok.ensures.within, c.read.auto.buf, length-take c.min-room.result c.loop-left.buf) in
-    passed_some c.loop-left.lister c.pass.new.lister _ _ _ _ _ _ c.loop-left.left on c.read.new.buf _ c.in-Ok.n some few c.in-Ok.ensures.octets.0 c.in-Some.ending _ _ _ _ _ _ c.loop-left.invariant.4 (c.in-Some.ensures.passes on.went.octets on.went.frames on.went.rest on.went.heads on.went.reads (short_piece c.read.new.buf _ c.in-Ok.n (omega (arith, c.in-Ok.ensures.within, c.read.auto.buf, length-take c.min-room.result c.loop-left.buf))))
+    passed_some (record { elements = elements; octets = c.args.octets }) c.loop-left.lister c.pass.new.lister _ _ _ _ _ _ c.loop-left.left on c.read.new.buf _ c.in-Ok.n some few c.in-Ok.ensures.octets.0 c.in-Some.ending _ _ _ _ _ _ c.loop-left.invariant.4 (c.in-Some.ensures.passes elements on.went.octets on.went.frames on.went.rest on.went.heads on.went.reads (short_piece c.read.new.buf _ c.in-Ok.n (omega (arith, c.in-Ok.ensures.within, c.read.auto.buf, length-take c.min-room.result c.loop-left.buf))))
 
 pub loop-left-preserved : goal.loop-left-preserved
 loop-left-preserved g c =
@@ -30,19 +31,19 @@ loop-left-preserved g c =
       omega (arith, c.in-Ok.ensures.counted, c.in-Ok.ensures.within, c.read.auto.buf, length-take c.min-room.result c.loop-left.buf),
       omega arith,
       omega arith,
-      λ r.
-          let on = c.loop-left.invariant.5 r in
+      λ elements r.
+          let on = c.loop-left.invariant.5 elements r in
           let some : c.in-Ok.n ≤ length c.read.new.buf = omega (arith, c.in-Ok.ensures.within, c.read.auto.buf, length-take c.min-room.result c.loop-left.buf) in
           let few : c.in-Ok.n ≤ c.loop-left.left = omega (arith, c.in-Ok.ensures.within, c.read.auto.buf, length-take c.min-room.result c.loop-left.buf) in
-          passed_none c.loop-left.lister c.pass.new.lister _ _ _ _ _ _ c.loop-left.left on c.read.new.buf _ c.in-Ok.n some few c.in-Ok.ensures.octets.0 0 0 (c.in_default.ensures.passes on.went.octets on.went.frames on.went.rest on.went.heads on.went.reads (short_piece c.read.new.buf _ c.in-Ok.n (omega (arith, c.in-Ok.ensures.within, c.read.auto.buf, length-take c.min-room.result c.loop-left.buf)))),
+          passed_none (record { elements = elements; octets = c.args.octets }) c.loop-left.lister c.pass.new.lister _ _ _ _ _ _ c.loop-left.left on c.read.new.buf _ c.in-Ok.n some few c.in-Ok.ensures.octets.0 0 0 (c.in_default.ensures.passes elements on.went.octets on.went.frames on.went.rest on.went.heads on.went.reads (short_piece c.read.new.buf _ c.in-Ok.n (omega (arith, c.in-Ok.ensures.within, c.read.auto.buf, length-take c.min-room.result c.loop-left.buf)))),
     )
 
 pub returns-in-Err-clause-goes : goal.returns-in-Err-clause-goes
-returns-in-Err-clause-goes g c = λ r.
-    let w = went_fault c.loop-left.lister _ _ _ _ _ c.loop-left.left (c.loop-left.invariant.5 r) (Consumes-kept _ _ _ [] (Consumes-nil _) c.in-Err.ensures.octets) in
-    (rose_later _ _ _ c.loop-left.invariant.3 c.in-Err.ensures.failed, w.0, w.1)
+returns-in-Err-clause-goes g c = λ elements r.
+    let w = went_fault (record { elements = elements; octets = c.args.octets }) c.loop-left.lister _ _ _ _ _ c.loop-left.left (c.loop-left.invariant.5 elements r) (Consumes-kept _ _ _ [] (Consumes-nil _) c.in-Err.ensures.octets) in
+    (rose_later _ _ _ c.loop-left.invariant.3 c.in-Err.ensures.failed, (w.0, w.1))
 
 pub returns-clause-goes : goal.returns-clause-goes
-returns-clause-goes g c = λ r.
-    let on = c.loop-left.invariant.5 r in
-    (c.loop-left.invariant.1, on.went, omega (arith, on.counts))
+returns-clause-goes g c = λ elements r.
+    let on = c.loop-left.invariant.5 elements r in
+    (c.loop-left.invariant.1, refl, (on.went, omega (arith, on.counts)))

@@ -1,23 +1,36 @@
-use Rattle.beep_cmd.proofs.PassLemmas.{piece_fits, passed_on, passed_to, passed_short}
+use Rattle.beep_cmd.proofs.PassLemmas.{piece_fits, prefix_by, passed_on, passed_to, passed_first, passed_short}
 use Rattle.beep_cmd.proofs.show.pass.Goals as goal
 
-pub returns-in-Err-default-clause-passes : goal.returns-in-Err-default-clause-passes
-returns-in-Err-default-clause-passes g c = λ fed frames rest heads r small.
-    let prefix = rw c.in-Err-default.is-0 at c.write_all-written.ensures.prefix in
+pub returns-in-NoMemory-default-clause-passes : goal.returns-in-NoMemory-default-clause-passes
+returns-in-NoMemory-default-clause-passes g c = λ elements fed frames rest heads r small.
+    let written = rw c.as_slice.ensures at (prefix_by c.write_all-written.result _ _ _ c.write_all-written.ensures.appended c.write_all-written.ensures.prefix) in
+    let listed = rw c.in-NoMemory-default.is-0 at (c.list-listed.ensures.lists elements fed frames rest heads r.holds small (piece_fits elements c.args.lister.now fed frames rest heads c.args.piece.now r small)) in
+    (listed.asked, passed_first elements c.args.lister.now c.list-listed.new.self c.clear.new.self fed frames rest heads c.args.piece.now r c.list-listed.ensures.room c.clear.ensures.emptied c.clear.ensures.room _ _ listed written)
+
+pub returns-in-Broken-Ok-clause-passes : goal.returns-in-Broken-Ok-clause-passes
+returns-in-Broken-Ok-clause-passes g c = λ elements fed frames rest heads r small.
+    let appended = rw c.in-Broken-Ok.is-1 at c.write_all-written.ensures.appended in
+    let written = rw c.as_slice.ensures at appended in
+    let listed = rw c.in-Broken-Ok.is-0 at (c.list-listed.ensures.lists elements fed frames rest heads r.holds small (piece_fits elements c.args.lister.now fed frames rest heads c.args.piece.now r small)) in
+    passed_to elements c.args.lister.now c.list-listed.new.self c.clear.new.self fed frames rest heads c.args.piece.now r c.list-listed.ensures.room c.clear.ensures.emptied c.clear.ensures.room _ _ c.in-Broken-Ok.rule c.in-Broken-Ok.place listed written
+
+pub returns-in-Whole-Ok-clause-passes : goal.returns-in-Whole-Ok-clause-passes
+returns-in-Whole-Ok-clause-passes g c = λ elements fed frames rest heads r small.
+    let appended = rw c.in-Whole-Ok.is-1 at c.write_all-written.ensures.appended in
+    let written = rw c.as_slice.ensures at appended in
+    let listed = rw c.in-Whole-Ok.is-0 at (c.list-listed.ensures.lists elements fed frames rest heads r.holds small (piece_fits elements c.args.lister.now fed frames rest heads c.args.piece.now r small)) in
+    passed_on elements c.args.lister.now c.list-listed.new.self c.clear.new.self fed frames rest heads c.args.piece.now r c.list-listed.ensures.room c.clear.ensures.emptied c.clear.ensures.room _ _ listed written
+
+pub returns-in_default-Err-clause-passes : goal.returns-in_default-Err-clause-passes
+returns-in_default-Err-clause-passes g c = λ elements fed frames rest heads r small.
+    let prefix = rw c.in_default-Err.is-1 at c.write_all-written.ensures.prefix in
     let written = rw c.as_slice.ensures at prefix in
-    let listed = c.list-broken.ensures.lists fed frames rest heads r.holds (piece_fits c.args.lister.now fed frames rest heads c.args.piece.now r small) in
-    (rw c.in-Err-default.is-0 at c.write_all-written.ensures.failed, passed_short c.args.lister.now c.list-broken.new.self c.clear.new.self fed frames rest heads c.args.piece.now r c.list-broken.ensures.room c.clear.ensures.emptied c.clear.ensures.room _ _ c.list-broken.result listed written)
+    let listed = c.list-listed.ensures.lists elements fed frames rest heads r.holds small (piece_fits elements c.args.lister.now fed frames rest heads c.args.piece.now r small) in
+    (rw c.in_default-Err.is-1 at c.write_all-written.ensures.failed, passed_short elements c.args.lister.now c.list-listed.new.self c.clear.new.self fed frames rest heads c.args.piece.now r c.list-listed.ensures.room c.clear.ensures.emptied c.clear.ensures.room _ _ c.list-listed.result c.in_default-Err.not-NoMemory-0 listed written)
 
-pub returns-in-Ok-Some-clause-passes : goal.returns-in-Ok-Some-clause-passes
-returns-in-Ok-Some-clause-passes g c = λ fed frames rest heads r small.
-    let appended = rw c.in-Ok-Some.is-0 at c.write_all-written.ensures.appended in
-    let written = rw c.as_slice.ensures at appended in
-    let listed = rw c.in-Ok-Some.is-1 at (c.list-broken.ensures.lists fed frames rest heads r.holds (piece_fits c.args.lister.now fed frames rest heads c.args.piece.now r small)) in
-    passed_to c.args.lister.now c.list-broken.new.self c.clear.new.self fed frames rest heads c.args.piece.now r c.list-broken.ensures.room c.clear.ensures.emptied c.clear.ensures.room _ _ c.in-Ok-Some.rule c.in-Ok-Some.place listed written
-
-pub returns-in-Ok-None-clause-passes : goal.returns-in-Ok-None-clause-passes
-returns-in-Ok-None-clause-passes g c = λ fed frames rest heads r small.
-    let appended = rw c.in-Ok-None.is-0 at c.write_all-written.ensures.appended in
-    let written = rw c.as_slice.ensures at appended in
-    let listed = rw c.in-Ok-None.is-1 at (c.list-broken.ensures.lists fed frames rest heads r.holds (piece_fits c.args.lister.now fed frames rest heads c.args.piece.now r small)) in
-    passed_on c.args.lister.now c.list-broken.new.self c.clear.new.self fed frames rest heads c.args.piece.now r c.list-broken.ensures.room c.clear.ensures.emptied c.clear.ensures.room _ _ listed written
+pub returns-in_default-Err-2-clause-passes : goal.returns-in_default-Err-2-clause-passes
+returns-in_default-Err-2-clause-passes g c = λ elements fed frames rest heads r small.
+    let prefix = rw c.in_default-Err.is-1 at c.write_all-written.ensures.prefix in
+    let written = rw c.as_slice.ensures at prefix in
+    let listed = c.list-listed.ensures.lists elements fed frames rest heads r.holds small (piece_fits elements c.args.lister.now fed frames rest heads c.args.piece.now r small) in
+    (rw c.in_default-Err.is-1 at c.write_all-written.ensures.failed, passed_short elements c.args.lister.now c.list-listed.new.self c.clear.new.self fed frames rest heads c.args.piece.now r c.list-listed.ensures.room c.clear.ensures.emptied c.clear.ensures.room _ _ c.list-listed.result c.in_default-Err.not-NoMemory-0 listed written)
