@@ -1,4 +1,5 @@
-//! The program `beep`: it makes the real source and sink, makes one call, and hands on its status.
+//! The program `beep`: it makes the real source and sink, makes one call, hands on its status, and says
+//! on standard error what a status but 0 means.
 #![tactic(auto)]
 
 use beep_cmd::beep_run;
@@ -8,26 +9,53 @@ use std::env::{self, Env};
 use std::io::{self, ErrorKind};
 use std::process::ExitCode;
 
-/// The status for want of memory, before a command is known.
+/// The status where memory runs out before a command is known.
 const NO_MEMORY: u8 = 7;
 
 fn main(rt: HostRuntime) -> ExitCode {
     let words = match words_of(&rt) {
         Ok(words) => words,
-        Err(e) if e.kind() == ErrorKind::OutOfMemory => return ExitCode::from(NO_MEMORY),
+        Err(e) if e.kind() == ErrorKind::OutOfMemory => return ended(&rt, NO_MEMORY),
         // A word that is no text is no command, as no word at all.
         Err(_) => Vec::new(rt.alloc()),
     };
     let mut input = StdSource::new(rt.stdin());
     let mut output = StdSink::new(rt.stdout());
-    ExitCode::from(beep_run(rt.alloc(), words.as_slice(), &mut input, &mut output))
+    let status = beep_run(rt.alloc(), words.as_slice(), &mut input, &mut output);
+    ended(&rt, status)
 }
 
-/// The words behind the program's name.
+/// The words after the program's name.
 fn words_of<R: Env + Alloc<A = Global>>(rt: &R) -> io::Result<Vec<String>> {
     let mut words = Vec::new(rt.alloc());
     for word in env::args(rt)?.skip(1) {
         words.push(word)?;
     }
     Ok(words)
+}
+
+/// Says what the status means, unless it is 0. Where that write fails nothing is left to be said.
+fn ended(rt: &HostRuntime, status: u8) -> ExitCode {
+    if status != 0 {
+        let meaning = meaning_of(status);
+        let _ = eprintln!(rt; "beep: {meaning}");
+    }
+    ExitCode::from(status)
+}
+
+/// What a status but 0 means (docs/COMMANDS.md).
+fn meaning_of(status: u8) -> &'static str {
+    match status {
+        1 =>
+            "the words are no command; there are: show [--elements yes|no] [--octets 1..4294967295]; replay",
+        2 =>
+            "the input is no record, or what was written breaks a rule, at the place in the last line",
+        3 => "what was read breaks a rule of BEEP, at the octet that the last line names",
+        4 => "the input couldn't be read",
+        5 => "the output couldn't be written",
+        7 => "out of memory",
+        9 => "the input ended within a frame",
+        11 => "as many octets were read as --octets says, and the input didn't show its end",
+        _ => "the run failed",
+    }
 }

@@ -12,8 +12,10 @@ use Rattle.beep_frame.specs.Stream.{Stream, IsAlive, IsWithin, BreaksBy}
 use Rattle.beep_frame.specs.Line.{at_head, at_seq}
 use Rattle.beep_frame.proofs.StreamLemmas.{same_frame, same_line, parted, tail_of}
 use Rattle.beep_frame.proofs.LawLemmas.{stays_alive, is_one_reading}
+use Rattle.beep_wires.specs.Counts.{Rose}
+use Rattle.beep_wires.specs.States.{SourceState}
 use Rattle.beep_cmd.specs.declared.words.Settings.{Settings}
-use Rattle.beep_cmd.specs.Show.{IsRead, IsPlain, NoFault, Run, Shown, whole, broken, read_fault, write_fault, no_memory, cut, spent}
+use Rattle.beep_cmd.specs.Show.{IsRead, IsPlain, NoFault, IsReport, whole, broken, read_fault, cut, spent, Run, Shown, report, write_fault, no_memory}
 
 -- ---- no header of whole frames has a size above their limit
 
@@ -26,7 +28,7 @@ some_frame (framed h payload) more e = omega (arith, ap length e, length-append 
 some_frame (seq_frame s) more e = omega (arith, ap length e, length-append (seq_line s ++ line_end) more, length-append (seq_line s) line_end)
 
 -- the first frame of octets that begin with a header has that header
-first_size : (head : Head) (max : ℕ) (g : Frame) (x y : List ℕ) → IsHead head → IsFrame g → IsWithin max g → max < head.size → header head ++ x ≡ spelling g ++ y → ⊥
+pub first_size : (head : Head) (max : ℕ) (g : Frame) (x y : List ℕ) → IsHead head → IsFrame g → IsWithin max g → max < head.size → header head ++ x ≡ spelling g ++ y → ⊥
 unfolding zeros
 first_size head max (framed h payload) x y is_head is_frame small large e =
     let line = same_line (zeros head) (framed h payload) x (tail_of (framed h payload) ++ y) (is_head, length-replicate head.size 0) is_frame (e ∙ sym (parted (framed h payload) y)) in
@@ -72,38 +74,39 @@ module _ (octets : List ℕ) (frames : List Frame) (r : IsRead octets frames [])
 -- ---- the run
 
 -- what was read is the beginning of what there was to read
-read_first : (octets read : List ℕ) (left after : Option (List ℕ)) → left ≡ Some octets → Consumes left after read → (others : List ℕ) × (octets ≡ read ++ others) × (after ≡ Some others)
+pub read_first : (octets read : List ℕ) (left after : Option (List ℕ)) → left ≡ Some octets → Consumes left after read → (others : List ℕ) × (octets ≡ read ++ others) × (after ≡ Some others)
 read_first octets read None after e c = let two : None ≡ Some octets = e in absurd (cc)
 read_first octets read (Some xs) None e c = absurd c
 read_first octets read (Some xs) (Some ys) e c = let same : xs ≡ octets = cc in (ys, sym same ∙ c, refl)
 
 -- behind the end nothing is left
-at_end : (after : Option (List ℕ)) (others : List ℕ) → after ≡ Some others → IsAtEnd after → others ≡ []
+pub at_end : (after : Option (List ℕ)) (others : List ℕ) → after ≡ Some others → IsAtEnd after → others ≡ []
 at_end None others e end = let two : None ≡ Some others = e in absurd (cc)
 at_end (Some ys) others e end = let same : ys ≡ others = cc in sym same ∙ end
 
-complete : (settings : Settings) (octets : List ℕ) (run : Run) (status : ℕ) → run.left ≡ Some octets → IsPlain settings octets → NoFault run → Shown settings status run → (status ≡ 0) ⊎ (status ≡ 7)
-complete settings octets run status e p n (whole s ended sees) = inl s
-complete settings octets run status e p n (broken s sees) =
-    let b = sees.holds in
-    let all = read_first octets sees.octets run.left run.left_after e sees.consumed in
+-- a report of a whole input is that of whole frames
+complete_report : (settings : Settings) (octets read text : List ℕ) (from to : SourceState) (status : ℕ) → from.left ≡ Some octets → IsPlain settings octets → (Rose from.faults to.faults → ⊥) → Consumes from.left to.left read → IsReport settings from to read text status → status ≡ 0
+complete_report settings octets read text from to status e p n c (whole s ended w) = s
+complete_report settings octets read text from to status e p n c (broken s b) =
+    let all = read_first octets read from.left to.left e c in
     let octets_are : octets ≡ (b.before ++ b.octet ∷ []) ++ (b.others ++ all.0) = all.1 ∙ ap (λ x. x ++ all.0) b.octets_are ∙ append_assoc b.before (b.octet ∷ b.others) all.0 ∙ sym (append_assoc b.before (b.octet ∷ []) (b.others ++ all.0)) in
     absurd (unbroken octets p.frames p.read b.rule b.before b.octet (b.others ++ all.0) b.frames b.rest octets_are b.read b.breaks)
-complete settings octets run status e p n (read_fault s rose sees) = absurd (n.read rose)
+complete_report settings octets read text from to status e p n c (read_fault s rose f) = absurd (n rose)
+complete_report settings octets read text from to status e p n c (cut s ended k) =
+    let all = read_first octets read from.left to.left e c in
+    let none : all.0 ≡ [] = at_end to.left all.0 all.2 ended.1 in
+    let same : read ≡ octets = sym (append-nil read) ∙ ap (λ x. read ++ x) (sym none) ∙ sym all.1 in
+    absurd (uncut octets p.frames p.read k.frames k.rest (subst (λ x. IsRead x k.frames k.rest) same k.read) k.some)
+complete_report settings octets read text from to status e p n c (spent s ended w) =
+    let all = read_first octets read from.left to.left e c in
+    absurd (omega (arith, p.fewer, w.all, ap length all.1, length-append read all.0))
+
+pub complete : (settings : Settings) (octets : List ℕ) (run : Run) (status : ℕ) → run.source.left ≡ Some octets → IsPlain settings octets → NoFault run → Shown settings status run → (status ≡ 0) ⊎ (status ≡ 7)
+complete settings octets run status e p n (report sees) =
+    inl (complete_report settings octets sees.octets sees.text run.source run.source_after status e p n.read sees.consumed sees.holds)
 complete settings octets run status e p n (write_fault s rose sees) = absurd (n.write rose)
 complete settings octets run status e p n (no_memory s sees) = inr s
-complete settings octets run status e p n (cut s ended sees) =
-    let c = sees.holds in
-    let all = read_first octets sees.octets run.left run.left_after e sees.consumed in
-    let none : all.0 ≡ [] = at_end run.left_after all.0 all.2 ended.1 in
-    let same : sees.octets ≡ octets = sym (append-nil sees.octets) ∙ ap (λ x. sees.octets ++ x) (sym none) ∙ sym all.1 in
-    absurd (uncut octets p.frames p.read c.frames c.rest (subst (λ x. IsRead x c.frames c.rest) same c.read) c.some)
-complete settings octets run status e p n (spent s ended sees) =
-    let all = read_first octets sees.octets run.left run.left_after e sees.consumed in
-    absurd (omega (arith, p.fewer, sees.holds.all, ap length all.1, length-append sees.octets all.0))
 
--- the same of the settings that were read from the words
-pub complete_as : (taken settings : Settings) (octets : List ℕ) (run : Run) (status : ℕ) → Some taken ≡ Some settings → run.left ≡ Some octets → IsPlain settings octets → NoFault run → Shown taken status run → (status ≡ 0) ⊎ (status ≡ 7)
-complete_as taken settings octets run status e left plain no_fault shown =
-    let same : settings ≡ taken = cc in
-    complete taken octets run status left (subst (λ s. IsPlain s octets) same plain) no_fault shown
+-- what a run with equal settings reports
+pub shown_as : (taken settings : Settings) (status : ℕ) (run : Run) → taken ≡ settings → Shown taken status run → Shown settings status run
+shown_as taken settings status run same shown = subst (λ s. Shown s status run) same shown

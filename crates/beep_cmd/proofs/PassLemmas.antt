@@ -1,15 +1,15 @@
 -- What one piece made of the lister, the lines and the output.
-use Rattle.std.proofs.Common.{◌≡◌, ℕ, ◌+◌, ◌≤◌, Bool, List, [], ◌∷◌, ◌++◌, length, Option, inl, inr, ap, sym, ◌∙◌, arith, subst, refl, append_assoc, append-nil, length-append}
+use Rattle.std.proofs.Common.{◌≡◌, ℕ, ◌+◌, ◌≤◌, Bool, List, [], ◌∷◌, ◌++◌, length, Option, Some, None, ap, sym, ◌∙◌, arith, subst, refl, append_assoc, append-nil, length-append}
 use Rattle.std.specs.Io.KnownBytes.{Appends}
 use Rattle.std.specs.declared.result.Result.{Result}
 use Rattle.std.specs.declared.result.Result.TheVariants.{Ok, Err}
 use Rattle.std.specs.Result.{OnOk, OnErr}
 use Rattle.beep_frame.specs.declared.head.Head.{Head}
 use Rattle.beep_frame.specs.declared.rule.Rule.{Rule}
-use Rattle.beep_frame.specs.Held.{Held, KeepsRoom}
-use Rattle.beep_frame.specs.Frame.{Frame, IsHead}
+use Rattle.beep_octets.specs.Held.{Held, KeepsRoom}
+use Rattle.beep_frame.specs.Frame.{Frame}
 use Rattle.beep_frame.specs.Spelling.{header_line, line_end}
-use Rattle.beep_frame.specs.Laws.{TellsHead}
+use Rattle.beep_frame.specs.Stream.{IsHeadOf}
 use Rattle.beep_frame.proofs.LawLemmas.{means, length-header_line}
 use Rattle.beep_wires.specs.Transfer.{AppendsPrefix}
 use Rattle.beep_cmd.specs.declared.listing.Lister.{Lister}
@@ -17,30 +17,27 @@ use Rattle.beep_cmd.specs.declared.listing.Listed.{Listed}
 use Rattle.beep_cmd.specs.declared.listing.TheConstants.{PIECE}
 use Rattle.beep_cmd.specs.Listing.{Gathers, Adds, Holds, Lists, ListsTo, ListsFirst, ListsAs, Reads, IsClear}
 use Rattle.beep_cmd.specs.Passing.{BreaksIn, all_of, up_to, Writes, BeginsToWrite, PassedOn, PassedTo, PassedShort, PassedFirst}
-use Rattle.beep_cmd.proofs.ListingLemmas.{short_rest, read_of}
+use Rattle.beep_cmd.proofs.ListingLemmas.{read_of}
+use Rattle.beep_frame.specs.Fed.{fed_of}
 
-line_by : (octets : List ℕ) (whole : Bool) (rest : List ℕ) (heads : List Head) → Gathers octets whole rest heads → TellsHead rest heads → length octets ≤ 62
-line_by octets whole rest [] g t = omega (arith, short_rest rest t, ap length g.1)
-line_by octets whole rest (head ∷ heads) g (inl w) = let e : head ∷ heads ≡ [] = w.0 in absurd (cc)
-line_by octets whole rest (head ∷ heads) g (inr w) =
-    let both : head ∷ heads ≡ w.0 ∷ [] = w.1 in
-    let same : head ≡ w.0 = cc in
-    let is_head : IsHead head = subst IsHead (sym same) w.2.is_head in
-    omega (arith, ap length g.1, length-append (header_line head) line_end, length-header_line head is_head)
+line_by : (octets : List ℕ) (whole : Bool) (rest : List ℕ) (known : Option Head) → Gathers octets whole rest known → IsHeadOf rest known → length octets ≤ 62
+line_by octets whole rest None g w = omega (arith, w.short, ap length g.1)
+line_by octets whole rest (Some head) g w =
+    omega (arith, ap length g.1, length-append (header_line head) line_end, length-header_line head w.is_head)
 
 -- the line that is gathered finds room beside a piece
-line_le : (elements : Bool) (l : Lister) (fed : List ℕ) (frames : List Frame) (rest : List ℕ) (heads : List Head) → Holds elements l fed frames rest heads → length l.line.octets ≤ 62
-line_le elements l fed frames rest heads h = line_by l.line.octets l.has_head rest heads h.gathers (means l.decoder fed frames rest heads h.stands).tells
+line_le : (elements : Bool) (l : Lister) (fed : List ℕ) (frames : List Frame) (rest : List ℕ) (known : Option Head) → Holds elements l (fed_of fed frames rest known) → length l.line.octets ≤ 62
+line_le elements l fed frames rest known h = line_by l.line.octets l.has_head rest known h.gathers (means l.decoder fed frames rest known h.stands).is_head
 
-pub piece_fits : (elements : Bool) (l : Lister) (fed : List ℕ) (frames : List Frame) (rest : List ℕ) (heads : List Head) (piece : List ℕ) → Reads elements l fed frames rest heads → length piece ≤ PIECE → length l.line.octets + length piece ≤ l.out.spare
-piece_fits elements l fed frames rest heads piece r small = omega (arith, line_le elements l fed frames rest heads r.holds, r.clear.room)
+pub piece_fits : (elements : Bool) (l : Lister) (fed : List ℕ) (frames : List Frame) (rest : List ℕ) (known : Option Head) (piece : List ℕ) → Reads elements l (fed_of fed frames rest known) → length piece ≤ PIECE → length l.line.octets + length piece ≤ l.out.spare
+piece_fits elements l fed frames rest known piece r small = omega (arith, line_le elements l fed frames rest known r.holds, r.clear.room)
 
 -- what was written begins the piece, whether the write failed or not
 pub prefix_by : {E : Type 0} (r : Result (Unit {0}) E) (old new : Option (List ℕ)) (text : List ℕ) → OnOk r (Appends old new text) → OnErr r (AppendsPrefix old new text) → AppendsPrefix old new text
 prefix_by (Ok x) old new text a b = (text, [], sym (append-nil text), a)
 prefix_by (Err e) old new text a b = b
 
-module _ (elements : Bool) (l mid : Lister) (out : Held) (fed : List ℕ) (frames : List Frame) (rest : List ℕ) (heads : List Head) (piece : List ℕ) (r : Reads elements l fed frames rest heads) (room : KeepsRoom l.out mid.out) (cleared : out.octets ≡ []) (spare : mid.out.spare + length mid.out.octets ≤ out.spare) (old_text new_text : Option (List ℕ)) where
+module _ (elements : Bool) (l mid : Lister) (out : Held) (fed : List ℕ) (frames : List Frame) (rest : List ℕ) (known : Option Head) (piece : List ℕ) (r : Reads elements l (fed_of fed frames rest known)) (room : KeepsRoom l.out mid.out) (cleared : out.octets ≡ []) (spare : mid.out.spare + length mid.out.octets ≤ out.spare) (old_text new_text : Option (List ℕ)) where
   -- the lines are those of the frames that came
   lines : (more : List Frame) (a : Adds elements frames more l.out.octets mid.out.octets) → mid.out.octets ≡ a.text
   lines more a = a.written ∙ ap (λ x. x ++ a.text) r.clear.none
@@ -57,8 +54,8 @@ module _ (elements : Bool) (l mid : Lister) (out : Held) (fed : List ℕ) (frame
   pub passed_on : Lists elements l mid fed frames piece → Appends old_text new_text mid.out.octets → PassedOn elements (record mid { out = out }) fed frames piece old_text new_text
   passed_on w a =
       let h = w.holds in
-      let holds : Holds elements (record mid { out = out }) (fed ++ piece) (frames ++ w.more) w.rest w.heads = record { stands = h.stands; max = h.max; gathers = h.gathers; room = h.room; frames_are = h.frames_are; elements_are = h.elements_are; message = h.message } in
-      record { more = w.more; rest = w.rest; heads = w.heads; reads = record { holds = holds; clear = is_clear }; writes = writes w.more w.adds a }
+      let holds : Holds elements (record mid { out = out }) (fed_of (fed ++ piece) (frames ++ w.more) w.rest w.known) = record { stands = h.stands; max = h.max; gathers = h.gathers; room = h.room; frames_are = h.frames_are; elements_are = h.elements_are; message = h.message } in
+      record { more = w.more; rest = w.rest; known = w.known; reads = record { holds = holds; clear = is_clear }; writes = writes w.more w.adds a }
 
   breaks_in : (rule : Rule) (place : ℕ) (w : ListsTo rule place elements l mid fed frames piece) → BreaksIn (fed ++ piece) (frames ++ w.more) rule place
   breaks_in rule place w =
@@ -74,7 +71,7 @@ module _ (elements : Bool) (l mid : Lister) (out : Held) (fed : List ℕ) (frame
   -- a write failed, and no memory was wanting
   pub passed_short : (listed : Listed) → (listed ≡ Listed.NoMemory → ⊥) → ListsAs listed elements l mid fed frames piece → AppendsPrefix old_text new_text mid.out.octets → PassedShort elements fed frames piece old_text new_text
   passed_short Listed.Whole other w a =
-      record { more = w.more; frames_of = all_of w.rest (read_of elements mid (fed ++ piece) (frames ++ w.more) w.rest w.heads w.holds); begins = begins w.more w.adds a }
+      record { more = w.more; frames_of = all_of w.rest (read_of elements mid (fed ++ piece) (frames ++ w.more) w.rest w.known w.holds); begins = begins w.more w.adds a }
   passed_short (Listed.Broken rule place) other w a =
       record { more = w.more; frames_of = up_to rule place (breaks_in rule place w); begins = begins w.more w.adds a }
   passed_short Listed.NoMemory other w a = absurd (other refl)

@@ -1,60 +1,114 @@
--- The words that the program takes: a command, then options with their values, in any order and each at most once.
--- The code compares texts; here a word is the list of its octets.
-use Rattle.std.specs.Prelude.{ℕ, ◌^◌, Bool, true, false, ◌&&◌, ◌||◌, nat_le, nat_lt, Option, Some, None, List, [], ◌∷◌, codes, bytes_eq, if◌then◌else◌}
+-- The words that the program takes: a command, then options with their values, in any order, each once at most.
+-- Here the words are the texts of what is chosen; the code goes over the words that it is given.
+use Rattle.std.specs.Prelude.{◌≡◌, ℕ, ◌≤◌, ◌⊎◌, Bool, true, false, List, [], ◌∷◌, codes, bytes_eq, if◌then◌else◌}
 use Rattle.std.specs.Fmt.{decimal}
-use Rattle.std.specs.Str.Parse.{digits_value}
+use Rattle.std.specs.List.{flat_map, AllByRecursion}
 use Rattle.beep_cmd.specs.declared.words.Settings.{Settings}
-use Rattle.beep_cmd.specs.declared.words.TheConstants.{OCTETS}
-
--- the settings without options
-abbrev pub default_settings : Settings
-default_settings = record { elements = false; octets = OCTETS }
+use Rattle.beep_cmd.specs.declared.words.Command.{Command}
+use Rattle.beep_cmd.specs.declared.words.TheConstants.{OCTETS, MIN_OCTETS, MAX_OCTETS}
 
 -- ---- values
 
--- `yes` or `no`
-abbrev pub choice_in : List ℕ → Option Bool
-choice_in value = if bytes_eq value (codes "yes") then Some true else (if bytes_eq value (codes "no") then Some false else None)
+-- what an option is set to
+pub data Value : Type 0 where
+  choice : Bool → Value
+  number : ℕ → Value
 
--- the number whose decimal text this is, from 1 to 2^32 - 1
-abbrev pub number_in : List ℕ → Option ℕ
-number_in value =
-    let n = digits_value 10 value in
-    if bytes_eq value (decimal n) && nat_le 1 n && nat_lt n (2 ^ 32) then Some n else None
+-- the word of a value: yes or no, or the number in decimal
+abbrev pub word_of : Value → List ℕ
+word_of (choice true) = codes "yes"
+word_of (choice false) = codes "no"
+word_of (number n) = decimal n
+
+-- the values that an option takes
+pub data Form : Type 0 where
+  yes_or_no : Form
+  from_to : ℕ → ℕ → Form
+
+-- the value is of this form
+abbrev pub IsOf : Form → Value → Type 0
+IsOf yes_or_no (choice chosen) = Unit {0}
+IsOf yes_or_no (number n) = ⊥
+IsOf (from_to least most) (choice chosen) = ⊥
+IsOf (from_to least most) (number n) = (least ≤ n) × (n ≤ most)
 
 -- ---- options
 
-abbrev pub with_elements : Settings → Option Bool → Option Settings
-with_elements settings None = None
-with_elements settings (Some choice) = Some (record settings { elements = choice })
+-- an option: its word, the form of its values, and its value where it isn't set
+pub record OptionRow : Type 0 where
+  pub name : List ℕ
+  pub form : Form
+  pub default : Value
 
-abbrev pub with_octets : Settings → Option ℕ → Option Settings
-with_octets settings None = None
-with_octets settings (Some n) = Some (record settings { octets = n })
+-- an option is set to a value
+pub record Chosen : Type 0 where
+  pub name : List ℕ
+  pub value : Value
 
--- the settings with this option set to this value
-abbrev pub with_option : Settings → List ℕ → List ℕ → Option Settings
-with_option settings option value =
-    if bytes_eq option (codes "--elements") then with_elements settings (choice_in value)
-    else (if bytes_eq option (codes "--octets") then with_octets settings (number_in value) else None)
+-- the words of an option that is set
+abbrev pub words_of : Chosen → List (List ℕ)
+words_of chosen = chosen.name ∷ word_of chosen.value ∷ []
 
--- the option is one of those among these words
-abbrev pub is_among : List ℕ → List (List ℕ) → Bool
-is_among option [] = false
-is_among option (other ∷ []) = false
-is_among option (other ∷ value ∷ words) = bytes_eq other option || is_among option words
+-- one of these options has this name, and a value of its form
+abbrev pub IsTaken : List OptionRow → Chosen → Type 0
+IsTaken [] chosen = ⊥
+IsTaken (row ∷ rows) chosen = ((chosen.name ≡ row.name) × IsOf row.form chosen.value) ⊎ IsTaken rows chosen
 
--- the settings with these options and their values
-abbrev pub chosen : Option Settings → List (List ℕ) → Option Settings
-chosen None words = None
-chosen (Some settings) [] = Some settings
-chosen (Some settings) (option ∷ []) = None
-chosen (Some settings) (option ∷ value ∷ words) =
-    chosen (if is_among option words then None else with_option settings option value) words
+-- the option of this name is set
+abbrev pub IsSet : List ℕ → List Chosen → Type 0
+IsSet name [] = ⊥
+IsSet name (chosen ∷ others) = (name ≡ chosen.name) ⊎ IsSet name others
 
--- ---- the command
+-- no option is set twice
+abbrev pub AreDistinct : List Chosen → Type 0
+AreDistinct [] = Unit {0}
+AreDistinct (chosen ∷ others) = (IsSet chosen.name others → ⊥) × AreDistinct others
 
--- the settings of `show`, where the words are that command
-abbrev pub settings_of : List (List ℕ) → Option Settings
-settings_of [] = None
-settings_of (command ∷ words) = if bytes_eq command (codes "show") then chosen (Some default_settings) words else None
+-- the value that an option is set to, and otherwise its own
+abbrev pub value_in : List ℕ → Value → List Chosen → Value
+value_in name default [] = default
+value_in name default (chosen ∷ others) = if bytes_eq chosen.name name then chosen.value else value_in name default others
+
+abbrev pub value_of : OptionRow → List Chosen → Value
+value_of row chosen = value_in row.name row.default chosen
+
+-- ---- commands
+
+-- the words are a command's with these of its options set
+pub record AreWords (command : List ℕ) (rows : List OptionRow) (chosen : List Chosen) (words : List (List ℕ)) : Type 0 where
+  pub each : AllByRecursion (IsTaken rows) chosen
+  pub distinct : AreDistinct chosen
+  pub words_are : words ≡ command ∷ flat_map words_of chosen
+
+-- whether the elements of channel zero are listed
+abbrev pub elements_option : OptionRow
+elements_option = record { name = codes "--elements"; form = yes_or_no; default = choice false }
+
+-- how many octets are read at most
+abbrev pub octets_option : OptionRow
+octets_option = record { name = codes "--octets"; form = from_to MIN_OCTETS MAX_OCTETS; default = number OCTETS }
+
+-- the options of `show`
+abbrev pub show_options : List OptionRow
+show_options = elements_option ∷ octets_option ∷ []
+
+-- the words are `show` with these settings
+pub record IsShow (settings : Settings) (words : List (List ℕ)) : Type 0 where
+  pub chosen : List Chosen
+  pub are_words : AreWords (codes "show") show_options chosen words
+  pub elements : choice settings.elements ≡ value_of elements_option chosen
+  pub octets : number settings.octets ≡ value_of octets_option chosen
+
+-- the words are `replay`, which has no options
+pub record IsReplay (words : List (List ℕ)) : Type 0 where
+  pub chosen : List Chosen
+  pub are_words : AreWords (codes "replay") [] chosen words
+
+-- the words are this command
+abbrev pub IsCommand : Command → List (List ℕ) → Type 0
+IsCommand (Command.Show settings) words = IsShow settings words
+IsCommand Command.Replay words = IsReplay words
+
+-- the words are no command
+abbrev pub IsNoCommand : List (List ℕ) → Type 0
+IsNoCommand words = (command : Command) → IsCommand command words → ⊥

@@ -2,12 +2,12 @@
 use Rattle.std.specs.Prelude.{◌≡◌, ℕ, ◌+◌, ◌-◌, ◌<◌, ◌≤◌, ◌&&◌, take, Bool, true, false, fold, Option, Some, None, List, [], ◌∷◌, ◌++◌, length}
 use Rattle.beep_frame.specs.declared.head.Head.{Head}
 use Rattle.beep_frame.specs.declared.rule.Rule.{Rule}
-use Rattle.beep_frame.specs.Held.{Held, KeepsRoom}
+use Rattle.beep_octets.specs.Held.{Held, KeepsRoom}
 use Rattle.beep_frame.specs.declared.step.Step.{Step}
 use Rattle.beep_frame.specs.Frame.{Frame, framed}
 use Rattle.beep_frame.specs.Spelling.{header}
-use Rattle.beep_frame.specs.Told.{told}
-use Rattle.beep_frame.specs.Stands.{Stands}
+use Rattle.beep_frame.specs.Modulo.{modulo_2_64}
+use Rattle.beep_frame.specs.Decoding.{WasFed}
 use Rattle.beep_cmd.specs.declared.listing.Lister.{Lister}
 use Rattle.beep_cmd.specs.declared.listing.Listed.{Listed}
 use Rattle.beep_cmd.specs.declared.zero.Zero.{Zero}
@@ -17,11 +17,12 @@ use Rattle.beep_cmd.specs.Texts.{IsElementLine, message_with, ends_message, gath
 use Rattle.beep_frame.specs.Stream.{BreaksBy}
 use Rattle.beep_cmd.specs.Zero.{HoldsZero}
 use Rattle.beep_cmd.specs.Show.{IsRead}
+use Rattle.beep_frame.specs.Fed.{Fed, fed_of}
 
 -- the line that was gathered of a frame: the octets so far, and then its whole header
-abbrev pub Gathers : List ℕ → Bool → List ℕ → List Head → Type 0
-Gathers line whole rest [] = (whole ≡ false) × (line ≡ rest)
-Gathers line whole rest (head ∷ heads) = (whole ≡ true) × (line ≡ header head)
+abbrev pub Gathers : List ℕ → Bool → List ℕ → Option Head → Type 0
+Gathers line whole rest None = (whole ≡ false) × (line ≡ rest)
+Gathers line whole rest (Some head) = (whole ≡ true) × (line ≡ header head)
 
 -- octets were added to the line while it wasn't a whole header
 pub record Gathered (old new : Held) (whole : Bool) (taken : List ℕ) : Type 0 where
@@ -73,7 +74,7 @@ pub record EndsFrame (line : Held) (old new : Lister) : Type 0 where
   pub decoder : new.decoder ≡ old.decoder
   pub ends : EndsLine line old.out new.line new.out
   pub has_head : new.has_head ≡ false
-  pub frames : new.frames ≡ told (old.frames + 1)
+  pub frames : new.frames ≡ modulo_2_64 (old.frames + 1)
   pub zero : new.zero ≡ old.zero
   pub element : new.element ≡ old.element
 
@@ -98,7 +99,7 @@ pub record ListsMessage (old new : Lister) : Type 0 where
   pub room : HasRoom old.zero old new
   pub spare : old.out.spare ≤ new.out.spare
   pub says : (fed : List ℕ) (frames : List Frame) (head : Head) (payload before : List ℕ)
-      → Stands old.decoder fed (frames ++ framed head payload ∷ []) [] [] → HasMessage old.zero before → SaysWith (framed head payload) before old new
+      → WasFed old.decoder (fed_of fed (frames ++ framed head payload ∷ []) [] None) → HasMessage old.zero before → SaysWith (framed head payload) before old new
 
 -- one line more, and what stands beside it, of a data frame behind these payloads of channel zero
 pub record EndsWith (f : Frame) (before : List ℕ) (old new : Lister) : Type 0 where
@@ -112,13 +113,13 @@ pub record EndsWith (f : Frame) (before : List ℕ) (old new : Lister) : Type 0 
 pub record EndsData (old new : Lister) : Type 0 where
   pub decoder : new.decoder ≡ old.decoder
   pub has_head : new.has_head ≡ false
-  pub frames : new.frames ≡ told (old.frames + 1)
+  pub frames : new.frames ≡ modulo_2_64 (old.frames + 1)
   pub elements : lists_elements new.zero ≡ lists_elements old.zero
   pub cleared : new.line.octets ≡ []
   pub line_room : KeepsRoom old.line new.line
   pub fits : (k : ℕ) → k ≤ PIECE → length old.line.octets ≤ LINE_ROOM → 2 ≤ length old.line.octets → length old.line.octets + k ≤ old.out.spare → k ≤ new.out.spare
   pub ends : (fed : List ℕ) (frames : List Frame) (head : Head) (payload before : List ℕ)
-      → Stands old.decoder fed (frames ++ framed head payload ∷ []) [] [] → HasMessage old.zero before → EndsWith (framed head payload) before old new
+      → WasFed old.decoder (fed_of fed (frames ++ framed head payload ∷ []) [] None) → HasMessage old.zero before → EndsWith (framed head payload) before old new
 
 -- what a step does to a lister
 abbrev pub Follows : Step → Lister → Lister → List ℕ → Type 0
@@ -130,15 +131,15 @@ Follows (Step.Broken rule place) old new taken = new ≡ old
 
 -- ---- over a piece
 
--- the lister was given these octets, which are these frames and this rest
-pub record Holds (elements : Bool) (l : Lister) (fed : List ℕ) (frames : List Frame) (rest : List ℕ) (heads : List Head) : Type 0 where
-  pub stands : Stands l.decoder fed frames rest heads
+-- the lister was given what was fed to its decoder
+pub record Holds (elements : Bool) (l : Lister) (fed : Fed) : Type 0 where
+  pub stands : WasFed l.decoder fed
   pub max : l.decoder.tracker.max ≡ MAX_PAYLOAD
-  pub gathers : Gathers l.line.octets l.has_head rest heads
+  pub gathers : Gathers l.line.octets l.has_head fed.rest fed.head
   pub room : LINE_ROOM ≤ length l.line.octets + l.line.spare
-  pub frames_are : l.frames ≡ told (length frames)
+  pub frames_are : l.frames ≡ modulo_2_64 (length fed.frames)
   pub elements_are : lists_elements l.zero ≡ elements
-  pub message : HasMessage l.zero (gathered frames)
+  pub message : HasMessage l.zero (gathered fed.frames)
 
 -- these frames came behind those, and their lines were added
 pub record Adds (elements : Bool) (frames more : List Frame) (old new : List ℕ) : Type 0 where
@@ -150,8 +151,8 @@ pub record Adds (elements : Bool) (frames more : List Frame) (old new : List ℕ
 pub record Lists (elements : Bool) (old new : Lister) (fed : List ℕ) (frames : List Frame) (piece : List ℕ) : Type 0 where
   pub more : List Frame
   pub rest : List ℕ
-  pub heads : List Head
-  pub holds : Holds elements new (fed ++ piece) (frames ++ more) rest heads
+  pub known : Option Head
+  pub holds : Holds elements new (fed_of (fed ++ piece) (frames ++ more) rest known)
   pub adds : Adds elements frames more old.out.octets new.out.octets
 
 -- a piece was listed up to an octet at which the stream breaks a rule
@@ -162,7 +163,7 @@ pub record ListsTo (rule : Rule) (place : ℕ) (elements : Bool) (old new : List
   pub octet : ℕ
   pub others : List ℕ
   pub piece_is : piece ≡ before ++ octet ∷ others
-  pub place_is : place ≡ told (length (fed ++ before))
+  pub place_is : place ≡ modulo_2_64 (length (fed ++ before))
   pub read : IsRead (fed ++ before) (frames ++ more) rest
   pub breaks : BreaksBy rule MAX_PAYLOAD (fed ++ before) (frames ++ more) octet
   pub adds : Adds elements frames more old.out.octets new.out.octets
@@ -194,7 +195,7 @@ pub record IsClear (l : Lister) : Type 0 where
   pub none : l.out.octets ≡ []
   pub room : OUT_ROOM ≤ l.out.spare
 
--- the lister was given these octets, and their lines were written
-pub record Reads (elements : Bool) (l : Lister) (fed : List ℕ) (frames : List Frame) (rest : List ℕ) (heads : List Head) : Type 0 where
-  pub holds : Holds elements l fed frames rest heads
+-- the lister was given so much, and its lines were written
+pub record Reads (elements : Bool) (l : Lister) (fed : Fed) : Type 0 where
+  pub holds : Holds elements l fed
   pub clear : IsClear l

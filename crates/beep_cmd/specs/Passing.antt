@@ -1,20 +1,22 @@
 -- What `show` has read and written after each read, and at the end of its reading, for its proofs.
-use Rattle.std.specs.Prelude.{◌≡◌, ℕ, ◌+◌, ◌≤◌, Bool, true, false, Option, Some, None, List, [], ◌∷◌, ◌++◌, length}
-use Rattle.std.specs.Io.KnownBytes.{Appends, Consumes, IsAtEnd}
+use Rattle.std.specs.Prelude.{◌≡◌, ℕ, ◌+◌, ◌<◌, ◌≤◌, Bool, true, false, Option, Some, None, List, [], ◌∷◌, ◌++◌, length}
+use Rattle.std.specs.Io.KnownBytes.{Appends, Consumes}
 use Rattle.beep_frame.specs.declared.head.Head.{Head}
 use Rattle.beep_frame.specs.declared.rule.Rule.{Rule}
 use Rattle.beep_frame.specs.Frame.{Frame}
 use Rattle.beep_frame.specs.Stream.{BreaksBy}
-use Rattle.beep_frame.specs.Told.{told}
+use Rattle.beep_frame.specs.Modulo.{modulo_2_64}
 use Rattle.beep_wires.specs.Counts.{Rose}
+use Rattle.beep_wires.specs.States.{SourceState, SinkState}
 use Rattle.beep_wires.specs.Transfer.{AppendsPrefix}
 use Rattle.beep_cmd.specs.declared.words.Settings.{Settings}
 use Rattle.beep_cmd.specs.declared.listing.Lister.{Lister}
 use Rattle.beep_cmd.specs.declared.ending.Ending.{Ending}
 use Rattle.beep_frame.specs.declared.limits.TheConstants.{MAX_PAYLOAD}
 use Rattle.beep_cmd.specs.Texts.{AreLines}
-use Rattle.beep_cmd.specs.Show.{IsRead}
+use Rattle.beep_cmd.specs.Show.{IsRead, HasEnded}
 use Rattle.beep_cmd.specs.Listing.{Reads, IsClear, gathered}
+use Rattle.beep_frame.specs.Fed.{fed_of}
 
 -- an octet of these breaks the rule, behind these frames
 pub record BreaksIn (octets : List ℕ) (frames : List Frame) (rule : Rule) (place : ℕ) : Type 0 where
@@ -23,7 +25,7 @@ pub record BreaksIn (octets : List ℕ) (frames : List Frame) (rule : Rule) (pla
   pub octet : ℕ
   pub others : List ℕ
   pub octets_are : octets ≡ before ++ octet ∷ others
-  pub place_is : place ≡ told (length before)
+  pub place_is : place ≡ modulo_2_64 (length before)
   pub read : IsRead before frames rest
   pub breaks : BreaksBy rule MAX_PAYLOAD before frames octet
 
@@ -56,8 +58,8 @@ pub record BeginsToWrite (elements : Bool) (frames more : List Frame) (old new :
 pub record PassedOn (elements : Bool) (new : Lister) (fed : List ℕ) (frames : List Frame) (piece : List ℕ) (written_old written_new : Option (List ℕ)) : Type 0 where
   pub more : List Frame
   pub rest : List ℕ
-  pub heads : List Head
-  pub reads : Reads elements new (fed ++ piece) (frames ++ more) rest heads
+  pub known : Option Head
+  pub reads : Reads elements new (fed_of (fed ++ piece) (frames ++ more) rest known)
   pub writes : Writes elements frames more written_old written_new
 
 -- a piece breaks a rule, and the lines before were written
@@ -80,17 +82,17 @@ pub record PassedFirst (elements : Bool) (fed : List ℕ) (frames : List Frame) 
   pub begins : BeginsToWrite elements frames more written_old written_new
 
 -- what one piece did
-abbrev pub Passes : Option Ending → Bool → Lister → List ℕ → List Frame → List ℕ → Option (List ℕ) → Option (List ℕ) → ℕ → ℕ → Type 0
-Passes None elements new fed frames piece old_text new_text old_faults new_faults = PassedOn elements new fed frames piece old_text new_text
-Passes (Some (Ending.Ended n)) elements new fed frames piece old_text new_text old_faults new_faults = ⊥
-Passes (Some (Ending.Spent n)) elements new fed frames piece old_text new_text old_faults new_faults = ⊥
-Passes (Some Ending.ReadFault) elements new fed frames piece old_text new_text old_faults new_faults = ⊥
-Passes (Some Ending.WriteFault) elements new fed frames piece old_text new_text old_faults new_faults =
-    Rose old_faults new_faults × PassedShort elements fed frames piece old_text new_text
-Passes (Some Ending.NoMemory) elements new fed frames piece old_text new_text old_faults new_faults =
-    (elements ≡ true) × PassedFirst elements fed frames piece old_text new_text
-Passes (Some (Ending.Broken rule place)) elements new fed frames piece old_text new_text old_faults new_faults =
-    PassedTo rule place elements new fed frames piece old_text new_text
+abbrev pub Passes : Option Ending → Bool → Lister → List ℕ → List Frame → List ℕ → SinkState → SinkState → Type 0
+Passes None elements new fed frames piece before after = PassedOn elements new fed frames piece before.written after.written
+Passes (Some (Ending.Ended n)) elements new fed frames piece before after = ⊥
+Passes (Some (Ending.Spent n)) elements new fed frames piece before after = ⊥
+Passes (Some Ending.ReadFault) elements new fed frames piece before after = ⊥
+Passes (Some Ending.WriteFault) elements new fed frames piece before after =
+    Rose before.faults after.faults × PassedShort elements fed frames piece before.written after.written
+Passes (Some Ending.NoMemory) elements new fed frames piece before after =
+    (elements ≡ true) × PassedFirst elements fed frames piece before.written after.written
+Passes (Some (Ending.Broken rule place)) elements new fed frames piece before after =
+    PassedTo rule place elements new fed frames piece before.written after.written
 
 -- ---- the whole reading
 
@@ -99,8 +101,8 @@ pub record Went (elements : Bool) (new : Lister) (left_old left_new written_old 
   pub octets : List ℕ
   pub frames : List Frame
   pub rest : List ℕ
-  pub heads : List Head
-  pub reads : Reads elements new octets frames rest heads
+  pub known : Option Head
+  pub reads : Reads elements new (fed_of octets frames rest known)
   pub consumed : Consumes left_old left_new octets
   pub writes : Writes elements [] frames written_old written_new
 
@@ -128,28 +130,23 @@ pub record WentFirst (settings : Settings) (left_old left_new written_old writte
   pub octets : List ℕ
   pub frames : List Frame
   pub first_of : FirstOf octets frames
+  pub few : length octets ≤ settings.octets
   pub consumed : Consumes left_old left_new octets
   pub begins : BeginsToWrite settings.elements [] frames written_old written_new
 
--- a count before a call and after it
-pub record Counts : Type 0 where
-  pub old : ℕ
-  pub new : ℕ
-
-abbrev pub counts : ℕ → ℕ → Counts
-counts old new = record { old = old; new = new }
-
 -- what the reading did, by what ended it
-abbrev pub Goes : Ending → Settings → Lister → Option (List ℕ) → Option (List ℕ) → Option (List ℕ) → Option (List ℕ) → Bool → Counts → Counts → Type 0
-Goes (Ending.Ended n) settings new a b s t ended reads writes =
-    (ended ≡ true) × IsAtEnd b × ((w : Went settings.elements new a b s t) × (n ≡ length w.octets) × (n ≤ settings.octets))
-Goes (Ending.Spent n) settings new a b s t ended reads writes =
-    (ended ≡ false) × (n ≡ settings.octets) × ((w : Went settings.elements new a b s t) × (length w.octets ≡ settings.octets))
-Goes Ending.ReadFault settings new a b s t ended reads writes =
-    Rose reads.old reads.new × ((w : Went settings.elements new a b s t) × (length w.octets ≤ settings.octets))
-Goes Ending.WriteFault settings new a b s t ended reads writes = Rose writes.old writes.new × WentShort settings a b s t
-Goes Ending.NoMemory settings new a b s t ended reads writes = (settings.elements ≡ true) × WentFirst settings a b s t
-Goes (Ending.Broken rule place) settings new a b s t ended reads writes = WentTo rule place settings new a b s t
+abbrev pub Goes : Ending → Settings → Lister → SourceState → SourceState → SinkState → SinkState → Type 0
+Goes (Ending.Ended n) settings new from to before after =
+    HasEnded to × ((w : Went settings.elements new from.left to.left before.written after.written) × (n ≡ length w.octets) × (n < settings.octets))
+Goes (Ending.Spent n) settings new from to before after =
+    (to.ended ≡ false) × (n ≡ settings.octets) × ((w : Went settings.elements new from.left to.left before.written after.written) × (length w.octets ≡ settings.octets))
+Goes Ending.ReadFault settings new from to before after =
+    Rose from.faults to.faults × ((w : Went settings.elements new from.left to.left before.written after.written) × (length w.octets < settings.octets))
+Goes Ending.WriteFault settings new from to before after =
+    Rose before.faults after.faults × WentShort settings from.left to.left before.written after.written
+Goes Ending.NoMemory settings new from to before after =
+    (settings.elements ≡ true) × WentFirst settings from.left to.left before.written after.written
+Goes (Ending.Broken rule place) settings new from to before after = WentTo rule place settings new from.left to.left before.written after.written
 
 -- so many octets may still be read
 pub record GoesOn (settings : Settings) (new : Lister) (a b s t : Option (List ℕ)) (may : ℕ) : Type 0 where

@@ -1,4 +1,4 @@
--- What `show` writes: a line for each frame, and a last line.
+-- What is written: for `show` a line for each frame, and a last line; the last lines of `replay`.
 -- The code keeps no frame: it hands on the octets of each header as they came.
 use Rattle.std.specs.Prelude.{◌≡◌, ℕ, ◌<◌, ◌≤◌, ◌==◌, Bool, true, false, ◌&&◌, not, List, [], ◌∷◌, ◌++◌, length, codes, if◌then◌else◌}
 use Rattle.std.specs.Fmt.{decimal}
@@ -23,16 +23,16 @@ frame_line (seq_frame seq) = seq_line seq ++ 10 ∷ []
 abbrev pub indented : List ℕ → List ℕ
 indented text = 32 ∷ 32 ∷ text ++ 10 ∷ []
 
--- what is told of a message of channel zero: the canonical element of what it says, or that it says nothing, or that it is too long
-pub data IsTold (message text : List ℕ) : Type 0 where
-  element : (form : Form) → length message ≤ MAX_TEXT → Says message form → text ≡ element_text (element_as form) → IsTold message text
-  unreadable : length message ≤ MAX_TEXT → ((form : Form) → Says message form → ⊥) → text ≡ codes "unreadable" → IsTold message text
-  too_long : MAX_TEXT < length message → text ≡ codes "too long" → IsTold message text
+-- what is shown of a message of channel zero: the canonical element of what it says, or that it says nothing, or that it is too long
+pub data IsMessageText (message text : List ℕ) : Type 0 where
+  element : (form : Form) → length message ≤ MAX_TEXT → Says message form → text ≡ element_text (element_as form) → IsMessageText message text
+  unreadable : length message ≤ MAX_TEXT → ((form : Form) → Says message form → ⊥) → text ≡ codes "unreadable" → IsMessageText message text
+  too_long : MAX_TEXT < length message → text ≡ codes "too long" → IsMessageText message text
 
 -- its line
 pub record IsElementLine (message line : List ℕ) : Type 0 where
   pub text : List ℕ
-  pub is_told : IsTold message text
+  pub is_text : IsMessageText message text
   pub line_is : line ≡ indented text
 
 -- the payload of a data frame of channel zero, behind those that came before it
@@ -115,6 +115,18 @@ rule_name Rule.TooManyAnswers = codes "TooManyAnswers"
 rule_name Rule.BadAck = codes "BadAck"
 rule_name Rule.ZeroReply = codes "ZeroReply"
 
--- a stream that breaks a rule at an octet
+-- a label, and the rule that an octet breaks
+abbrev pub rule_line : List ℕ → Rule → ℕ → List ℕ
+rule_line label rule place = label ++ rule_name rule ++ 32 ∷ decimal place ++ 10 ∷ []
+
+-- a stream, or what a peer sent, that breaks a rule at an octet
 abbrev pub broken_line : Rule → ℕ → List ℕ
-broken_line rule place = codes "! broken " ++ rule_name rule ++ 32 ∷ decimal place ++ 10 ∷ []
+broken_line rule place = rule_line (codes "! broken ") rule place
+
+-- what the recorded end wrote breaks a rule at an octet
+abbrev pub written_line : Rule → ℕ → List ℕ
+written_line rule place = rule_line (codes "! written ") rule place
+
+-- an input that isn't what is read, from an octet on
+abbrev pub bad_line : ℕ → List ℕ
+bad_line place = codes "! bad " ++ decimal place ++ 10 ∷ []

@@ -1,10 +1,10 @@
 -- What is kept of the message of channel zero under way, and the line that is made of it, for proofs.
 use Rattle.std.specs.Prelude.{◌≡◌, ℕ, ◌+◌, ◌<◌, ◌≤◌, Bool, true, false, List, ◌++◌, length}
 use Rattle.beep_text.specs.declared.limits.TheConstants.{MAX_TEXT}
-use Rattle.beep_frame.specs.Held.{Held}
+use Rattle.beep_octets.specs.Held.{Held}
 use Rattle.beep_frame.specs.Frame.{Frame}
 use Rattle.beep_cmd.specs.declared.zero.Zero.{Zero}
-use Rattle.beep_cmd.specs.Texts.{IsTold, IsElementLine, message_with, ends_message, gathers}
+use Rattle.beep_cmd.specs.Texts.{IsMessageText, IsElementLine, message_with, ends_message, gathers}
 
 -- the octets are the message, or it is too long
 abbrev pub HoldsBy : Bool → List ℕ → List ℕ → Type 0
@@ -16,10 +16,10 @@ pub record HoldsZero (zero : Zero) (message : List ℕ) : Type 0 where
   pub holds : HoldsBy zero.long zero.payload.octets message
   pub room : MAX_TEXT ≤ length zero.payload.octets + zero.payload.spare
 
--- what is told of a message was appended
-pub record AppendsTold (message : List ℕ) (old new : Held) : Type 0 where
+-- what is shown of a message was appended
+pub record AppendsMessage (message : List ℕ) (old new : Held) : Type 0 where
   pub text : List ℕ
-  pub is_told : IsTold message text
+  pub is_text : IsMessageText message text
   pub appended : new.octets ≡ old.octets ++ text
 
 -- the line of a message was appended

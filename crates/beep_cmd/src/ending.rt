@@ -2,8 +2,9 @@
 ghost use Rattle.std.specs.Prelude.{◌≡◌, ◌≤◌, ◌++◌};
 ghost use Rattle.beep_cmd.specs.LastLine.{status_of, last_line};
 
-use crate::text::{append_broken, append_numbered, append_totals};
-use beep_frame::{Octets, Rule};
+use crate::text::{LAST_ROOM, append_broken, append_numbered, append_totals};
+use beep_frame::Rule;
+use beep_octets::Octets;
 
 /// What ended the reading.
 #[derive(Clone, Copy, Debug, PartialEq, Eq)]
@@ -22,10 +23,11 @@ pub(crate) enum Ending {
     Broken(Rule, u64),
 }
 
-/// Appends the last line of an ending, at most 64 octets, where it finds room, and answers its status.
+/// Appends the last line of an ending, where it finds room, and answers its status.
 pub(crate) fn append_last(out: &mut Octets, ending: Ending, frames: u64, left: u64) -> u8
     ensures status { result ≡ status_of ending left }
-    ensures appended { 64 ≤ out.old.spare → out.new.octets ≡ out.old.octets ++ last_line ending frames left }
+    ensures appended { LAST_ROOM ≤ out.old.spare
+        → out.new.octets ≡ out.old.octets ++ last_line ending frames left }
 {
     match ending {
         Ending::Ended(octets) if left == 0 => {

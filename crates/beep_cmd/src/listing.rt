@@ -1,18 +1,17 @@
 //! A list of the frames of a stream: one line for each, gathered as its header comes, and where that is
 //! asked for one more for what each message of channel zero says.
-ghost use Rattle.std.specs.Prelude.{◌≡◌, ◌+◌, ◌≤◌, ◌++◌, ℕ, Bool, true, List, [], ◌∷◌, length, IfOk, OnOk, OnErr};
-ghost use Rattle.beep_frame.specs.Frame.{Frame, framed};
-ghost use Rattle.beep_frame.specs.Held.{KeepsRoom};
-ghost use Rattle.beep_frame.specs.Stands.{Stands};
-ghost use Rattle.beep_frame.specs.declared.head.Head.{Head as header_type};
+ghost use Rattle.std.specs.Prelude.{◌≡◌, ◌+◌, ◌≤◌, Bool, true, length, IfOk, OnOk, OnErr};
+ghost use Rattle.beep_octets.specs.Held.{KeepsRoom};
+ghost use Rattle.beep_frame.specs.Fed.{Fed, nothing_fed};
 ghost use Rattle.beep_cmd.specs.Listing.{Gathered, EndsLine};
 
 use crate::zero::Zero;
-use beep_frame::{Decoder, MAX_PAYLOAD, NoMemory, Octets, Rule, Step};
+use beep_frame::{Decoder, MAX_HEADER, MAX_PAYLOAD, Rule, Step};
+use beep_octets::{NoMemory, Octets};
 use std::alloc::Global;
 
 /// The longest header with its CRLF, in octets (RFC 3080, section 2.2.1).
-pub(crate) const LINE_ROOM: usize = 62;
+pub(crate) const LINE_ROOM: usize = MAX_HEADER;
 
 /// How many octets are read at once, at most.
 pub(crate) const PIECE: usize = 4096;
@@ -55,7 +54,7 @@ impl Lister {
 
     /// A lister that was given nothing. It takes all the memory that it will need without elements.
     pub(crate) fn new(alloc: Global, elements: bool) -> Result<Lister, NoMemory>
-        ensures { IfOk result (λ lister. Reads elements lister [] [] [] []) }
+        ensures { IfOk result (λ lister. Reads elements lister nothing_fed) }
     {
         let decoder = Decoder::new(alloc, MAX_PAYLOAD)?;
         let mut line = Octets::new(alloc);
@@ -80,10 +79,10 @@ impl Lister {
 
     /// Lists the frames that are whole with this piece.
     pub(crate) fn list(&mut self, piece: &[u8]) -> Listed
-        ensures lists { (elements : Bool) (fed : List ℕ) (frames : List Frame) (rest : List ℕ) (heads : List header_type)
-            → Holds elements self.old fed frames rest heads → length piece.now ≤ PIECE
+        ensures lists { (elements : Bool) (fed : Fed) → Holds elements self.old fed
+            → length piece.now ≤ PIECE
             → length self.old.line.octets + length piece.now ≤ self.old.out.spare
-            → ListsAs result elements self.old self.new fed frames piece.now }
+            → ListsAs result elements self.old self.new fed.octets fed.frames piece.now }
         ensures room { KeepsRoom self.old.out self.new.out }
     {
         let mut at = 0;
@@ -103,7 +102,8 @@ impl Lister {
     fn follow(&mut self, step: Step, taken: &[u8]) -> Result<(), NoMemory>
         requires whole { step ≡ Step.Frame → self.old.decoder.whole ≡ true }
         ensures ok { OnOk result (Follows step self.old self.new taken.now) }
-        ensures err { OnErr result ((self.new.out.octets ≡ self.old.out.octets) × (lists_elements self.old.zero ≡ true)) }
+        ensures err { OnErr result ((self.new.out.octets ≡ self.old.out.octets)
+            × (lists_elements self.old.zero ≡ true)) }
         ensures room { KeepsRoom self.old.out self.new.out }
     {
         match step {
@@ -126,7 +126,8 @@ impl Lister {
     fn end_data(&mut self) -> Result<(), NoMemory>
         requires whole { self.old.decoder.whole ≡ true }
         ensures ok { OnOk result (EndsData self.old self.new) }
-        ensures err { OnErr result ((self.new.out.octets ≡ self.old.out.octets) × (lists_elements self.old.zero ≡ true)) }
+        ensures err { OnErr result ((self.new.out.octets ≡ self.old.out.octets)
+            × (lists_elements self.old.zero ≡ true)) }
         ensures room { KeepsRoom self.old.out self.new.out }
     {
         self.list_message()?;
@@ -139,7 +140,8 @@ impl Lister {
     fn list_message(&mut self) -> Result<(), NoMemory>
         requires whole { self.old.decoder.whole ≡ true }
         ensures ok { OnOk result (ListsMessage self.old self.new) }
-        ensures err { OnErr result ((self.new.out.octets ≡ self.old.out.octets) × (lists_elements self.old.zero ≡ true)) }
+        ensures err { OnErr result ((self.new.out.octets ≡ self.old.out.octets)
+            × (lists_elements self.old.zero ≡ true)) }
         ensures room { KeepsRoom self.old.out self.new.out }
     {
         self.element.clear();
@@ -160,7 +162,7 @@ impl Lister {
     }
 }
 
-/// Adds octets to a line that isn't a whole header. They find room: no line has more than 62.
+/// Adds octets to a line that isn't a whole header. They find room: no line is longer than a header.
 fn gather(line: &mut Octets, whole: bool, taken: &[u8])
     ensures { Gathered line.old line.new whole taken.now }
 {

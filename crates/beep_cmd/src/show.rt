@@ -1,16 +1,17 @@
 //! The command `show`: the frames of its input, a line each, and what channel zero says.
-ghost use Rattle.std.specs.Prelude.{◌≡◌, ◌+◌, ◌^◌, ◌<◌, ◌≤◌, ℕ, Bool, false, Option, List, [], length};
-ghost use Rattle.beep_frame.specs.Frame.{Frame};
-ghost use Rattle.beep_frame.specs.declared.head.Head.{Head as header_type};
+ghost use Rattle.std.specs.Prelude.{◌≡◌, ◌+◌, ◌≤◌, Bool, false, length};
+ghost use Rattle.beep_frame.specs.Fed.{Fed, nothing_fed};
+ghost use Rattle.beep_wires.specs.States.{SourceState, SinkState};
 ghost use Rattle.beep_cmd.specs.Listing.{Reads};
-ghost use Rattle.beep_cmd.specs.Passing.{Passes, Goes, counts};
+ghost use Rattle.beep_cmd.specs.Passing.{Passes, Goes};
 ghost use Rattle.beep_cmd.specs.Show.{Shown, run_of};
 ghost use Rattle.beep_cmd.specs.declared.words.Settings.{Settings as settings_type};
+ghost use Rattle.beep_cmd.specs.declared.words.TheConstants.{MAX_OCTETS};
 
 use crate::ending::{Ending, append_last};
 use crate::listing::{Listed, Lister, PIECE};
 use crate::words::Settings;
-use beep_frame::NoMemory;
+use beep_octets::NoMemory;
 use beep_wires::{Failed, Sink, Source, write_all};
 use std::alloc::Global;
 
@@ -21,13 +22,12 @@ pub(crate) fn show<I: Source, O: Sink>(
     input: &mut I,
     output: &mut O,
 ) -> u8
-    requires going { I.ended input.old ≡ false }
-    ensures shown { Shown settings result (run_of (I.left input.old) (I.left input.new) (O.written output.old)
-        (O.written output.new) (I.ended input.new) (I.faults input.old) (I.faults input.new)
-        (O.faults output.old) (O.faults output.new)) }
+    requires going { (I.state input.old).ended ≡ false }
+    ensures shown { Shown settings result (run_of (I.state input.old) (I.state input.new)
+        (O.state output.old) (O.state output.new)) }
     ensures no_memory { result ≡ 7 → settings.elements ≡ false
         → (input.new ≡ input.old) × (output.new ≡ output.old) }
-    ensures reads { I.reads input.new ≤ I.reads input.old + (settings.octets + 1) }
+    ensures reads { (I.state input.new).reads ≤ (I.state input.old).reads + (settings.octets + 1) }
 {
     match Lister::new(alloc, settings.elements) {
         Ok(mut lister) => {
@@ -40,16 +40,17 @@ pub(crate) fn show<I: Source, O: Sink>(
 
 /// Writes the last line of an ending, and answers the status.
 fn finish<O: Sink>(lister: &mut Lister, ending: Ending, output: &mut O) -> u8
-    ensures finishes { (settings : settings_type) (a : Option (List ℕ)) (b : Option (List ℕ)) (s : Option (List ℕ)) (ended : Bool)
-        (f : ℕ) (g : ℕ) (h : ℕ) → settings.octets < 2 ^ 32 → h ≤ O.faults output.old
-        → Goes ending settings lister.old a b s (O.written output.old) ended (counts f g) (counts h (O.faults output.old))
-        → Shown settings result (run_of a b s (O.written output.new) ended f g h (O.faults output.new)) }
+    ensures finishes { (settings : settings_type) (from to : SourceState) (before : SinkState)
+        → settings.octets ≤ MAX_OCTETS → before.faults ≤ (O.state output.old).faults
+        → Goes ending settings lister.old from to before (O.state output.old)
+        → Shown settings result (run_of from to before (O.state output.new)) }
     ensures answers { result ≡ 7 → ending ≡ Ending.NoMemory }
 {
-    match ending {
-        Ending::WriteFault => return 5,
-        Ending::NoMemory => return 7,
-        _ => {}
+    if let Ending::WriteFault = ending {
+        return 5;
+    }
+    if let Ending::NoMemory = ending {
+        return 7;
     }
     let left = lister.decoder.left();
     let status = append_last(&mut lister.out, ending, lister.frames, left);
@@ -66,13 +67,12 @@ pub(crate) fn list_input<I: Source, O: Sink>(
     input: &mut I,
     output: &mut O,
 ) -> Ending
-    requires going { I.ended input.old ≡ false }
-    ensures goes { (elements : Bool) → Reads elements lister.old [] [] [] []
-        → Goes result (record { elements = elements; octets = octets }) lister.new (I.left input.old) (I.left input.new)
-        (O.written output.old) (O.written output.new) (I.ended input.new)
-        (counts (I.faults input.old) (I.faults input.new)) (counts (O.faults output.old) (O.faults output.new)) }
-    ensures reads { I.reads input.new ≤ I.reads input.old + (octets + 1) }
-    ensures kept { O.faults output.old ≤ O.faults output.new }
+    requires going { (I.state input.old).ended ≡ false }
+    ensures goes { (elements : Bool) → Reads elements lister.old nothing_fed
+        → Goes result (record { elements = elements; octets = octets }) lister.new
+        (I.state input.old) (I.state input.new) (O.state output.old) (O.state output.new) }
+    ensures reads { (I.state input.new).reads ≤ (I.state input.old).reads + (octets + 1) }
+    ensures kept { (O.state output.old).faults ≤ (O.state output.new).faults }
 {
     let mut buf = [0; PIECE];
     let most = octets as usize;
@@ -95,10 +95,10 @@ pub(crate) fn list_input<I: Source, O: Sink>(
 
 /// Lists a piece and writes its lines. It answers what ends the reading, if anything does.
 fn pass<O: Sink>(lister: &mut Lister, piece: &[u8], output: &mut O) -> Option<Ending>
-    ensures passes { (elements : Bool) (fed : List ℕ) (frames : List Frame) (rest : List ℕ) (heads : List header_type)
-        → Reads elements lister.old fed frames rest heads → length piece.now ≤ PIECE
-        → Passes result elements lister.new fed frames piece.now (O.written output.old) (O.written output.new) (O.faults output.old) (O.faults output.new) }
-    ensures kept { O.faults output.old ≤ O.faults output.new }
+    ensures passes { (elements : Bool) (fed : Fed) → Reads elements lister.old fed
+        → length piece.now ≤ PIECE → Passes result elements lister.new fed.octets fed.frames
+        piece.now (O.state output.old) (O.state output.new) }
+    ensures kept { (O.state output.old).faults ≤ (O.state output.new).faults }
 {
     let listed = lister.list(piece);
     let written = write_all(output, lister.out.as_slice());

@@ -1,16 +1,26 @@
 //! Texts that are written into room that was taken before.
 ghost use Rattle.std.specs.Prelude.{◌≡◌, ◌+◌, ◌≤◌, ◌++◌, [], ◌∷◌, length};
 ghost use Rattle.std.specs.Fmt.{decimal};
-ghost use Rattle.beep_frame.specs.Held.{GrowsBy, KeepsRoom};
-ghost use Rattle.beep_cmd.specs.Texts.{rule_name, totals_line, broken_line};
+ghost use Rattle.beep_octets.specs.Held.{GrowsBy, KeepsRoom};
+ghost use Rattle.beep_cmd.specs.Texts.{rule_name, totals_line, rule_line, broken_line, written_line};
 
-use beep_frame::{Octets, Rule};
+use beep_frame::Rule;
+use beep_octets::Octets;
 use itoa::Buffer;
 
-/// Appends a number in decimal, at most 20 octets, where it finds room.
+/// The octets of a number of 64 bits in decimal, at most.
+const NUMBER_ROOM: usize = 20;
+
+/// The octets of a rule's name, at most.
+const NAME_ROOM: usize = 16;
+
+/// The octets of a last line, at most.
+pub(crate) const LAST_ROOM: usize = 64;
+
+/// Appends a number in decimal, where it finds room.
 fn append_number(out: &mut Octets, n: u64)
-    ensures appended { 20 ≤ out.old.spare → out.new.octets ≡ out.old.octets ++ decimal n }
-    ensures used { GrowsBy out.old out.new 20 }
+    ensures appended { NUMBER_ROOM ≤ out.old.spare → out.new.octets ≡ out.old.octets ++ decimal n }
+    ensures used { GrowsBy out.old out.new NUMBER_ROOM }
     ensures room { KeepsRoom out.old out.new }
 {
     let mut buffer = Buffer::new();
@@ -19,9 +29,9 @@ fn append_number(out: &mut Octets, n: u64)
 
 /// Appends a label and a number, where they find room.
 fn append_labelled(out: &mut Octets, label: &[u8], n: u64)
-    ensures appended { length label.now + 20 ≤ out.old.spare
+    ensures appended { length label.now + NUMBER_ROOM ≤ out.old.spare
         → out.new.octets ≡ (out.old.octets ++ label.now) ++ decimal n }
-    ensures used { GrowsBy out.old out.new (length label.now + 20) }
+    ensures used { GrowsBy out.old out.new (length label.now + NUMBER_ROOM) }
 {
     out.extend_within(label);
     append_number(out, n);
@@ -29,7 +39,7 @@ fn append_labelled(out: &mut Octets, label: &[u8], n: u64)
 
 /// Appends a line of a label and a number, where it finds room.
 pub(crate) fn append_numbered(out: &mut Octets, label: &[u8], n: u64)
-    ensures appended { length label.now + 21 ≤ out.old.spare
+    ensures appended { length label.now + NUMBER_ROOM + 1 ≤ out.old.spare
         → out.new.octets ≡ (out.old.octets ++ label.now ++ decimal n) ++ 10 ∷ [] }
 {
     append_labelled(out, label, n);
@@ -37,16 +47,33 @@ pub(crate) fn append_numbered(out: &mut Octets, label: &[u8], n: u64)
 }
 
 pub(crate) fn append_totals(out: &mut Octets, frames: u64, octets: u64)
-    ensures appended { 64 ≤ out.old.spare → out.new.octets ≡ out.old.octets ++ totals_line frames octets }
+    ensures appended { LAST_ROOM ≤ out.old.spare
+        → out.new.octets ≡ out.old.octets ++ totals_line frames octets }
 {
     append_labelled(out, b"frames ", frames);
     append_numbered(out, b" octets ", octets);
 }
 
 pub(crate) fn append_broken(out: &mut Octets, rule: Rule, place: u64)
-    ensures appended { 64 ≤ out.old.spare → out.new.octets ≡ out.old.octets ++ broken_line rule place }
+    ensures appended { LAST_ROOM ≤ out.old.spare
+        → out.new.octets ≡ out.old.octets ++ broken_line rule place }
 {
-    out.extend_within(b"! broken ");
+    append_rule(out, b"! broken ", rule, place);
+}
+
+pub(crate) fn append_written(out: &mut Octets, rule: Rule, place: u64)
+    ensures appended { LAST_ROOM ≤ out.old.spare
+        → out.new.octets ≡ out.old.octets ++ written_line rule place }
+{
+    append_rule(out, b"! written ", rule, place);
+}
+
+/// Appends a line of a label, a rule and a place, where it finds room.
+fn append_rule(out: &mut Octets, label: &[u8], rule: Rule, place: u64)
+    ensures appended { length label.now + NAME_ROOM + NUMBER_ROOM + 2 ≤ out.old.spare
+        → out.new.octets ≡ out.old.octets ++ rule_line label.now rule place }
+{
+    out.extend_within(label);
     out.extend_within(name_of(rule).as_bytes());
     append_numbered(out, b" ", place);
 }
@@ -54,7 +81,7 @@ pub(crate) fn append_broken(out: &mut Octets, rule: Rule, place: u64)
 /// The name that a rule is printed by.
 fn name_of(rule: Rule) -> &'static str
     ensures name { result.now ≡ rule_name rule }
-    ensures short { length result.now ≤ 16 }
+    ensures short { length result.now ≤ NAME_ROOM }
 {
     match rule {
         Rule::Header => "Header",

@@ -1,6 +1,9 @@
 //! The words of a command line (docs/COMMANDS.md).
-ghost use Rattle.std.specs.Prelude.{◌≡◌, Some, None, map, string_bytes, if◌then◌else◌};
-ghost use Rattle.beep_cmd.specs.CommandSet.{default_settings, choice_in, number_in, with_option, is_among, chosen, settings_of};
+ghost use Rattle.std.specs.Prelude.{◌≡◌, ◌↔◌, Some, None, map, string_bytes, if◌then◌else◌};
+ghost use Rattle.beep_cmd.specs.CommandSet.{IsShow, IsCommand};
+ghost use Rattle.beep_cmd.specs.Choosing.{choice_in, number_in, with_option, is_among, chosen_from, settings_in, is_replay};
+ghost use Rattle.beep_cmd.specs.declared.words.Settings.{Settings as settings_type};
+ghost use Rattle.beep_cmd.specs.declared.words.Command.{Command as command_type};
 
 use itoa::Buffer;
 
@@ -8,7 +11,13 @@ use itoa::Buffer;
 /// guard against an input that never ends.
 pub const OCTETS: u32 = 1073741824;
 
-/// What `show` is told by its options.
+/// The least number of octets that an option may have a command read at most.
+pub(crate) const MIN_OCTETS: u32 = 1;
+
+/// The greatest one, which is that of 32 bits.
+pub(crate) const MAX_OCTETS: u32 = 4294967295;
+
+/// What the options of `show` say.
 #[derive(Clone, Copy, Debug, PartialEq, Eq)]
 pub struct Settings {
     /// Whether the elements of channel zero are listed.
@@ -17,9 +26,49 @@ pub struct Settings {
     pub octets: u32,
 }
 
+/// A command, with what its options say.
+#[derive(Clone, Copy, Debug, PartialEq, Eq)]
+pub enum Command {
+    /// Lists the frames of a recorded stream.
+    Show(Settings),
+    /// Judges a recorded session.
+    Replay,
+}
+
+/// The command that the words are, where they are one.
+pub(crate) fn command_of(words: &[String]) -> Option<Command>
+    ensures { (command : command_type)
+        → ((result ≡ Some command) ↔ IsCommand command (map string_bytes words.now)) }
+{
+    if is_replay(words) {
+        return Some(Command::Replay);
+    }
+    match settings_of(words) {
+        Some(settings) => Some(Command::Show(settings)),
+        None => None,
+    }
+}
+
+fn is_replay(words: &[String]) -> bool
+    ensures { result ≡ is_replay (map string_bytes words.now) }
+{
+    match words {
+        [command] => command.as_str() == "replay",
+        _ => false,
+    }
+}
+
 /// The settings of `show`, where the words are that command.
-pub(crate) fn settings_of(words: &[String]) -> Option<Settings>
-    ensures { result ≡ settings_of (map string_bytes words.now) }
+fn settings_of(words: &[String]) -> Option<Settings>
+    ensures { (settings : settings_type)
+        → ((result ≡ Some settings) ↔ IsShow settings (map string_bytes words.now)) }
+{
+    settings_in(words)
+}
+
+/// Goes over the words of a command.
+fn settings_in(words: &[String]) -> Option<Settings>
+    ensures { result ≡ settings_in (map string_bytes words.now) }
 {
     match words {
         [command, options @ ..] if command.as_str() == "show" => {
@@ -27,21 +76,21 @@ pub(crate) fn settings_of(words: &[String]) -> Option<Settings>
                 elements: false,
                 octets: OCTETS,
             };
-            chosen(settings, options)
+            chosen_from(settings, options)
         }
         _ => None,
     }
 }
 
 /// The settings with these options and their values.
-fn chosen(settings: Settings, words: &[String]) -> Option<Settings>
-    ensures { result ≡ chosen (Some settings) (map string_bytes words.now) }
+fn chosen_from(settings: Settings, words: &[String]) -> Option<Settings>
+    ensures { result ≡ chosen_from (Some settings) (map string_bytes words.now) }
 {
     match words {
         [] => Some(settings),
         [option, value, others @ ..] => {
             match chosen_first(settings, option.as_str(), value.as_str(), others) {
-                Some(next) => chosen(next, others),
+                Some(next) => chosen_from(next, others),
                 None => None,
             }
         }
@@ -105,14 +154,14 @@ fn choice_in(value: &str) -> Option<bool>
     }
 }
 
-/// A number of at least 1, written as it is printed.
+/// A number in the range of `--octets`, written as it is printed.
 fn number_in(value: &str) -> Option<u32>
     ensures { result ≡ number_in value.now }
 {
     let Ok(number) = value.parse::<u32>() else {
         return None;
     };
-    if number == 0 {
+    if number < MIN_OCTETS {
         return None;
     }
     let mut buffer = Buffer::new();

@@ -2,11 +2,12 @@
 ghost use Rattle.std.specs.Prelude.{◌≡◌, ◌≢◌, ◌≤◌, ◌++◌, ℕ, List, [], length, codes, IfOk, OnOk};
 ghost use Rattle.beep_text.specs.declared.limits.TheConstants.{MAX_TEXT};
 ghost use Rattle.beep_frame.specs.Frame.{framed};
-ghost use Rattle.beep_cmd.specs.Zero.{HoldsZero, FollowsZero, AppendsLine, AppendsTold};
+ghost use Rattle.beep_cmd.specs.Zero.{HoldsZero, FollowsZero, AppendsLine, AppendsMessage};
 
-use beep_frame::{Head, NoMemory, Octets};
+use beep_frame::Head;
 use beep_mgmt::laws::a_message_that_says_a_value_is_read;
 use beep_mgmt::{MgmtError, read_mgmt, write_mgmt_element};
+use beep_octets::{NoMemory, Octets};
 use beep_text::MAX_TEXT;
 use std::alloc::Global;
 
@@ -55,7 +56,8 @@ impl Zero {
     }
 
     fn add(&mut self, octets: &[u8])
-        ensures { (before : List ℕ) → HoldsZero self.old before → HoldsZero self.new (before ++ octets.now) }
+        ensures { (before : List ℕ) → HoldsZero self.old before
+            → HoldsZero self.new (before ++ octets.now) }
     {
         if self.long || octets.len() > MAX_TEXT.saturating_sub(self.payload.len()) {
             self.long = true;
@@ -76,14 +78,14 @@ impl Zero {
             → AppendsLine message line.old line.new) }
     {
         line.extend(b"  ")?;
-        self.append_told(line)?;
+        self.append_message(line)?;
         line.extend(b"\n")
     }
 
     /// Appends what the message says, or that it says nothing or is too long.
-    fn append_told(&self, line: &mut Octets) -> Result<(), NoMemory>
+    fn append_message(&self, line: &mut Octets) -> Result<(), NoMemory>
         ensures { OnOk result ((message : List ℕ) → HoldsZero self.now message
-            → AppendsTold message line.old line.new) }
+            → AppendsMessage message line.old line.new) }
     {
         if self.long {
             return line.extend(b"too long");
@@ -94,7 +96,8 @@ impl Zero {
 
 /// Appends the canonical element of what a message says.
 fn append_said(message: &[u8], line: &mut Octets) -> Result<(), NoMemory>
-    ensures { OnOk result (length message.now ≤ MAX_TEXT → AppendsTold message.now line.old line.new) }
+    ensures { OnOk result (length message.now ≤ MAX_TEXT
+        → AppendsMessage message.now line.old line.new) }
 {
     a_message_that_says_a_value_is_read();
     match read_mgmt(line.alloc(), message) {

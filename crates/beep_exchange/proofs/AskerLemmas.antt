@@ -7,15 +7,15 @@ use Rattle.std.proofs.lemmas.Bool.Decides.{nat_tests}
 use Rattle.std.proofs.lemmas.List.{get_or-take, take-take}
 use Rattle.beep_frame.specs.declared.head.Head.{Head}
 use Rattle.beep_frame.specs.declared.kind.Kind.{Kind}
-use Rattle.beep_frame.specs.declared.journal.Side.{Side}
+use Rattle.beep_history.specs.declared.journal.Side.{Side}
 use Rattle.beep_frame.specs.Frame.{same_kind}
-use Rattle.beep_frame.specs.Journal.{Item}
-use Rattle.beep_frame.specs.Marks.{first, previous, Request, requests, latest, is_whole, reply, is_answered, waiting}
-use Rattle.beep_frame.specs.Broken.{under_way}
-use Rattle.beep_frame.proofs.AnswersLemmas.{has}
-use Rattle.beep_frame.proofs.ListsLemmas.{IsNumbered, find-below, earlier-waits}
-use Rattle.beep_frame.proofs.SoundLemmas.{IsAlike, IsUniform, IsApartFirst, is_open, Sound, requests-numbered, waiting-newest}
-use Rattle.beep_frame.proofs.UnbrokenLemmas.{min-less}
+use Rattle.beep_history.specs.Journal.{Item}
+use Rattle.beep_history.specs.Marks.{first, previous, Request, requests, latest, is_whole, reply, is_answered, waiting}
+use Rattle.beep_history.specs.Broken.{under_way}
+use Rattle.beep_history.proofs.AnswersLemmas.{has}
+use Rattle.beep_history.proofs.ListsLemmas.{IsNumbered, find-below, earlier-waits}
+use Rattle.beep_history.proofs.SoundLemmas.{IsAlike, IsUniform, IsApartFirst, is_open, Sound, requests-numbered, waiting-newest}
+use Rattle.beep_history.proofs.UnbrokenLemmas.{min-less}
 use Rattle.beep_exchange.specs.Kept.{is_current}
 use Rattle.beep_exchange.specs.Stands.{current, kept_of}
 use Rattle.beep_exchange.proofs.NumbersLemmas.{num, at, has-take, first-is, nth-is}

@@ -7,17 +7,17 @@ use Rattle.std.proofs.lemmas.List.{length-map}
 use Rattle.beep_frame.specs.declared.head.Head.{Head}
 use Rattle.beep_frame.specs.declared.kind.Kind.{Kind}
 use Rattle.beep_frame.specs.declared.rule.Rule.{Rule}
-use Rattle.beep_frame.specs.declared.journal.Side.{Side}
-use Rattle.beep_frame.specs.declared.limits.TheConstants.{MAX_REQUESTS, MAX_ANSWERS}
+use Rattle.beep_history.specs.declared.journal.Side.{Side}
+use Rattle.beep_history.specs.declared.limits.TheConstants.{MAX_REQUESTS, MAX_ANSWERS}
 use Rattle.beep_frame.specs.Frame.{is_ans, is_nul, is_reply}
-use Rattle.beep_frame.specs.Journal.{Item, other}
-use Rattle.beep_frame.specs.Marks.{first, Request, requests, latest, is_whole, reply, is_answered, waiting, named, reply_so_far, unfinished}
-use Rattle.beep_frame.specs.Broken as broken
-use Rattle.beep_frame.specs.Broken.{exchange_rule, IsUnbroken, breaks_never_asked, breaks_already_answered, breaks_out_of_turn}
-use Rattle.beep_frame.proofs.KeptLemmas.{after-true}
-use Rattle.beep_frame.proofs.ListsLemmas.{find-take}
-use Rattle.beep_frame.proofs.SoundLemmas.{Sound, some-of, at-some}
-use Rattle.beep_frame.proofs.PassedLemmas.{sound}
+use Rattle.beep_history.specs.Journal.{Item, other}
+use Rattle.beep_history.specs.Marks.{first, Request, requests, latest, is_whole, reply, is_answered, waiting, named, reply_so_far, unfinished}
+use Rattle.beep_history.specs.Broken as broken
+use Rattle.beep_history.specs.Broken.{exchange_rule, KeepsExchangeRules, breaks_never_asked, breaks_already_answered, breaks_out_of_turn}
+use Rattle.beep_history.proofs.KeptLemmas.{after-true}
+use Rattle.beep_history.proofs.ListsLemmas.{find-take}
+use Rattle.beep_history.proofs.SoundLemmas.{Sound, some-of, at-some}
+use Rattle.beep_history.proofs.PassedLemmas.{sound}
 use Rattle.beep_exchange.specs.Kept as kept
 use Rattle.beep_exchange.specs.Kept.{is_current, judged}
 use Rattle.beep_exchange.specs.Stands.{current, answer_of, kept_of}
@@ -38,7 +38,7 @@ nul-reply Kind.Err e = refl
 nul-reply Kind.Ans e = refl
 nul-reply Kind.Nul e = refl
 
-ans-reply : (kind : Kind) → is_ans kind ≡ true → is_reply kind ≡ true
+pub ans-reply : (kind : Kind) → is_ans kind ≡ true → is_reply kind ≡ true
 ans-reply Kind.Msg e = cc
 ans-reply Kind.Rpy e = refl
 ans-reply Kind.Err e = refl
@@ -92,7 +92,7 @@ module _ (side : Side) (past : List Item) (head : Head) (s : Sound (other side) 
       ∙ sym (at-some (λ (x : Request). list_any (λ (e : Request). nat_lt e.position x.position) (waiting (other side) past)) (named side past head) f.0 false f.1)
 
   -- the reply that goes on is the one to the oldest request that waits
-  frames-row : is_reply head.kind ≡ true → breaks_never_asked side past head ≡ false → breaks_already_answered side past head ≡ false
+  pub frames-row : is_reply head.kind ≡ true → breaks_never_asked side past head ≡ false → breaks_already_answered side past head ≡ false
       → breaks_out_of_turn side past head ≡ false → reply_so_far side past head ≡ current (other side) past
   frames-row r e a t =
       let f = found r e in
@@ -151,7 +151,7 @@ number_in_use-is : (side : Side) (past : List Item) (head : Head) → Sound side
     → kept.breaks_number_in_use (kept_of side past) head ≡ broken.breaks_number_in_use side past head
 number_in_use-is side past head m = and-cong (kept.begins (kept_of side past) head) _ _ (λ b. use-row side past m head.msgno)
 
-pub judged-is : (side : Side) (past : List Item) (head : Head) → IsUnbroken past
+pub judged-is : (side : Side) (past : List Item) (head : Head) → KeepsExchangeRules past
     → judged (kept_of side past) (kept_of (other side) past) head ≡ exchange_rule side past head
 unfolding judged exchange_rule
 judged-is side past head u =

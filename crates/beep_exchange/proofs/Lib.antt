@@ -4,3 +4,5 @@ pub mod RowsLemmas
 pub mod JudgedLemmas
 pub mod NotedLemmas
 pub mod StandsLemmas
+pub mod GivenLemmas
+pub mod TagLemmas

@@ -1,46 +1,56 @@
 -- What a history leaves of each direction, item by item.
-use Rattle.std.proofs.Common.{◌≡◌, ℕ, suc, ◌+◌, ◌-◌, ◌^◌, ◌<◌, ◌==◌, min, nat_lt, Bool, true, false, cond, not, ◌&&◌, ◌||◌, if◌then◌else◌, List, [], ◌∷◌, ◌++◌, length, take, map, Option, Some, None, option_map, refl, sym, ap, ◌∙◌, arith, length-take}
+use Rattle.std.proofs.Common.{◌≡◌, ℕ, suc, ◌+◌, ◌-◌, ◌%◌, ◌^◌, ◌<◌, ◌==◌, min, nat_lt, Bool, true, false, cond, not, ◌&&◌, ◌||◌, if◌then◌else◌, List, [], ◌∷◌, ◌++◌, length, take, map, Option, Some, None, option_map, refl, sym, ap, ◌∙◌, arith, length-take}
 use Rattle.std.specs.List.{list_any, filter}
-use Rattle.std.proofs.lemmas.Bool.{le-ltb, lt-ltb, eq-eqb}
+use Rattle.std.specs.Option.{option_map_or}
+use Rattle.std.proofs.lemmas.Bool.{le-ltb, lt-ltb, eq-eqb, eqb-true}
 use Rattle.std.proofs.lemmas.Bool.Decides.{nat_tests}
 use Rattle.std.proofs.lemmas.List.{length-map, take-take}
 use Rattle.beep_frame.specs.declared.head.Head.{Head}
 use Rattle.beep_frame.specs.declared.kind.Kind.{Kind}
-use Rattle.beep_frame.specs.declared.journal.Side.{Side}
-use Rattle.beep_frame.specs.declared.limits.TheConstants.{MAX_ANSWERS}
-use Rattle.beep_frame.specs.Frame.{is_ans, is_reply}
-use Rattle.beep_frame.specs.Journal.{Item, began, passed, other}
-use Rattle.beep_frame.specs.Marks.{first, previous, Request, begins_request, requests, reply, ends_reply, is_answered, waiting, unfinished, answer_octets, with_number, without, begins_answer}
-use Rattle.beep_frame.specs.Broken.{under_way}
-use Rattle.beep_frame.proofs.AnswersLemmas.{has}
-use Rattle.beep_frame.proofs.SoundLemmas.{IsDue, Sound, waiting-newest}
-use Rattle.beep_frame.proofs.ListsLemmas.{filter-agree}
-use Rattle.beep_frame.proofs.StepsLemmas.{under_way-began-mine, requests-began-mine, under_way-passed-theirs, frames-passed-theirs, reply-passed-theirs}
-use Rattle.beep_frame.proofs.UnbrokenLemmas.{min-less}
-use Rattle.beep_frame.proofs.PassedLemmas.{reply-grown, answered-ended, answered-on, other-place}
+use Rattle.beep_history.specs.declared.journal.Side.{Side}
+use Rattle.beep_history.specs.declared.limits.TheConstants.{MAX_ANSWERS}
+use Rattle.beep_frame.specs.Frame.{is_ans, is_reply, same_kind}
+use Rattle.beep_history.specs.Journal.{Item, began, passed, other}
+use Rattle.beep_history.specs.Marks.{first, frames, goes_on, begun_octets, Request, begins_request, requests, reply, ends_reply, is_answered, waiting, unfinished, answer_octets, with_number, without, begins_answer}
+use Rattle.beep_history.specs.Broken.{under_way}
+use Rattle.beep_history.proofs.AnswersLemmas.{has}
+use Rattle.beep_history.proofs.SoundLemmas.{IsDue, Sound, waiting-newest}
+use Rattle.beep_history.proofs.ListsLemmas.{filter-agree}
+use Rattle.beep_history.proofs.StepsLemmas.{under_way-began-mine, requests-began-mine, under_way-passed-theirs, frames-passed-theirs, reply-passed-theirs}
+use Rattle.beep_history.proofs.UnbrokenLemmas.{min-less}
+use Rattle.beep_history.proofs.PassedLemmas.{reply-grown, answered-ended, answered-on, other-place}
 use Rattle.beep_exchange.specs.declared.answer.Answer.{Answer}
-use Rattle.beep_exchange.specs.Kept.{Kept, began_kept, passed_kept, replied_kept, grown, continued, completed}
-use Rattle.beep_exchange.specs.Stands.{current, answer_of, kept_of}
+use Rattle.beep_exchange.specs.Kept.{Kept, added, begun_in, began_kept, passed_kept, replied_kept, grown, continued, completed}
+use Rattle.beep_exchange.specs.Stands.{current, answer_of, octets_so_far, kept_of}
 use Rattle.beep_exchange.proofs.NumbersLemmas.{num}
 use Rattle.beep_exchange.proofs.AskerLemmas.{count-waiting, current-is}
 use Rattle.beep_exchange.proofs.RowsLemmas.{has-answers, octets-none}
 
 -- ---- what is kept, part by part
 
-build : Option Head → Option Head → List ℕ → ℕ → Option Kind → List Answer → Kept
-build under before numbers w kind answers =
-    record { under_way = under; before = before; numbers = numbers; waiting = w; kind = kind; answers = answers }
+build : Option Head → Option Head → ℕ → List ℕ → ℕ → ℕ → Option Kind → List Answer → Kept
+build under before octets numbers count w kind answers = record {
+  under_way = under;
+  before = before;
+  octets = octets;
+  numbers = numbers;
+  count = count;
+  waiting = w;
+  kind = kind;
+  answers = answers;
+}
 
-build-eq : (a a' b b' : Option Head) (c c' : List ℕ) (d d' : ℕ) (e e' : Option Kind) (f f' : List Answer)
-    → a ≡ a' → b ≡ b' → c ≡ c' → d ≡ d' → e ≡ e' → f ≡ f' → build a b c d e f ≡ build a' b' c' d' e' f'
-build-eq a a' b b' c c' d d' e e' f f' p q r s t u = rw (p, q, r, s, t, u)
+build-eq : (a a' b b' : Option Head) (o o' : ℕ) (c c' : List ℕ) (n n' d d' : ℕ) (e e' : Option Kind) (f f' : List Answer)
+    → a ≡ a' → b ≡ b' → o ≡ o' → c ≡ c' → n ≡ n' → d ≡ d' → e ≡ e' → f ≡ f' → build a b o c n d e f ≡ build a' b' o' c' n' d' e' f'
+build-eq a a' b b' o o' c c' n n' d d' e e' f f' p q v r w s t u = rw (p, q, v, r, w, s, t, u)
 
 -- two are one where each part is
-kept-eq : (x y : Kept) → x.under_way ≡ y.under_way → x.before ≡ y.before → x.numbers ≡ y.numbers → x.waiting ≡ y.waiting
-    → x.kind ≡ y.kind → x.answers ≡ y.answers → x ≡ y
+kept-eq : (x y : Kept) → x.under_way ≡ y.under_way → x.before ≡ y.before → x.octets ≡ y.octets → x.numbers ≡ y.numbers → x.count ≡ y.count
+    → x.waiting ≡ y.waiting → x.kind ≡ y.kind → x.answers ≡ y.answers → x ≡ y
 unfolding build
-kept-eq x y p q r s t u =
-    build-eq x.under_way y.under_way x.before y.before x.numbers y.numbers x.waiting y.waiting x.kind y.kind x.answers y.answers p q r s t u
+kept-eq x y p q v r w s t u =
+    build-eq x.under_way y.under_way x.before y.before x.octets y.octets x.numbers y.numbers x.count y.count x.waiting y.waiting
+    x.kind y.kind x.answers y.answers p q v r w s t u
 
 kind_of : List Head → Option Kind
 kind_of frames = option_map (λ (frame : Head). frame.kind) (first frames)
@@ -62,8 +72,9 @@ began-new side past head e s =
     ≡ length (requests side past) - length (waiting side past) = omega (arith, longer, more) in
     let same : current side (began side head ∷ past) ≡ current side past = ap (λ (p : ℕ). reply side p past) place in
     kept-eq (kept_of side (began side head ∷ past)) (began_kept (kept_of side past) head)
-    (under_way-began-mine head past side) refl
+    (under_way-began-mine head past side) refl refl
     (rw (reqs, e) (sym (take-again 1023 head.msgno (num (requests side past)))))
+    (ap (λ (n : ℕ). n % 2 ^ 64) more ∙ rw e (omega arith))
     (longer ∙ rw e (omega arith))
     (ap (λ (frames : List Head). option_map (λ (frame : Head). frame.kind) (first frames)) same)
     (ap (λ (frames : List Head). map (answer_of frames) (unfinished frames)) same)
@@ -78,7 +89,7 @@ began-on side past head e =
     ≡ length (requests side past) - length (waiting side past) = omega (arith, fewer, more) in
     let same : current side (began side head ∷ past) ≡ current side past = ap (λ (p : ℕ). reply side p past) place in
     kept-eq (kept_of side (began side head ∷ past)) (began_kept (kept_of side past) head)
-    (under_way-began-mine head past side) refl (rw (reqs, e)) (rw (reqs, e))
+    (under_way-began-mine head past side) refl refl (rw (reqs, e)) (rw (reqs, e)) (rw (reqs, e))
     (ap (λ (frames : List Head). option_map (λ (frame : Head). frame.kind) (first frames)) same)
     (ap (λ (frames : List Head). map (answer_of frames) (unfinished frames)) same)
 
@@ -96,17 +107,54 @@ pub began-other : (side : Side) (past : List Item) (head : Head) → kept_of (ot
 began-other Side.Received past head = refl
 began-other Side.Sent past head = refl
 
+-- ---- the octets of a message
+
+same-octets : (a b : Head) → a.kind ≡ b.kind → a.msgno ≡ b.msgno → (fs : List Head) → begun_octets a fs ≡ begun_octets b fs
+same-octets a b k n [] = refl
+same-octets a b k n (f ∷ fs) = rw (k, n, same-octets a b k n fs) refl
+
+same-kind : (a b : Kind) → same_kind a b ≡ true → a ≡ b
+same-kind a b e = grind (arith, nat_tests)
+
+begun-step : (kind : Bool) (before head : Head) (more number : Bool) (fs : List Head) → (kind ≡ true → before.kind ≡ head.kind)
+    → (number ≡ true → before.msgno ≡ head.msgno) → (cap : ℕ)
+    → min (head.size + (if kind && (more && number) then before.size + begun_octets head fs else 0)) cap
+    ≡ min ((if kind && (more && number) then min (before.size + begun_octets before fs) cap else 0) + head.size) cap
+begun-step true before head true true fs k n cap =
+    let same = same-octets before head (k refl) (n refl) fs in omega (arith, same)
+begun-step true before head true false fs k n cap = omega arith
+begun-step true before head false number fs k n cap = omega arith
+begun-step false before head more number fs k n cap = omega arith
+
+-- the octets of a message with those of the frame that passes
+pub octets-passed : (head : Head) (fs : List Head) (cap : ℕ)
+    → min (octets_so_far (head ∷ fs)) cap
+    ≡ min ((if option_map_or (λ before. same_kind before.kind head.kind && goes_on head before) (first fs) false
+    then min (octets_so_far fs) cap else 0) + head.size) cap
+octets-passed head [] cap = omega arith
+octets-passed head (before ∷ fs) cap =
+    begun-step (same_kind before.kind head.kind) before head before.more (before.msgno == head.msgno) fs
+    (same-kind before.kind head.kind) (eqb-true before.msgno head.msgno) cap
+
 -- ---- a frame
+
+octets-under : (side : Side) (past : List Item) (head : Head) → under_way side past ≡ Some head
+    → min (octets_so_far (head ∷ frames side past)) (2 ^ 32 - 1) ≡ (passed_kept (kept_of side past)).octets
+octets-under side past head e =
+    octets-passed head (frames side past) (2 ^ 32 - 1)
+    ∙ sym (ap (λ (o : Option Head). option_map_or (λ (h : Head). added (begun_in (kept_of side past) h) h.size) o (kept_of side past).octets) e)
 
 -- a frame of a side, in what is kept of it
 pub passed-kept : (side : Side) (past : List Item) (head : Head) (payload : List ℕ) → under_way side past ≡ Some head
     → kept_of side (passed side head payload ∷ past) ≡ passed_kept (kept_of side past)
-passed-kept Side.Received past head payload e = kept-eq _ _ refl (sym e) refl refl refl refl
-passed-kept Side.Sent past head payload e = kept-eq _ _ refl (sym e) refl refl refl refl
+passed-kept Side.Received past head payload e =
+    kept-eq _ _ refl (sym e) (octets-under Side.Received past head e) refl refl refl refl refl
+passed-kept Side.Sent past head payload e =
+    kept-eq _ _ refl (sym e) (octets-under Side.Sent past head e) refl refl refl refl refl
 
 -- an item that changes no reply of a side
 replies-same : (side : Side) (past : List Item) (item : Item) → requests side (item ∷ past) ≡ requests side past
-    → under_way side (item ∷ past) ≡ under_way side past → previous side (item ∷ past) ≡ previous side past
+    → under_way side (item ∷ past) ≡ under_way side past → frames side (item ∷ past) ≡ frames side past
     → ((p : ℕ) → reply side p (item ∷ past) ≡ reply side p past) → kept_of side (item ∷ past) ≡ kept_of side past
 replies-same side past item reqs under before same =
     let waits : waiting side (item ∷ past) ≡ waiting side past =
@@ -119,7 +167,9 @@ replies-same side past item reqs under before same =
     omega (arith, fewer, more) in
     let frames : current side (item ∷ past) ≡ current side past =
     same (length (requests side (item ∷ past)) - length (waiting side (item ∷ past))) ∙ ap (λ (p : ℕ). reply side p past) place in
-    kept-eq (kept_of side (item ∷ past)) (kept_of side past) under before (ap (λ (rs : List Request). take 1024 (num rs)) reqs) (ap length waits)
+    kept-eq (kept_of side (item ∷ past)) (kept_of side past) under (ap first before)
+    (ap (λ (fs : List Head). min (octets_so_far fs) (2 ^ 32 - 1)) before) (ap (λ (rs : List Request). take 1024 (num rs)) reqs)
+    (ap (λ (rs : List Request). length rs % 2 ^ 64) reqs) (ap length waits)
     (ap (λ (fs : List Head). option_map (λ (frame : Head). frame.kind) (first fs)) frames)
     (ap (λ (fs : List Head). map (answer_of fs) (unfinished fs)) frames)
 
@@ -128,7 +178,7 @@ pub request-other : (asker : Side) (past : List Item) (head : Head) (payload : L
     → kept_of asker (passed (other asker) head payload ∷ past) ≡ kept_of asker past
 request-other asker past head payload e =
     replies-same asker past (passed (other asker) head payload) refl (under_way-passed-theirs head payload past asker)
-    (ap first (frames-passed-theirs head payload past asker))
+    (frames-passed-theirs head payload past asker)
     (λ p. rw (reply-passed-theirs head payload past asker p, e))
 
 -- ---- the answers after one more frame
@@ -261,7 +311,8 @@ module _ (asker : Side) (past : List Item) (head : Head) (payload : List ℕ) (s
       kept-eq (kept_of asker now) (record (kept_of asker past) { waiting = length (waiting asker past) - 1; kind = None; answers = [] })
       (under_way-passed-theirs head payload past asker)
       (ap first (frames-passed-theirs head payload past asker))
-      refl (omega (arith, count, before))
+      (ap (λ (fs : List Head). min (octets_so_far fs) (2 ^ 32 - 1)) (frames-passed-theirs head payload past asker))
+      refl refl (omega (arith, count, before))
       (ap (λ (fs : List Head). option_map (λ (frame : Head). frame.kind) (first fs)) gone)
       (ap (λ (fs : List Head). map (answer_of fs) (unfinished fs)) gone)
 
@@ -289,7 +340,8 @@ module _ (asker : Side) (past : List Item) (head : Head) (payload : List ℕ) (s
       kept-eq (kept_of asker now) _
       (under_way-passed-theirs head payload past asker)
       (ap first (frames-passed-theirs head payload past asker))
-      refl (count ∙ sym before)
+      (ap (λ (fs : List Head). min (octets_so_far fs) (2 ^ 32 - 1)) (frames-passed-theirs head payload past asker))
+      refl refl (count ∙ sym before)
       (ap (λ (fs : List Head). option_map (λ (frame : Head). frame.kind) (first fs)) longer)
       (ap (λ (fs : List Head). map (answer_of fs) (unfinished fs)) longer
       ∙ answers-step head (reply asker s.oldest past) d.room

@@ -4,11 +4,11 @@ use Rattle.std.specs.List.{list_any, find}
 use Rattle.std.specs.Option.{option_map_or, is_none}
 use Rattle.std.proofs.lemmas.Bool.{lt-ltb, le-ltb, eqb-true, ne_eqb, eq-eqb}
 use Rattle.std.proofs.lemmas.Bool.Decides.{nat_tests}
-use Rattle.beep_frame.specs.Marks.{first, Request}
-use Rattle.beep_frame.proofs.AnswersLemmas.{has}
-use Rattle.beep_frame.proofs.ListsLemmas.{IsNumbered, find-below}
-use Rattle.beep_frame.proofs.SoundLemmas.{IsApartFirst}
-use Rattle.beep_frame.proofs.UnbrokenLemmas.{any-whole}
+use Rattle.beep_history.specs.Marks.{first, Request}
+use Rattle.beep_history.proofs.AnswersLemmas.{has}
+use Rattle.beep_history.proofs.ListsLemmas.{IsNumbered, find-below}
+use Rattle.beep_history.proofs.SoundLemmas.{IsApartFirst}
+use Rattle.beep_history.proofs.UnbrokenLemmas.{any-whole}
 
 -- the numbers of requests
 abbrev pub num : List Request → List ℕ

@@ -7,13 +7,13 @@ use Rattle.std.proofs.lemmas.Bool.Decides.{nat_tests}
 use Rattle.std.proofs.lemmas.List.{take-take}
 use Rattle.beep_frame.specs.declared.head.Head.{Head}
 use Rattle.beep_frame.specs.declared.kind.Kind.{Kind}
-use Rattle.beep_frame.specs.declared.journal.Side.{Side}
+use Rattle.beep_history.specs.declared.journal.Side.{Side}
 use Rattle.beep_frame.specs.Frame.{is_ans, same_kind}
-use Rattle.beep_frame.specs.Journal.{Item}
-use Rattle.beep_frame.specs.Marks.{first, previous, Request, requests, latest, is_whole, reply, is_answered, waiting, with_number, without, unfinished, answer_octets}
-use Rattle.beep_frame.specs.Broken.{under_way}
-use Rattle.beep_frame.proofs.AnswersLemmas.{has, has_after}
-use Rattle.beep_frame.proofs.SoundLemmas.{Sound, is_open, requests-numbered, waiting-newest}
+use Rattle.beep_history.specs.Journal.{Item}
+use Rattle.beep_history.specs.Marks.{first, previous, Request, requests, latest, is_whole, reply, is_answered, waiting, with_number, without, unfinished, answer_octets}
+use Rattle.beep_history.specs.Broken.{under_way}
+use Rattle.beep_history.proofs.AnswersLemmas.{has, has_after}
+use Rattle.beep_history.proofs.SoundLemmas.{Sound, is_open, requests-numbered, waiting-newest}
 use Rattle.beep_exchange.specs.declared.answer.Answer.{Answer}
 use Rattle.beep_exchange.specs.Kept as kept
 use Rattle.beep_exchange.specs.Kept.{is_current, is_early, has_number, octets_in, has_answer}
@@ -125,7 +125,7 @@ octets-step : (frames : List Head) (n u : ℕ) (b : Bool) (rest : Option Answer)
 octets-step frames n u true rest any e later = ap (λ (x : ℕ). min (answer_octets x frames) (2 ^ 32 - 1)) (eqb-true _ _ e)
 octets-step frames n u false rest any e later = later
 
-octets-answers : (frames : List Head) (n : ℕ) (us : List ℕ)
+pub octets-answers : (frames : List Head) (n : ℕ) (us : List ℕ)
     → octets_in n (map (answer_of frames) us) ≡ (if has n us then min (answer_octets n frames) (2 ^ 32 - 1) else 0)
 octets-answers frames n [] = refl
 octets-answers frames n (u ∷ us) = octets-step frames n u (u == n) _ (has n us) refl (octets-answers frames n us)

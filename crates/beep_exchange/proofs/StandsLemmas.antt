@@ -1,17 +1,17 @@
 -- Each call keeps the exchange standing for the history with one more item.
 use Rattle.std.proofs.Common.{◌≡◌, ℕ, ◌<◌, Bool, true, false, if◌then◌else◌, List, [], ◌∷◌, ◌++◌, length, Some, None, refl, sym, ap, ◌∙◌, subst}
 use Rattle.std.proofs.lemmas.Bool.{leb-false}
-use Rattle.beep_frame.specs.declared.limits.TheConstants.{MAX_REQUESTS}
+use Rattle.beep_history.specs.declared.limits.TheConstants.{MAX_REQUESTS}
 use Rattle.beep_frame.specs.declared.head.Head.{Head}
 use Rattle.beep_frame.specs.declared.seq.Seq.{Seq}
 use Rattle.beep_frame.specs.declared.rule.Rule.{Rule}
-use Rattle.beep_frame.specs.declared.journal.Side.{Side}
+use Rattle.beep_history.specs.declared.journal.Side.{Side}
 use Rattle.beep_frame.specs.Frame.{is_reply}
-use Rattle.beep_frame.specs.Journal.{Item, began, passed, told, other, opening, implied}
-use Rattle.beep_frame.specs.Broken.{under_way, first_of, exchange_rule}
-use Rattle.beep_frame.proofs.KeptLemmas.{pass, after-true}
-use Rattle.beep_frame.proofs.SoundLemmas.{Sound, IsDue}
-use Rattle.beep_frame.proofs.PassedLemmas.{sound}
+use Rattle.beep_history.specs.Journal.{Item, began, passed, told, other, opening, implied}
+use Rattle.beep_history.specs.Broken.{under_way, first_of, exchange_rule}
+use Rattle.beep_history.proofs.KeptLemmas.{pass, after-true}
+use Rattle.beep_history.proofs.SoundLemmas.{Sound, IsDue}
+use Rattle.beep_history.proofs.PassedLemmas.{sound}
 use Rattle.beep_exchange.specs.Kept.{Kept, begins, judged, shape_tests, limit_tests, breaks_empty_answer, breaks_too_many_requests, fresh, began_kept, passed_kept, replied_kept}
 use Rattle.beep_exchange.specs.declared.given.Given.{Given}
 use Rattle.beep_exchange.specs.Stands.{Life, Stands, kept_of}

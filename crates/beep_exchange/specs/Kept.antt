@@ -1,23 +1,31 @@
 -- What an exchange keeps of one direction, and each rule as a test of that alone.
--- What a rule means is said over the whole history, in beep_frame; here stands what a bounded memory can tell.
-use Rattle.std.specs.Prelude.{ℕ, ◌+◌, ◌-◌, ◌==◌, ◌^◌, min, nat_lt, nat_le, Bool, false, not, ◌&&◌, ◌||◌, if◌then◌else◌, List, [], ◌∷◌, ◌++◌, length, take, drop, map, filter, find, Option, None, Some, slice_index}
+-- What a rule means is said over the whole history, in beep_history; here stands what a bounded
+-- memory can tell.
+use Rattle.std.specs.Prelude.{ℕ, ◌+◌, ◌-◌, ◌%◌, ◌==◌, ◌^◌, min, nat_lt, nat_le, Bool, false, not, ◌&&◌, ◌||◌, if◌then◌else◌, List, [], ◌∷◌, ◌++◌, length, take, drop, map, filter, find, option_map, Option, None, Some, slice_index}
 use Rattle.std.specs.List.{list_any}
 use Rattle.std.specs.Option.{option_map_or}
 use Rattle.beep_frame.specs.declared.head.Head.{Head}
 use Rattle.beep_frame.specs.declared.kind.Kind.{Kind}
 use Rattle.beep_frame.specs.declared.rule.Rule.{Rule}
-use Rattle.beep_frame.specs.declared.limits.TheConstants.{MAX_REQUESTS, MAX_ANSWERS}
+use Rattle.beep_frame.specs.declared.tag.Tag.{Tag}
+use Rattle.beep_history.specs.declared.limits.TheConstants.{MAX_MESSAGE, MAX_REQUESTS, MAX_ANSWERS}
 use Rattle.beep_frame.specs.Frame.{is_msg, is_ans, is_nul, is_reply, same_kind}
-use Rattle.beep_frame.specs.Marks.{first, goes_on, ends_reply}
-use Rattle.beep_frame.specs.Broken.{breaks_nul_shape, first_of}
+use Rattle.beep_history.specs.Marks.{first, goes_on, ends_reply}
+use Rattle.beep_history.specs.Broken.{breaks_nul_shape, first_of}
 use Rattle.beep_exchange.specs.declared.answer.Answer.{Answer}
 
--- of one direction: the frame under way, the one that passed last, the numbers of the last requests, the latest first,
--- how many of the newest wait for their reply, and of the reply to the oldest of these its kind and its unfinished answers
+-- of one direction: the frame under way, the one that passed last, the octets so far of the message
+-- of that one up to
+-- 2^32 - 1, the numbers of the last requests, the latest first, how many requests began, modulo
+-- 2^64, how many of the
+-- newest wait for their reply, and of the reply to the oldest of these its kind and its unfinished
+-- answers
 pub record Kept : Type 0 where
   pub under_way : Option Head
   pub before : Option Head
+  pub octets : ℕ
   pub numbers : List ℕ
+  pub count : ℕ
   pub waiting : ℕ
   pub kind : Option Kind
   pub answers : List Answer
@@ -27,7 +35,8 @@ pub record Kept : Type 0 where
 -- a MSG header begins a request
 abbrev pub begins : Kept → Head → Bool
 begins kept head =
-    is_msg head.kind && not (option_map_or (λ before. is_msg before.kind && goes_on head before) kept.before false)
+    is_msg head.kind
+    && not (option_map_or (λ before. is_msg before.kind && goes_on head before) kept.before false)
 
 -- the newest request has not wholly passed
 abbrev pub is_open : Kept → Bool
@@ -41,7 +50,8 @@ has_number number numbers = list_any (λ n. n == number) numbers
 
 -- the oldest request that waits has this number
 abbrev pub is_current : Kept → ℕ → Bool
-is_current kept number = nat_lt 0 kept.waiting && slice_index kept.numbers (kept.waiting - 1) == number
+is_current kept number =
+    nat_lt 0 kept.waiting && slice_index kept.numbers (kept.waiting - 1) == number
 
 -- the newest request has this number, and has not wholly passed
 abbrev pub is_early : Kept → ℕ → Bool
@@ -59,16 +69,22 @@ has_answer number answers = list_any (λ answer. answer.number == number) answer
 -- ---- rules, of the direction of the header and of the other
 
 abbrev pub breaks_not_continued : Kept → Head → Bool
-breaks_not_continued mine head = option_map_or (λ before. before.more && not (before.msgno == head.msgno)) mine.before false
+breaks_not_continued mine head =
+    option_map_or (λ before. before.more && not (before.msgno == head.msgno)) mine.before false
 
 abbrev pub goes_on_request : Kept → Head → Bool
-goes_on_request mine head = option_map_or (λ before. goes_on head before && is_msg before.kind) mine.before false
+goes_on_request mine head =
+    option_map_or (λ before. goes_on head before && is_msg before.kind) mine.before false
 
 abbrev pub changes_message : Kept → Head → Bool
-changes_message mine head = option_map_or (λ before. goes_on head before && not (same_kind before.kind head.kind)) mine.before false
+changes_message mine head =
+    option_map_or (λ before. goes_on head before
+    && not (same_kind before.kind head.kind)) mine.before false
 
 abbrev pub changes_reply : Kept → Head → Bool
-changes_reply theirs head = is_current theirs head.msgno && option_map_or (λ kind. not (same_kind kind head.kind)) theirs.kind false
+changes_reply theirs head =
+    is_current theirs head.msgno
+    && option_map_or (λ kind. not (same_kind kind head.kind)) theirs.kind false
 
 abbrev pub breaks_kind_changed : Kept → Kept → Head → Bool
 breaks_kind_changed mine theirs head =
@@ -78,11 +94,13 @@ breaks_kind_changed mine theirs head =
 
 abbrev pub breaks_number_in_use : Kept → Head → Bool
 breaks_number_in_use mine head =
-    begins mine head && has_number head.msgno (drop (if is_open mine then 1 else 0) (take mine.waiting mine.numbers))
+    begins mine head
+    && has_number head.msgno (drop (if is_open mine then 1 else 0) (take mine.waiting mine.numbers))
 
 abbrev pub breaks_never_asked : Kept → Head → Bool
 breaks_never_asked theirs head =
-    is_reply head.kind && (not (is_current theirs head.msgno) && not (has_number head.msgno theirs.numbers))
+    is_reply head.kind && (not (is_current theirs head.msgno)
+    && not (has_number head.msgno theirs.numbers))
 
 abbrev pub breaks_early_reply : Kept → Head → Bool
 breaks_early_reply theirs head = is_reply head.kind && is_early theirs head.msgno
@@ -90,27 +108,31 @@ breaks_early_reply theirs head = is_reply head.kind && is_early theirs head.msgn
 abbrev pub breaks_already_answered : Kept → Head → Bool
 breaks_already_answered theirs head =
     is_reply head.kind
-    && (not (is_current theirs head.msgno) && not (has_number head.msgno (take theirs.waiting theirs.numbers)))
+    && (not (is_current theirs head.msgno)
+    && not (has_number head.msgno (take theirs.waiting theirs.numbers)))
 
 abbrev pub breaks_out_of_turn : Kept → Head → Bool
 breaks_out_of_turn theirs head = is_reply head.kind && not (is_current theirs head.msgno)
 
 abbrev pub breaks_nul_not_after_ans : Kept → Head → Bool
-breaks_nul_not_after_ans theirs head = is_nul head.kind && option_map_or (λ kind. not (is_ans kind)) theirs.kind false
+breaks_nul_not_after_ans theirs head =
+    is_nul head.kind && option_map_or (λ kind. not (is_ans kind)) theirs.kind false
 
 abbrev pub breaks_nul_too_soon : Kept → Head → Bool
 breaks_nul_too_soon theirs head = is_nul head.kind && nat_lt 0 (length theirs.answers)
 
 abbrev pub breaks_empty_answer : Kept → Head → Bool
 breaks_empty_answer theirs head =
-    is_ans head.kind && not head.more && (head.size == 0 && octets_in head.ansno theirs.answers == 0)
+    is_ans head.kind && not head.more && (head.size == 0
+    && octets_in head.ansno theirs.answers == 0)
 
 abbrev pub breaks_too_many_requests : Kept → Head → Bool
 breaks_too_many_requests mine head = begins mine head && nat_le MAX_REQUESTS mine.waiting
 
 abbrev pub breaks_too_many_answers : Kept → Head → Bool
 breaks_too_many_answers theirs head =
-    is_ans head.kind && not (has_answer head.ansno theirs.answers) && nat_le MAX_ANSWERS (length theirs.answers)
+    is_ans head.kind && not (has_answer head.ansno theirs.answers)
+    && nat_le MAX_ANSWERS (length theirs.answers)
 
 -- the rules on messages, requests and replies
 abbrev pub shape_tests : Kept → Kept → Head → List (Rule × Bool)
@@ -139,35 +161,100 @@ limit_tests mine theirs head =
 unfoldable pub judged : Kept → Kept → Head → Option Rule
 judged mine theirs head = first_of (shape_tests mine theirs head ++ limit_tests mine theirs head)
 
+-- ---- the octets of a message
+
+-- octets with those of one more frame, up to the greatest count
+abbrev pub added : ℕ → ℕ → ℕ
+added octets size = min (octets + size) (2 ^ 32 - 1)
+
+-- the octets so far of the message that a frame goes on, where it is no ANS
+abbrev pub begun_in : Kept → Head → ℕ
+begun_in mine head =
+    if option_map_or (λ before. same_kind before.kind head.kind
+    && goes_on head before) mine.before false
+    then mine.octets
+    else 0
+
+-- the octets of the message of a header, its own included
+abbrev pub message_in : Kept → Kept → Head → ℕ
+message_in mine theirs head =
+    added (if is_ans head.kind then octets_in head.ansno theirs.answers
+    else begun_in mine head) head.size
+
+-- Long
+abbrev pub breaks_long : Kept → Kept → Head → Bool
+breaks_long mine theirs head =
+    not (head.channel == 0) && nat_lt MAX_MESSAGE (message_in mine theirs head)
+
+-- ---- the tag of a frame under way
+
+-- the position that a frame speaks of: a MSG of the newest request, a reply of the oldest request
+-- that waits
+abbrev pub position_in : Kept → Kept → Head → ℕ
+position_in mine theirs head =
+    if is_msg head.kind then (mine.count + 2 ^ 64 - 1) % 2 ^ 64
+    else (theirs.count + 2 ^ 64 - theirs.waiting) % 2 ^ 64
+
+-- what its octets are marked with
+abbrev pub tag_in : Kept → Kept → Head → Tag
+tag_in mine theirs head =
+    record { kind = head.kind; request = position_in mine theirs head; ansno = head.ansno }
+
+-- the tag of the frame under way, if one is
+abbrev pub tag_under_way : Kept → Kept → Option Tag
+tag_under_way mine theirs = option_map (tag_in mine theirs) mine.under_way
+
+-- the number of the oldest request that waits, if one does
+abbrev pub oldest_number : Kept → Option ℕ
+oldest_number kept =
+    if nat_lt 0 kept.waiting then Some (slice_index kept.numbers (kept.waiting - 1)) else None
+
 -- ---- steps
 
 -- nothing has happened
 abbrev pub fresh : Kept
-fresh = record { under_way = None; before = None; numbers = []; waiting = 0; kind = None; answers = [] }
+fresh = record {
+  under_way = None;
+  before = None;
+  octets = 0;
+  numbers = [];
+  count = 0;
+  waiting = 0;
+  kind = None;
+  answers = [];
+}
 
 -- a header has ended
 abbrev pub began_kept : Kept → Head → Kept
 began_kept kept head = record kept {
   under_way = Some head;
-  numbers = if begins kept head then take MAX_REQUESTS (head.msgno ∷ kept.numbers) else kept.numbers;
+  numbers =
+      if begins kept head then take MAX_REQUESTS (head.msgno ∷ kept.numbers) else kept.numbers;
+  count = if begins kept head then (kept.count + 1) % 2 ^ 64 else kept.count;
   waiting = if begins kept head then kept.waiting + 1 else kept.waiting;
 }
 
 -- the frame under way has passed
 abbrev pub passed_kept : Kept → Kept
-passed_kept kept = record kept { under_way = None; before = kept.under_way }
+passed_kept kept = record kept {
+  under_way = None;
+  before = kept.under_way;
+  octets = option_map_or (λ head. added (begun_in kept head) head.size) kept.under_way kept.octets;
+}
 
 -- an unfinished answer with more octets, which are counted up to the greatest count
 abbrev pub grown : ℕ → ℕ → Answer → Answer
 grown number size answer =
-    if answer.number == number then record answer { octets = min (answer.octets + size) (2 ^ 32 - 1) } else answer
+    if answer.number == number
+    then record answer { octets = min (answer.octets + size) (2 ^ 32 - 1) } else answer
 
 -- the unfinished answers after a frame that goes on, with so many octets
 abbrev pub continued : ℕ → ℕ → List Answer → List Answer
 continued number size answers =
     if has_answer number answers
     then map (grown number size) answers
-    else (if nat_lt (length answers) MAX_ANSWERS then answers ++ record { number = number; octets = min size (2 ^ 32 - 1) } ∷ [] else answers)
+    else (if nat_lt (length answers) MAX_ANSWERS then answers
+    ++ record { number = number; octets = min size (2 ^ 32 - 1) } ∷ [] else answers)
 
 -- the unfinished answers after a complete one
 abbrev pub completed : ℕ → List Answer → List Answer
@@ -180,5 +267,7 @@ replied_kept kept head =
     then record kept { waiting = kept.waiting - 1; kind = None; answers = [] }
     else record kept {
       kind = Some head.kind;
-      answers = if is_ans head.kind then (if head.more then continued head.ansno head.size kept.answers else completed head.ansno kept.answers) else kept.answers;
+      answers = if is_ans head.kind then (if head.more
+          then continued head.ansno head.size kept.answers else completed head.ansno kept.answers)
+          else kept.answers;
     }

@@ -1,12 +1,13 @@
--- What a history leaves of one direction, and when an exchange stands for a history (RFC 3080, section 2.1).
+-- What a history leaves of one direction, and when an exchange stands for a history (RFC 3080,
+-- section 2.1).
 -- The code keeps what stands on the right; that it is so is proved call by call.
-use Rattle.std.specs.Prelude.{◌≡◌, ℕ, ◌-◌, ◌^◌, min, List, length, take, map, option_map}
+use Rattle.std.specs.Prelude.{◌≡◌, ℕ, ◌+◌, ◌-◌, ◌^◌, ◌%◌, min, List, [], ◌∷◌, length, take, map, option_map}
 use Rattle.beep_frame.specs.declared.head.Head.{Head}
-use Rattle.beep_frame.specs.declared.journal.Side.{Side}
-use Rattle.beep_frame.specs.declared.limits.TheConstants.{MAX_REQUESTS}
-use Rattle.beep_frame.specs.Journal.{Item}
-use Rattle.beep_frame.specs.Marks.{first, previous, requests, waiting, reply, unfinished, answer_octets}
-use Rattle.beep_frame.specs.Broken.{under_way, IsUnbroken}
+use Rattle.beep_history.specs.declared.journal.Side.{Side}
+use Rattle.beep_history.specs.declared.limits.TheConstants.{MAX_REQUESTS}
+use Rattle.beep_history.specs.Journal.{Item}
+use Rattle.beep_history.specs.Marks.{first, frames, begun_octets, previous, requests, waiting, reply, unfinished, answer_octets}
+use Rattle.beep_history.specs.Broken.{under_way, KeepsExchangeRules}
 use Rattle.beep_exchange.specs.declared.answer.Answer.{Answer}
 use Rattle.beep_exchange.specs.declared.given.Given.{Given}
 use Rattle.beep_exchange.specs.Kept.{Kept}
@@ -17,14 +18,22 @@ current side past = reply side (length (requests side past) - length (waiting si
 
 -- an unfinished answer, by the frames of its reply
 abbrev pub answer_of : List Head → ℕ → Answer
-answer_of frames number = record { number = number; octets = min (answer_octets number frames) (2 ^ 32 - 1) }
+answer_of frames number =
+    record { number = number; octets = min (answer_octets number frames) (2 ^ 32 - 1) }
+
+-- the octets so far of the message of the latest of some frames
+abbrev pub octets_so_far : List Head → ℕ
+octets_so_far [] = 0
+octets_so_far (head ∷ before) = head.size + begun_octets head before
 
 -- what a history leaves of one direction
 abbrev pub kept_of : Side → List Item → Kept
 kept_of side past = record {
   under_way = under_way side past;
   before = previous side past;
+  octets = min (octets_so_far (frames side past)) (2 ^ 32 - 1);
   numbers = take MAX_REQUESTS (map (λ request. request.number) (requests side past));
+  count = length (requests side past) % 2 ^ 64;
   waiting = length (waiting side past);
   kind = option_map (λ frame. frame.kind) (first (current side past));
   answers = map (answer_of (current side past)) (unfinished (current side past));
@@ -32,7 +41,8 @@ kept_of side past = record {
 
 -- ---- both directions
 
--- what an exchange is to a contract: what it keeps of each direction, and of what was given and taken
+-- what an exchange is to a contract: what it keeps of each direction, and of what was given and
+-- taken
 pub record Life : Type 0 where
   pub received : Kept
   pub sent : Kept
@@ -40,6 +50,6 @@ pub record Life : Type 0 where
 
 -- the exchange is what this history leaves, and no rule of the exchange was broken in it
 pub record Stands (life : Life) (past : List Item) : Type 0 where
-  pub unbroken : IsUnbroken past
+  pub unbroken : KeepsExchangeRules past
   pub received : life.received ≡ kept_of Side.Received past
   pub sent : life.sent ≡ kept_of Side.Sent past

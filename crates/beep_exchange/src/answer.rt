@@ -2,7 +2,7 @@
 ghost use Rattle.std.specs.Prelude.{◌≡◌, ◌≤◌, map, vec_len, vec_capacity};
 ghost use Rattle.beep_exchange.specs.Kept.{has_answer, octets_in, grown, continued, completed};
 
-use beep_frame::MAX_ANSWERS;
+use beep_history::MAX_ANSWERS;
 
 /// An unfinished answer: its number, and its octets so far, at most 2^32 - 1.
 #[derive(Clone, Copy, Debug, PartialEq, Eq)]

@@ -1,24 +1,29 @@
 //! What an exchange keeps of one direction, and how frames change it.
 ghost use Rattle.std.specs.Prelude.{◌≡◌, ◌+◌, ◌-◌, ◌<◌, ◌≤◌, ◌==◌, ◌∷◌, ◌++◌, [], true, false, IfOk, IsTrue, length, take, drop, min, if◌then◌else◌};
 ghost use Rattle.std.specs.VecDeque.{deque_len, deque_capacity};
-ghost use Rattle.beep_frame.specs.Journal.{implied};
-ghost use Rattle.beep_frame.specs.Marks.{goes_on};
-ghost use Rattle.beep_exchange.specs.Kept.{begins, is_open, has_number, is_current, is_early, octets_in, has_answer, fresh, began_kept, passed_kept, replied_kept};
+ghost use Rattle.beep_history.specs.Journal.{implied};
+ghost use Rattle.beep_history.specs.Marks.{goes_on};
+ghost use Rattle.beep_exchange.specs.Kept.{begins, is_open, has_number, is_current, is_early, octets_in, has_answer, begun_in, message_in, breaks_long, tag_under_way, oldest_number, fresh, began_kept, passed_kept, replied_kept};
 
 use crate::answer::{Answer, complete_answer, continue_answer, has_among, octets_among};
-use beep_frame::{Head, Kind, MAX_ANSWERS, MAX_REQUESTS, NoMemory};
+use beep_frame::{Head, Kind, Tag};
+use beep_history::{MAX_ANSWERS, MAX_MESSAGE, MAX_REQUESTS};
+use beep_octets::NoMemory;
 use std::alloc::Global;
 use std::collections::VecDeque;
 use std::marker::Model;
 
 mod rules;
 
-/// One direction: its frame under way and the one before, its last requests, and the reply to the oldest that waits.
+/// One direction: its frame under way and the one before, its last requests, and the reply to the
+/// oldest that waits.
 #[derive(Drop)]
 pub struct Way {
     under_way: Option<Head>,
     before: Option<Head>,
+    octets: u32,
     numbers: VecDeque<u32>,
+    count: u64,
     waiting: usize,
     kind: Option<Kind>,
     answers: Vec<Answer>,
@@ -27,7 +32,7 @@ pub struct Way {
 impl Model for Way {
     ghost use Rattle.std.specs.Prelude.{◌≡◌, ◌≤◌, vec_len, vec_capacity};
     ghost use Rattle.std.specs.VecDeque.{deque_len, deque_capacity};
-    ghost use Rattle.beep_frame.specs.declared.limits.TheConstants.{MAX_REQUESTS, MAX_ANSWERS};
+    ghost use Rattle.beep_history.specs.declared.limits.TheConstants.{MAX_REQUESTS, MAX_ANSWERS};
     ghost use Rattle.beep_exchange.specs.Kept.{Kept};
 
     ghost Value = { Kept };
@@ -35,7 +40,9 @@ impl Model for Way {
     ghost view = { λ w. record {
       under_way = w.under_way;
       before = w.before;
+      octets = w.octets;
       numbers = w.numbers.items;
+      count = w.count;
       waiting = w.waiting;
       kind = w.kind;
       answers = w.answers.items;
@@ -57,7 +64,9 @@ impl Way {
         Ok(Way {
             under_way: None,
             before: None,
+            octets: 0,
             numbers,
+            count: 0,
             waiting: 0,
             kind: None,
             answers,
@@ -83,7 +92,7 @@ impl Way {
     }
 
     /// Whether a header begins a request.
-    fn is_new_request(&self, head: &Head) -> bool
+    pub fn is_new_request(&self, head: &Head) -> bool
         ensures { result ≡ begins self.now head.now }
     {
         head.kind.is_msg()
@@ -142,7 +151,8 @@ impl Way {
 
     /// Whether one of the requests that have wholly passed and wait has this number.
     fn has_whole(&self, number: u32) -> bool
-        ensures { result ≡ has_number number (drop (if is_open self.now then 1 else 0) (take self.now.waiting self.now.numbers)) }
+        ensures { result ≡ has_number number
+            (drop (if is_open self.now then 1 else 0) (take self.now.waiting self.now.numbers)) }
     {
         let skipped = if self.is_open() { 1 } else { 0 };
         self.numbers
@@ -173,6 +183,7 @@ impl Way {
     {
         if self.is_new_request(head) {
             push_newest(&mut self.numbers, head.msgno);
+            self.count = self.count.wrapping_add(1);
             self.waiting += 1;
         }
         self.under_way = Some(*head);
@@ -184,9 +195,104 @@ impl Way {
         ensures passed { self.new ≡ passed_kept self.old }
     {
         let head = self.under_way;
+        self.octets = self.octets_after();
         self.before = head;
         self.under_way = None;
         head
+    }
+
+    /// The octets so far of the message of the frame that passed last, once the one under way has
+    /// passed.
+    fn octets_after(&self) -> u32
+        ensures { result ≡ (passed_kept self.now).octets }
+    {
+        match self.under_way {
+            None => self.octets,
+            Some(head) => self.begun_in(&head).saturating_add(head.size),
+        }
+    }
+
+    /// The octets so far of the message that a frame goes on, where it is no ANS.
+    fn begun_in(&self, head: &Head) -> u32
+        ensures { result ≡ begun_in self.now head.now }
+    {
+        match self.before {
+            None => 0,
+            Some(before) => {
+                if before.kind.is_same(head.kind) && goes_on(head, &before) {
+                    self.octets
+                } else {
+                    0
+                }
+            }
+        }
+    }
+
+    /// The octets of the message of a header of this direction, its own included, up to 2^32 - 1.
+    fn message_in(&self, theirs: &Way, head: &Head) -> u32
+        ensures { result ≡ message_in self.now theirs.now head.now }
+    {
+        let begun = if head.kind.is_ans() {
+            theirs.octets_in(head.ansno)
+        } else {
+            self.begun_in(head)
+        };
+        begun.saturating_add(head.size)
+    }
+
+    /// Whether a header of this direction makes a message of a channel above zero too long.
+    pub fn breaks_long(&self, theirs: &Way, head: &Head) -> bool
+        ensures { result ≡ breaks_long self.now theirs.now head.now }
+    {
+        head.channel != 0 && self.message_in(theirs, head) > MAX_MESSAGE
+    }
+
+    /// The tag of the frame under way.
+    pub fn tag(&self, theirs: &Way) -> Option<Tag>
+        ensures { result ≡ tag_under_way self.now theirs.now }
+    {
+        let head = self.under_way?;
+        let request = if head.kind.is_msg() {
+            self.count.wrapping_sub(1)
+        } else {
+            theirs.count.wrapping_sub(theirs.waiting as u64)
+        };
+        Some(Tag {
+            kind: head.kind,
+            request,
+            ansno: head.ansno,
+        })
+    }
+
+    /// The number of the oldest request that waits.
+    pub fn oldest_number(&self) -> Option<u32>
+        ensures { result ≡ oldest_number self.now }
+    {
+        if self.waiting == 0 {
+            return None;
+        }
+        Some(self.numbers[self.waiting - 1])
+    }
+
+    /// The header of the frame under way.
+    pub fn under_way(&self) -> Option<Head>
+        ensures { result ≡ self.now.under_way }
+    {
+        self.under_way
+    }
+
+    /// The header of the frame that passed last.
+    pub fn before(&self) -> Option<Head>
+        ensures { result ≡ self.now.before }
+    {
+        self.before
+    }
+
+    /// How many requests wait for their reply.
+    pub fn waiting(&self) -> usize
+        ensures { result ≡ self.now.waiting }
+    {
+        self.waiting
     }
 
     /// Notes a frame of the reply to the oldest request that waits.

@@ -1,5 +1,5 @@
 -- What a decoder's places become, by what was found.
-use Rattle.std.proofs.Common.{◌≡◌, ℕ, ◌+◌, ◌-◌, ◌<◌, ◌≤◌, List, [], ◌∷◌, ◌++◌, length, take, drop, get_or, refl, ap, sym, ◌∙◌, arith, subst, append_assoc, append-nil, length-append, length-drop, take-append-drop}
+use Rattle.std.proofs.Common.{◌≡◌, ℕ, ◌+◌, ◌-◌, ◌<◌, ◌≤◌, Option, None, List, [], ◌∷◌, ◌++◌, length, take, drop, get_or, refl, ap, sym, ◌∙◌, arith, subst, append_assoc, append-nil, length-append, length-drop, take-append-drop}
 use Rattle.std.proofs.lemmas.List.{take_more, take_all, take-take, length-take-le, get_or-take, get_or-drop}
 use Rattle.std.proofs.Math.Seq.{take-add}
 use Rattle.beep_frame.specs.declared.head.Head.{Head}
@@ -17,34 +17,34 @@ use Rattle.beep_frame.proofs.LineLemmas.{reads}
 
 -- ---- in a line
 
-module _ (old : Line) (rest octets : List ℕ) (heads : List Head) (n : ℕ) (at : At Place.Line old rest heads) where
+module _ (old : Line) (rest octets : List ℕ) (known : Option Head) (n : ℕ) (at : At Place.Line old rest known) where
   -- the octets since the last whole frame lead where these octets lead from the line
   onward : run (at_line line_start) (rest ++ take n octets) ≡ run (at_line old) (take n octets)
   onward = run-append (at_line line_start) rest (take n octets) ∙ ap (λ t. run t (take n octets)) at.0
 
-  pub line_more : (new : Line) → at_line new ≡ run (at_line old) (take n octets) → n ≡ length octets → (n ≡ length octets) × At Place.Line new (rest ++ octets) heads
+  pub line_more : (new : Line) → at_line new ≡ run (at_line old) (take n octets) → n ≡ length octets → (n ≡ length octets) × At Place.Line new (rest ++ octets) known
   line_more new e all =
       let same : take n octets ≡ octets = take_all n octets (omega arith) in
       (all, (rw same at onward ∙ sym (rw same at e), at.1))
 
-  pub line_head : (head : Head) → at_head head ≡ run (at_line old) (take n octets) → (heads ≡ []) × IsHead head × (rest ++ take n octets ≡ header head)
+  pub line_head : (head : Head) → at_head head ≡ run (at_line old) (take n octets) → (known ≡ None) × IsHead head × (rest ++ take n octets ≡ header head)
   line_head head e = let r = reads (at_head head) (rest ++ take n octets) (onward ∙ sym e) in (at.1, r.0, sym r.1)
 
-  pub line_seq : (seq : Seq) → at_seq seq ≡ run (at_line old) (take n octets) → (heads ≡ []) × IsSeq seq × (rest ++ take n octets ≡ spelling (seq_frame seq))
+  pub line_seq : (seq : Seq) → at_seq seq ≡ run (at_line old) (take n octets) → (known ≡ None) × IsSeq seq × (rest ++ take n octets ≡ spelling (seq_frame seq))
   line_seq seq e = let r = reads (at_seq seq) (rest ++ take n octets) (onward ∙ sym e) in (at.1, r.0, sym r.1)
 
-  pub line_bad : dead ≡ run (at_line old) (take n octets) → n ≤ length octets → StopsAt old octets n → EndsInLine rest (take n octets)
+  pub line_bad : dead ≡ run (at_line old) (take n octets) → n ≤ length octets → StopsAt old octets n → EndsInLine rest known (take n octets)
   line_bad e within s =
       let one : n - 1 + 1 ≡ n = omega (arith, s.some) in
       let c : ℕ = get_or octets (n - 1) 0 in
       let taken : take n octets ≡ take (n - 1) octets ++ c ∷ [] = rw one at (take_more octets (n - 1) 0 (omega (arith, s.some))) in
       let last : run (at_line old) (take n octets) ≡ line_turn s.before c = ap (run (at_line old)) taken ∙ run-append (at_line old) (take (n - 1) octets) (c ∷ []) ∙ ap (λ t. run t (c ∷ [])) s.inside in
       let inside : run (at_line line_start) (rest ++ take (n - 1) octets) ≡ at_line s.before = run-append (at_line line_start) rest (take (n - 1) octets) ∙ ap (λ t. run t (take (n - 1) octets)) at.0 ∙ s.inside in
-      record { before = take (n - 1) octets; octet = c; taken_is = taken; dies = record { line = s.before; inside = inside; dies = sym last ∙ sym e } }
+      record { none = at.1; before = take (n - 1) octets; octet = c; taken_is = taken; dies = record { line = s.before; inside = inside; dies = sym last ∙ sym e } }
 
 -- ---- in a trailer
 
-module _ (rest octets : List ℕ) (heads : List Head) (at m : ℕ) (head : Head) (payload : List ℕ) (p : PayloadOf rest heads head (payload ++ take at trailer)) (sized : length payload ≡ head.size) (within : at + m ≤ 5) (same : take m octets ≡ take m (take (5 - at) (drop at trailer))) where
+module _ (rest octets : List ℕ) (known : Option Head) (at m : ℕ) (head : Head) (payload : List ℕ) (p : PayloadOf rest known head (payload ++ take at trailer)) (sized : length payload ≡ head.size) (within : at + m ≤ 5) (same : take m octets ≡ take m (take (5 - at) (drop at trailer))) where
   joined : take at trailer ++ take m octets ≡ take (at + m) trailer
   joined = ap (λ x. take at trailer ++ x) (same ∙ take-take m (5 - at) (drop at trailer) (omega arith)) ∙ sym (take-add at m trailer)
 
@@ -53,38 +53,38 @@ module _ (rest octets : List ℕ) (heads : List Head) (at m : ℕ) (head : Head)
   grown =
       ap (λ x. x ++ take m octets) p.rest_is ∙ append_assoc (header head) (payload ++ take at trailer) (take m octets) ∙ ap (λ x. header head ++ x) (append_assoc payload (take at trailer) (take m octets) ∙ ap (λ x. payload ++ x) joined)
 
-  pub trailer_more : (line : Line) → m ≡ length octets → at + m < 5 → (m ≡ length octets) × At (Place.Trailer (at + m)) line (rest ++ octets) heads
+  pub trailer_more : (line : Line) → m ≡ length octets → at + m < 5 → (m ≡ length octets) × At (Place.Trailer (at + m)) line (rest ++ octets) known
   trailer_more line all fewer =
       let whole : rest ++ octets ≡ header head ++ (payload ++ take (at + m) trailer) = subst (λ x. rest ++ x ≡ header head ++ (payload ++ take (at + m) trailer)) (take_all m octets (omega arith)) grown in
-      (all, (head, payload, record { heads_are = p.heads_are; is_head = p.is_head; rest_is = whole }, sized, fewer))
+      (all, (head, payload, record { known_is = p.known_is; is_head = p.is_head; rest_is = whole }, sized, fewer))
 
-  pub trailer_end : at + m ≡ 5 → EndsFrame (rest ++ take m octets) heads
+  pub trailer_end : at + m ≡ 5 → EndsFrame (rest ++ take m octets) known
   trailer_end all =
       let five : take (at + m) trailer ≡ trailer = take_all (at + m) trailer (omega arith) in
-      record { head = head; payload = payload; heads_are = p.heads_are; is_frame = (p.is_head, sized); whole = grown ∙ ap (λ x. header head ++ (payload ++ x)) five ∙ sym (append_assoc (header head) payload trailer) }
+      record { head = head; payload = payload; known_is = p.known_is; is_frame = (p.is_head, sized); whole = grown ∙ ap (λ x. header head ++ (payload ++ x)) five ∙ sym (append_assoc (header head) payload trailer) }
 
-  pub trailer_bad : at + m < 5 → m < length octets → (get_or octets m 0 ≡ get_or (take (5 - at) (drop at trailer)) m 0 → ⊥) → EndsInTrailer rest (take (m + 1) octets)
+  pub trailer_bad : at + m < 5 → m < length octets → (get_or octets m 0 ≡ get_or (take (5 - at) (drop at trailer)) m 0 → ⊥) → EndsInTrailer rest known (take (m + 1) octets)
   trailer_bad fewer some other =
       let place : get_or (take (5 - at) (drop at trailer)) m 0 ≡ get_or trailer (at + m) 0 = get_or-take (5 - at) (drop at trailer) m 0 (omega arith) ∙ get_or-drop at trailer m 0 in
       let dies : DiesInTrailer (rest ++ take m octets) (get_or octets m 0) = record { head = head; payload = payload; count = at + m; is_frame = (p.is_head, sized); fewer = fewer; whole = grown ∙ sym (append_assoc (header head) payload (take (at + m) trailer)); other = λ e. other (e ∙ sym place) } in
-      record { before = take m octets; octet = get_or octets m 0; taken_is = take_more octets m 0 some; dies = dies }
+      record { before = take m octets; octet = get_or octets m 0; taken_is = take_more octets m 0 some; dies = dies; known_is = p.known_is }
 
 -- ---- in a payload
 
-module _ (rest octets : List ℕ) (heads : List Head) (left : ℕ) (head : Head) (payload : List ℕ) (p : PayloadOf rest heads head payload) (sized : length payload + left ≡ head.size) where
-  payload_grown : (n : ℕ) → PayloadOf (rest ++ take n octets) heads head (payload ++ take n octets)
+module _ (rest octets : List ℕ) (known : Option Head) (left : ℕ) (head : Head) (payload : List ℕ) (p : PayloadOf rest known head payload) (sized : length payload + left ≡ head.size) where
+  payload_grown : (n : ℕ) → PayloadOf (rest ++ take n octets) known head (payload ++ take n octets)
   payload_grown n =
-      record { heads_are = p.heads_are; is_head = p.is_head; rest_is = ap (λ x. x ++ take n octets) p.rest_is ∙ append_assoc (header head) payload (take n octets) }
+      record { known_is = p.known_is; is_head = p.is_head; rest_is = ap (λ x. x ++ take n octets) p.rest_is ∙ append_assoc (header head) payload (take n octets) }
 
-  pub payload_more : (line : Line) → length octets < left → (length octets ≡ length octets) × At (Place.Payload (left - length octets)) line (rest ++ octets) heads
+  pub payload_more : (line : Line) → length octets < left → (length octets ≡ length octets) × At (Place.Payload (left - length octets)) line (rest ++ octets) known
   payload_more line fewer =
-      let whole : PayloadOf (rest ++ octets) heads head (payload ++ octets) = subst (λ x. PayloadOf (rest ++ x) heads head (payload ++ x)) (take_all (length octets) octets (omega arith)) (payload_grown (length octets)) in
+      let whole : PayloadOf (rest ++ octets) known head (payload ++ octets) = subst (λ x. PayloadOf (rest ++ x) known head (payload ++ x)) (take_all (length octets) octets (omega arith)) (payload_grown (length octets)) in
       (refl, (head, payload ++ octets, whole, omega (arith, length-append payload octets), omega arith))
 
   -- the payload is whole, and none of its trailer came
-  pub payload_whole : (line : Line) → left ≤ length octets → At (Place.Trailer 0) line (rest ++ take left octets) heads
+  pub payload_whole : (line : Line) → left ≤ length octets → At (Place.Trailer 0) line (rest ++ take left octets) known
   payload_whole line enough =
-      let grown : PayloadOf (rest ++ take left octets) heads head ((payload ++ take left octets) ++ []) = subst (λ x. PayloadOf (rest ++ take left octets) heads head x) (sym (append-nil (payload ++ take left octets))) (payload_grown left) in
+      let grown : PayloadOf (rest ++ take left octets) known head ((payload ++ take left octets) ++ []) = subst (λ x. PayloadOf (rest ++ take left octets) known head x) (sym (append-nil (payload ++ take left octets))) (payload_grown left) in
       (head, payload ++ take left octets, grown, omega (arith, length-append payload (take left octets), length-take-le left octets enough), omega arith)
 
 -- ---- behind a payload
@@ -106,13 +106,15 @@ module _ (rest octets tail : List ℕ) (left n : ℕ) (enough : left ≤ length 
   taken_behind before octet h = sym used ∙ ap (λ x. take left octets ++ x) h ∙ sym (append_assoc (take left octets) before (octet ∷ []))
 
   -- what was found behind a payload's octets was found behind the rest
-  pub shifted : (found : Found) (place : Place) (line : Line) (heads : List Head) → Finds found place line (rest ++ take left octets) heads tail n → Finds found place line rest heads octets (left + n)
-  shifted Found.More place line heads f =
-      (omega (arith, f.0, ap length tail_is, length-drop left octets), subst (λ x. At place line x heads) all_behind f.1)
-  shifted (Found.Head head) place line heads f = (f.0, f.1, sym behind ∙ f.2)
-  shifted Found.Frame place line heads f = subst (λ x. EndsFrame x heads) behind f
-  shifted (Found.Seq seq) place line heads f = (f.0, f.1, sym behind ∙ f.2)
-  shifted Found.BadLine place line heads f =
-      record { before = take left octets ++ f.before; octet = f.octet; taken_is = taken_behind f.before f.octet f.taken_is; dies = subst (λ x. DiesInLine x f.octet) (append_assoc rest (take left octets) f.before) f.dies }
-  shifted Found.BadTrailer place line heads f =
-      record { before = take left octets ++ f.before; octet = f.octet; taken_is = taken_behind f.before f.octet f.taken_is; dies = subst (λ x. DiesInTrailer x f.octet) (append_assoc rest (take left octets) f.before) f.dies }
+  pub shifted : (found : Found) (place : Place) (line : Line) (known : Option Head) → Finds found place line (rest ++ take left octets) known tail n → Finds found place line rest known octets (left + n)
+  shifted Found.More place line known f =
+      (omega (arith, f.0, ap length tail_is, length-drop left octets), subst (λ x. At place line x known) all_behind f.1)
+  shifted (Found.Head head) place line known f = (f.0, f.1, sym behind ∙ f.2)
+  shifted Found.Frame place line known f = subst (λ x. EndsFrame x known) behind f
+  shifted (Found.Seq seq) place line known f = (f.0, f.1, sym behind ∙ f.2)
+  shifted Found.BadLine place line known f =
+      record { none = f.none; before = take left octets ++ f.before; octet = f.octet; taken_is = taken_behind f.before f.octet f.taken_is; dies = subst (λ x. DiesInLine x f.octet) (append_assoc rest (take left octets) f.before) f.dies }
+  shifted Found.BadTrailer place line known f =
+      let whole : rest ++ (take left octets ++ f.before) ≡ header f.dies.head ++ f.dies.payload ++ take f.dies.count trailer = sym (append_assoc rest (take left octets) f.before) ∙ f.dies.whole in
+      let dies : DiesInTrailer (rest ++ (take left octets ++ f.before)) f.octet = record { head = f.dies.head; payload = f.dies.payload; count = f.dies.count; is_frame = f.dies.is_frame; fewer = f.dies.fewer; whole = whole; other = f.dies.other } in
+      record { before = take left octets ++ f.before; octet = f.octet; taken_is = taken_behind f.before f.octet f.taken_is; dies = dies; known_is = f.known_is }

@@ -1,24 +1,27 @@
 -- What the definitions mean.
-use Rattle.std.proofs.Common.{◌≡◌, ℕ, ◌+◌, ◌^◌, ◌<◌, ◌≤◌, List, [], ◌∷◌, ◌++◌, length, take, inl, inr, refl, ap, sym, ◌∙◌, arith, codes, append_assoc, append-nil, length-append}
+use Rattle.std.proofs.Common.{◌≡◌, ℕ, ◌+◌, ◌^◌, ◌<◌, ◌≤◌, Option, Some, None, List, [], ◌∷◌, ◌++◌, length, take, refl, ap, sym, ◌∙◌, arith, codes, subst, replicate, append_assoc, append-nil, length-append}
 use Rattle.std.specs.Fmt.{decimal}
+use Rattle.std.proofs.lemmas.List.{length-replicate}
 use Rattle.std.proofs.lemmas.Fmt.{length-decimal-le}
 use Rattle.beep_frame.specs.declared.kind.Kind.{Kind}
 use Rattle.beep_frame.specs.declared.head.Head.{Head}
 use Rattle.beep_frame.specs.declared.seq.Seq.{Seq}
 use Rattle.beep_frame.specs.declared.line.Line.{Line}
 use Rattle.beep_frame.specs.declared.finder.Place.{Place}
-use Rattle.beep_frame.specs.Frame.{Frame, IsHead, IsSeq, max_ansno_of}
+use Rattle.beep_frame.specs.Frame.{Frame, framed, IsHead, IsSeq, max_ansno_of}
 use Rattle.beep_frame.specs.Spelling.{header, header_line, seq_line, line_end, spelling, trailer, keyword, field, continuation, answer_field}
-use Rattle.beep_frame.specs.Stream.{IsUnfinished, Stream}
+use Rattle.beep_frame.specs.Stream.{IsUnfinished, Stream, HasNoHead, IsHeadOf, BeginsWithin}
 use Rattle.beep_frame.specs.Line.{Turn, at_line, at_head, at_seq, dead, line_start}
 use Rattle.beep_frame.specs.Reading.{run, At}
-use Rattle.beep_frame.specs.Tracks.{TrackerState, Tracks}
-use Rattle.beep_frame.specs.Stands.{DecoderState, Stands}
-use Rattle.beep_frame.specs.Laws.{OneReading, NoneBeginsAnother, StaysAlive, TellsHead, Means}
+use Rattle.beep_frame.specs.Tracks.{TrackerState, IsWithinSize, Tracks}
+use Rattle.beep_frame.specs.Decoding.{DecoderState, WasFed}
+use Rattle.beep_frame.specs.Laws.{OneReading, NoneBeginsAnother, StaysAlive, Means}
 use Rattle.beep_frame.proofs.LineLemmas.{reads, ReadsTurn}
-use Rattle.beep_frame.proofs.RunLemmas.{run-append}
-use Rattle.beep_frame.proofs.StreamLemmas.{same_frame}
+use Rattle.beep_frame.proofs.RunLemmas.{run-append, run-dead}
+use Rattle.beep_frame.proofs.WholeLemmas.{header_runs}
+use Rattle.beep_frame.proofs.StreamLemmas.{same_frame, same_line}
 use Rattle.beep_frame.proofs.AliveLemmas.{one_reading, alive_before, unfinished_line, unfinished_payload, unfinished_trailer, no_line_behind_header, finish_line, IsEnd}
+use Rattle.beep_frame.specs.Fed.{fed_of}
 
 pub is_one_reading : OneReading
 is_one_reading octets fs gs r s a b = one_reading fs gs r s a.each b.each a.unfinished b.unfinished (sym a.whole ∙ b.whole)
@@ -73,7 +76,22 @@ unfolding seq_line
 length-seq_line s w =
     omega (arith, length-four (codes "SEQ") (field s.channel) (field s.ackno) (field s.window), few_digits s.channel (omega (arith, w.channel)), few_digits s.ackno w.ackno, few_digits s.window (omega (arith, w.window)))
 
--- ---- a header that was told
+-- ---- the header of a rest
+
+-- no header begins another
+not_longer : (h g : Head) → IsHead h → IsHead g → (more : List ℕ) (octet : ℕ) → header h ≡ header g ++ (more ++ octet ∷ []) → ⊥
+not_longer h g w v more octet e = some_behind more (sym (header_runs h w) ∙ ap (run (at_line line_start)) e ∙ run-append (at_line line_start) (header g) (more ++ octet ∷ []) ∙ ap (λ t. run t (more ++ octet ∷ [])) (header_runs g v))
+  where
+    some_behind : (more : List ℕ) → at_head h ≡ run (at_head g) (more ++ octet ∷ []) → ⊥
+    some_behind [] r = cc
+    some_behind (c ∷ more) r = let two : at_head h ≡ dead = r ∙ run-dead (more ++ octet ∷ []) in cc
+
+-- octets begin with one header at most
+pub same_head : (h g : Head) (x y : List ℕ) → IsHead h → IsHead g → header h ++ x ≡ header g ++ y → h ≡ g
+same_head h g x y w v e =
+    let line = same_line (framed h (replicate h.size 0)) (framed g (replicate g.size 0)) x y (w, length-replicate h.size 0) (v, length-replicate g.size 0) e in
+    let ends : at_head h ≡ at_head g = line.end in
+    cc
 
 ends_short : (t : Turn) (octets : List ℕ) → IsEnd t → ReadsTurn t octets → length octets ≤ 62
 ends_short (at_line line) octets i r = absurd i
@@ -87,31 +105,42 @@ line_short rest line e =
     let whole : run (at_line line_start) (rest ++ f.octet ∷ f.others) ≡ f.end = run-append (at_line line_start) rest (f.octet ∷ f.others) ∙ ap (λ t. run t (f.octet ∷ f.others)) e ∙ f.run_is in
     omega (arith, ends_short f.end (rest ++ f.octet ∷ f.others) f.is_end (reads f.end (rest ++ f.octet ∷ f.others) whole), length-append rest (f.octet ∷ f.others))
 
-pub tells_head : (place : Place) (line : Line) (rest : List ℕ) (heads : List Head) → At place line rest heads → TellsHead rest heads
-tells_head Place.Line line rest heads at =
-    inl (at.1, record { short = line_short rest line at.0; none = λ head more w e. no_line_behind_header head more line w (ap (run (at_line line_start)) (sym e) ∙ at.0) })
-tells_head (Place.Payload left) line rest heads at =
-    inr (at.0, at.2.heads_are, record { is_head = at.2.is_head; more = at.1; begins = at.2.rest_is })
-tells_head (Place.Trailer count) line rest heads at =
-    inr (at.0, at.2.heads_are, record { is_head = at.2.is_head; more = at.1 ++ take count trailer; begins = at.2.rest_is })
+pub head_at : (place : Place) (line : Line) (rest : List ℕ) (known : Option Head) → At place line rest known → IsHeadOf rest known
+head_at Place.Line line rest known at =
+    subst (IsHeadOf rest) (sym at.1) (record { short = omega (arith, line_short rest line at.0); none = λ head more w e. no_line_behind_header head more line w (ap (run (at_line line_start)) (sym e) ∙ at.0) })
+head_at (Place.Payload left) line rest known at =
+    subst (IsHeadOf rest) (sym at.2.known_is) (record { is_head = at.2.is_head; more = at.1; begins = at.2.rest_is })
+head_at (Place.Trailer count) line rest known at =
+    subst (IsHeadOf rest) (sym at.2.known_is) (record { is_head = at.2.is_head; more = at.1 ++ take count trailer; begins = at.2.rest_is })
 
--- no header begins a rest of which none was told
-pub no_head : (rest : List ℕ) (heads : List Head) → TellsHead rest heads → heads ≡ [] → (head : Head) (more : List ℕ) → IsHead head → rest ≡ header head ++ more → ⊥
-no_head rest heads (inl w) e head more i b = w.1.none head more i b
-no_head rest heads (inr w) e head more i b = let two : w.0 ∷ [] ≡ [] = sym w.1 ∙ e in cc
+-- no header begins a rest that has none
+pub no_head : (rest : List ℕ) (known : Option Head) → IsHeadOf rest known → known ≡ None → (head : Head) (more : List ℕ) → IsHead head → rest ≡ header head ++ more → ⊥
+no_head rest known w e head more i b = let none : HasNoHead rest = subst (IsHeadOf rest) e w in none.none head more i b
 
-unfinished_at : (place : Place) (line : Line) (rest : List ℕ) (heads : List Head) → At place line rest heads → IsUnfinished rest
-unfinished_at Place.Line line rest heads at = unfinished_line rest line at.0
-unfinished_at (Place.Payload left) line rest heads at = unfinished_payload rest at.0 at.1 left at.2.is_head at.2.rest_is at.3 at.4
-unfinished_at (Place.Trailer count) line rest heads at =
+-- a header without its last octet has no whole header
+pub not_whole : (head : Head) (octets : List ℕ) (octet : ℕ) → IsHead head → octets ++ octet ∷ [] ≡ header head → HasNoHead octets
+not_whole head octets octet is_head e =
+    record { short = omega (arith, ap length e, length-append octets (octet ∷ []), length-append (header_line head) line_end, length-header_line head is_head); none = λ other more is_other b. not_longer head other is_head is_other more octet (sym e ∙ ap (λ x. x ++ octet ∷ []) b ∙ append_assoc (header other) more (octet ∷ [])) }
+
+-- the header that begins a rest is within the limit
+pub begins_within : (max : ℕ) (rest : List ℕ) (known : Option Head) → IsHeadOf rest known → IsWithinSize max known → BeginsWithin max rest
+begins_within max rest None w small head more is_head b = absurd (w.none head more is_head b)
+begins_within max rest (Some first) w small head more is_head b =
+    let same : head ≡ first = same_head head first more w.more is_head w.is_head (sym b ∙ w.begins) in
+    omega (arith, small, ap (λ (h : Head). h.size) same)
+
+unfinished_at : (place : Place) (line : Line) (rest : List ℕ) (known : Option Head) → At place line rest known → IsUnfinished rest
+unfinished_at Place.Line line rest known at = unfinished_line rest line at.0
+unfinished_at (Place.Payload left) line rest known at = unfinished_payload rest at.0 at.1 left at.2.is_head at.2.rest_is at.3 at.4
+unfinished_at (Place.Trailer count) line rest known at =
     unfinished_trailer rest at.0 at.1 count (at.2.is_head, at.3) at.4 (at.2.rest_is ∙ sym (append_assoc (header at.0) at.1 (take count trailer)))
 
 -- what a tracker that stands so has read
-pub read_by : (t : TrackerState) (fed : List ℕ) (frames : List Frame) (rest : List ℕ) (heads : List Head) → Tracks t fed frames rest heads → Stream fed frames rest
-read_by t fed frames rest heads s =
-    record { whole = s.whole; each = s.each; unfinished = unfinished_at t.place t.line rest heads s.at }
+pub read_by : (t : TrackerState) (fed : List ℕ) (frames : List Frame) (rest : List ℕ) (known : Option Head) → Tracks t (fed_of fed frames rest known) → Stream fed frames rest
+read_by t fed frames rest known s =
+    record { whole = s.whole; each = s.each; unfinished = unfinished_at t.place t.line rest known s.at }
 
-pub means : (d : DecoderState) (fed : List ℕ) (frames : List Frame) (rest : List ℕ) (heads : List Head) → Stands d fed frames rest heads → Means d fed frames rest heads
-means d fed frames rest heads s =
+pub means : (d : DecoderState) (fed : List ℕ) (frames : List Frame) (rest : List ℕ) (known : Option Head) → WasFed d (fed_of fed frames rest known) → Means d (fed_of fed frames rest known)
+means d fed frames rest known s =
     let t = s.tracks in
-    record { stream = read_by d.tracker fed frames rest heads t; within = t.within; tells = tells_head d.tracker.place d.tracker.line rest heads t.at }
+    record { stream = read_by d.tracker fed frames rest known t; within = t.within; is_head = head_at d.tracker.place d.tracker.line rest known t.at; begins_within = begins_within d.tracker.max rest known (head_at d.tracker.place d.tracker.line rest known t.at) t.known_within }

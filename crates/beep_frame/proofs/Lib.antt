@@ -1,4 +1,5 @@
 pub mod RunLemmas
+pub mod ExcludedLemmas
 pub mod FindLemmas
 pub mod PartLemmas
 pub mod LineLemmas
@@ -8,17 +9,6 @@ pub mod DeadLemmas
 pub mod AliveLemmas
 pub mod DecodeLemmas
 pub mod LawLemmas
-pub mod AnswersLemmas
-pub mod RulesLemmas
-pub mod ListsLemmas
-pub mod StepsLemmas
-pub mod KeptLemmas
-pub mod SoundLemmas
-pub mod UnbrokenLemmas
-pub mod PassedLemmas
-pub mod MomentsLemmas
-pub mod MarksLemmas
-pub mod OrderLemmas
 pub mod OutlineLemmas
 pub mod PayloadLemmas
 pub mod SpellingLemmas

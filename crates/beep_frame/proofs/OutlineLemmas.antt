@@ -13,12 +13,13 @@ use Rattle.beep_frame.specs.declared.outline.Reading.{Reading}
 use Rattle.beep_frame.specs.Frame.{Frame, framed, seq_frame}
 use Rattle.beep_frame.specs.Spelling.{header, trailer, spelling}
 use Rattle.beep_frame.specs.Stream.{Stream, DiesAt, BreaksBy}
-use Rattle.beep_frame.specs.Told.{told}
+use Rattle.beep_frame.specs.Modulo.{modulo_2_64}
 use Rattle.beep_frame.specs.Tracks.{TrackerState, Tracks}
-use Rattle.beep_frame.specs.Decodes.{Tells, is_broken}
+use Rattle.beep_frame.specs.Decodes.{Answers, is_broken}
 use Rattle.beep_frame.specs.Outline.{frame_of, frames_of, DiesBy, IsWhole, IsDead}
 use Rattle.beep_frame.specs.Outlining.{Notes, Holds, HasRoom, Adds, Ends, Follows}
 use Rattle.beep_frame.proofs.LawLemmas.{read_by}
+use Rattle.beep_frame.specs.Fed.{fed_of}
 
 -- a payload lies behind what comes before it
 payload_at : (front payload tail read : List ℕ) (body size : ℕ) → body ≡ length front → length payload ≡ size → read ≡ front ++ (payload ++ tail) → take size (drop body read) ≡ payload
@@ -34,38 +35,38 @@ module _ (r : Reading) (fed : List ℕ) (h : Holds r fed) (piece : List ℕ) (n 
   abbrev pub frames : List Frame
   frames = frames_of r.frames.items
 
-  -- what was read behind the frames
+  -- what was read after the frames
   behind : read ≡ flat_map spelling frames ++ (h.rest ++ take n piece)
   behind = sym joined ∙ ap (λ x. x ++ take n piece) h.stands.whole ∙ append_assoc (flat_map spelling frames) h.rest (take n piece)
 
-  more : (new : Reading) → Follows Step.More (record r { tracker = d }) new read → Tells Step.More d fed frames h.rest h.heads piece n → Holds new read
+  more : (new : Reading) → Follows Step.More (record r { tracker = d }) new read → Answers Step.More d (fed_of fed frames h.rest h.known) piece n → Holds new read
   more new f g =
       let all : piece ≡ take n piece = sym (take_all n piece (omega (arith, g.all))) in
-      let stands : Tracks d read frames (h.rest ++ take n piece) h.heads = subst (λ x. Tracks d x frames (h.rest ++ take n piece) h.heads) joined (subst (λ x. Tracks d (fed ++ x) frames (h.rest ++ x) h.heads) all g.stands) in
-      subst (λ x. Holds x read) (sym f) (record { rest = h.rest ++ take n piece; heads = h.heads; stands = stands; max = limit ∙ h.max; notes = h.notes })
+      let stands : Tracks d (fed_of read frames (h.rest ++ take n piece) h.known) = subst (λ x. Tracks d (fed_of x frames (h.rest ++ take n piece) h.known)) joined (subst (λ x. Tracks d (fed_of (fed ++ x) frames (h.rest ++ x) h.known)) all g.stands) in
+      subst (λ x. Holds x read) (sym f) (record { rest = h.rest ++ take n piece; known = h.known; stands = stands; max = limit ∙ h.max; notes = h.notes })
 
-  headed : (head : Head) (new : Reading) → Follows (Step.Head head) (record r { tracker = d }) new read → Tells (Step.Head head) d fed frames h.rest h.heads piece n → Holds new read
+  headed : (head : Head) (new : Reading) → Follows (Step.Head head) (record r { tracker = d }) new read → Answers (Step.Head head) d (fed_of fed frames h.rest h.known) piece n → Holds new read
   headed head new f g =
-      let stands : Tracks d read frames (h.rest ++ take n piece) (head ∷ []) = subst (λ x. Tracks d x frames (h.rest ++ take n piece) (head ∷ [])) joined g.stands in
+      let stands : Tracks d (fed_of read frames (h.rest ++ take n piece) (Some head)) = subst (λ x. Tracks d (fed_of x frames (h.rest ++ take n piece) (Some head))) joined g.stands in
       let body : length read ≡ length (flat_map spelling frames ++ header head) = ap length (behind ∙ ap (λ x. flat_map spelling frames ++ x) g.whole) in
-      subst (λ x. Holds x read) (sym f) (record { rest = h.rest ++ take n piece; heads = head ∷ []; stands = stands; max = limit ∙ h.max; notes = (refl, body) })
+      subst (λ x. Holds x read) (sym f) (record { rest = h.rest ++ take n piece; known = Some head; stands = stands; max = limit ∙ h.max; notes = (refl, body) })
 
   -- one frame more
-  added : (frame : PlainFrame) (f : Frame) (new : Reading) → frame_of frame ≡ f → Adds frame (record r { tracker = d }) new → Tracks d (fed ++ take n piece) (frames ++ f ∷ []) [] [] → Holds new read
+  added : (frame : PlainFrame) (f : Frame) (new : Reading) → frame_of frame ≡ f → Adds frame (record r { tracker = d }) new → Tracks d (fed_of (fed ++ take n piece) (frames ++ f ∷ []) [] None) → Holds new read
   added frame f new e a g =
       let all : frames_of new.frames.items ≡ frames ++ f ∷ [] = ap frames_of a.frames ∙ map-append frame_of r.frames.items (frame ∷ []) ∙ ap (λ x. frames ++ x ∷ []) e in
-      let stands : Tracks new.tracker read (frames_of new.frames.items) [] [] = subst (λ x. Tracks x read (frames_of new.frames.items) [] []) (sym a.tracker) (subst (λ x. Tracks d read x [] []) (sym all) (subst (λ x. Tracks d x (frames ++ f ∷ []) [] []) joined g)) in
-      record { rest = []; heads = []; stands = stands; max = ap (λ (x : TrackerState). x.max) a.tracker ∙ limit ∙ h.max; notes = subst (λ b. Notes b (frames_of new.frames.items) []) (sym a.begun) refl }
+      let stands : Tracks new.tracker (fed_of read (frames_of new.frames.items) [] None) = subst (λ x. Tracks x (fed_of read (frames_of new.frames.items) [] None)) (sym a.tracker) (subst (λ x. Tracks d (fed_of read x [] None)) (sym all) (subst (λ x. Tracks d (fed_of x (frames ++ f ∷ []) [] None)) joined g)) in
+      record { rest = []; known = None; stands = stands; max = ap (λ (x : TrackerState). x.max) a.tracker ∙ limit ∙ h.max; notes = subst (λ b. Notes b (frames_of new.frames.items) None) (sym a.begun) refl }
 
   -- what ends with a data frame
   ended : (head : Head) (payload : List ℕ) → h.rest ++ take n piece ≡ spelling (framed head payload) → read ≡ (flat_map spelling frames ++ header head) ++ (payload ++ trailer)
   ended head payload whole =
       behind ∙ ap (λ x. flat_map spelling frames ++ x) whole ∙ regrouped (flat_map spelling frames) (header head) payload trailer
 
-  framed_by : (begun : Option Begun) (new : Reading) → Notes begun frames h.heads → Ends begun (record r { tracker = d }) new read → Tells Step.Frame d fed frames h.rest h.heads piece n → Holds new read
-  framed_by None new w f g = let two : [] ≡ g.head ∷ [] = sym w ∙ g.heads_are in absurd (cc)
+  framed_by : (begun : Option Begun) (new : Reading) → Notes begun frames h.known → Ends begun (record r { tracker = d }) new read → Answers Step.Frame d (fed_of fed frames h.rest h.known) piece n → Holds new read
+  framed_by None new w f g = let two : None ≡ Some g.head = sym w ∙ g.known_is in absurd (cc)
   framed_by (Some begun) new w f g =
-      let heads : begun.head ∷ [] ≡ g.head ∷ [] = sym w.0 ∙ g.heads_are in
+      let known : Some begun.head ≡ Some g.head = sym w.0 ∙ g.known_is in
       let same : begun.head ≡ g.head = cc in
       let body : begun.body ≡ length (flat_map spelling frames ++ header g.head) = w.1 ∙ ap (λ x. length (flat_map spelling frames ++ header x)) same in
       let long : length g.payload ≡ begun.head.size = g.is_frame.1 ∙ ap (λ (x : Head). x.size) (sym same) in
@@ -74,17 +75,17 @@ module _ (r : Reading) (fed : List ℕ) (h : Holds r fed) (piece : List ℕ) (n 
       added (PlainFrame.Data begun.head f.0) (framed g.head g.payload) new frame f.2 g.stands
 
   -- each step leaves a reading that holds what came
-  pub followed : (step : Step) (new : Reading) → is_broken step ≡ false → Follows step (record r { tracker = d }) new read → Tells step d fed frames h.rest h.heads piece n → Holds new read
+  pub followed : (step : Step) (new : Reading) → is_broken step ≡ false → Follows step (record r { tracker = d }) new read → Answers step d (fed_of fed frames h.rest h.known) piece n → Holds new read
   followed Step.More new b f g = more new f g
   followed (Step.Head head) new b f g = headed head new f g
   followed Step.Frame new b f g = framed_by r.begun new h.notes f g
-  followed (Step.Seq seq) new b f g = added (PlainFrame.Told seq) (seq_frame seq) new refl f g.stands
+  followed (Step.Seq seq) new b f g = added (PlainFrame.Seq seq) (seq_frame seq) new refl f g.stands
   followed (Step.Broken rule place) new b f g = cc
 
-  room_by : (begun : Option Begun) → Notes begun frames h.heads → Tells Step.Frame d fed frames h.rest h.heads piece n → HasRoom Step.Frame begun (length read)
+  room_by : (begun : Option Begun) → Notes begun frames h.known → Answers Step.Frame d (fed_of fed frames h.rest h.known) piece n → HasRoom Step.Frame begun (length read)
   room_by None w g = tt
   room_by (Some begun) w g =
-      let heads : begun.head ∷ [] ≡ g.head ∷ [] = sym w.0 ∙ g.heads_are in
+      let known : Some begun.head ≡ Some g.head = sym w.0 ∙ g.known_is in
       let same : begun.head ≡ g.head = cc in
       let body : begun.body ≡ length (flat_map spelling frames ++ header g.head) = w.1 ∙ ap (λ x. length (flat_map spelling frames ++ header x)) same in
       let long : length g.payload ≡ begun.head.size = g.is_frame.1 ∙ ap (λ (x : Head). x.size) (sym same) in
@@ -92,7 +93,7 @@ module _ (r : Reading) (fed : List ℕ) (h : Holds r fed) (piece : List ℕ) (n 
       omega (arith, all, long, body, length-append g.payload trailer)
 
   -- a payload that ends lies within what was read
-  pub room : (step : Step) → Tells step d fed frames h.rest h.heads piece n → HasRoom step r.begun (length read)
+  pub room : (step : Step) → Answers step d (fed_of fed frames h.rest h.known) piece n → HasRoom step r.begun (length read)
   room Step.More g = tt
   room (Step.Head head) g = tt
   room Step.Frame g = room_by r.begun h.notes g
@@ -108,8 +109,8 @@ not_broken Step.Frame n = refl
 not_broken (Step.Seq seq) n = refl
 not_broken (Step.Broken rule place) n = absurd (n rule place refl)
 
-pub decodes_by : (step by : Step) (d : TrackerState) (fed : List ℕ) (frames : List Frame) (rest : List ℕ) (heads : List Head) (piece : List ℕ) (n : ℕ) → step ≡ by → Tells step d fed frames rest heads piece n → Tells by d fed frames rest heads piece n
-decodes_by step by d fed frames rest heads piece n e g = subst (λ x. Tells x d fed frames rest heads piece n) e g
+pub decodes_by : (step by : Step) (d : TrackerState) (fed : List ℕ) (frames : List Frame) (rest : List ℕ) (known : Option Head) (piece : List ℕ) (n : ℕ) → step ≡ by → Answers step d (fed_of fed frames rest known) piece n → Answers by d (fed_of fed frames rest known) piece n
+decodes_by step by d fed frames rest known piece n e g = subst (λ x. Answers x d (fed_of fed frames rest known) piece n) e g
 
 -- no header has a size above the greatest number
 dies_by : (rule : Rule) (max : ℕ) (before : List ℕ) (frames : List Frame) (octet : ℕ) → max ≡ MAX_NUMBER → BreaksBy rule max before frames octet → DiesAt before octet × DiesBy rule before
@@ -126,12 +127,12 @@ pub read_with : (octets : List ℕ) (at n : ℕ) → take at octets ++ take n (t
 read_with octets at n = ap (λ x. take at octets ++ take n x) (slice_left octets at) ∙ sym (take-add at n octets)
 
 -- the octets of a whole reading are a stream
-pub alive : (r : Reading) (octets : List ℕ) (at left : ℕ) (h : Holds r (take at octets)) → at ≡ length octets → length octets < 2 ^ 64 → left ≡ told (length h.rest) → IsWhole octets (frames_of r.frames.items) left
+pub alive : (r : Reading) (octets : List ℕ) (at left : ℕ) (h : Holds r (take at octets)) → at ≡ length octets → length octets < 2 ^ 64 → left ≡ modulo_2_64 (length h.rest) → IsWhole octets (frames_of r.frames.items) left
 alive r octets at left h e small l =
-    let stream : Stream octets (frames_of r.frames.items) h.rest = subst (λ x. Stream x (frames_of r.frames.items) h.rest) (take_all at octets (omega arith)) (read_by r.tracker (take at octets) (frames_of r.frames.items) h.rest h.heads h.stands) in
+    let stream : Stream octets (frames_of r.frames.items) h.rest = subst (λ x. Stream x (frames_of r.frames.items) h.rest) (take_all at octets (omega arith)) (read_by r.tracker (take at octets) (frames_of r.frames.items) h.rest h.known h.stands) in
     record { rest = h.rest; stream = stream; count_is = omega (arith, l, ap length stream.whole, length-append (flat_map spelling (frames_of r.frames.items)) h.rest) }
 
-module _ (r : Reading) (octets : List ℕ) (at : ℕ) (h : Holds r (take at octets)) (inside : at ≤ length octets) (small : length octets < 2 ^ 64) (piece : List ℕ) (piece_is : piece ≡ drop at octets) (n : ℕ) (within : n ≤ length piece) (d : TrackerState) (limit : d.max ≡ r.tracker.max) (rule : Rule) (place : ℕ) (g : Tells (Step.Broken rule place) d (take at octets) (frames_of r.frames.items) h.rest h.heads piece n) where
+module _ (r : Reading) (octets : List ℕ) (at : ℕ) (h : Holds r (take at octets)) (inside : at ≤ length octets) (small : length octets < 2 ^ 64) (piece : List ℕ) (piece_is : piece ≡ drop at octets) (n : ℕ) (within : n ≤ length piece) (d : TrackerState) (limit : d.max ≡ r.tracker.max) (rule : Rule) (place : ℕ) (g : Answers (Step.Broken rule place) d (fed_of (take at octets) (frames_of r.frames.items) h.rest h.known) piece n) where
   whole : octets ≡ (take at octets ++ g.0.before) ++ g.0.octet ∷ drop n piece
   whole =
       sym (take-append-drop at octets) ∙ ap (λ x. take at octets ++ x) (sym piece_is ∙ sym (take-append-drop n piece) ∙ ap (λ x. x ++ drop n piece) g.0.taken_is ∙ append_assoc g.0.before (g.0.octet ∷ []) (drop n piece)) ∙ sym (append_assoc (take at octets) g.0.before (g.0.octet ∷ drop n piece))
@@ -145,11 +146,11 @@ module _ (r : Reading) (octets : List ℕ) (at : ℕ) (h : Holds r (take at octe
   all : length octets ≡ length (take at octets) + length g.0.before + suc (length (drop n piece))
   all = ap length whole ∙ length-append (take at octets ++ g.0.before) (g.0.octet ∷ drop n piece) ∙ ap (λ k. k + suc (length (drop n piece))) (length-append (take at octets) g.0.before)
 
-  -- the octets that are left are those behind the frames, with the dead one
-  pub left_is : (left : ℕ) → left ≡ told (length h.rest + n) → left ≡ length (h.rest ++ g.0.before) + 1
+  -- the octets that are left are those after the frames, with the dead one
+  pub left_is : (left : ℕ) → left ≡ modulo_2_64 (length h.rest + n) → left ≡ length (h.rest ++ g.0.before) + 1
   left_is left e = omega (arith, e, count, fed_is, all, small, length-append h.rest g.0.before)
 
-  pub dead : (left : ℕ) → left ≡ told (length h.rest + n) → IsDead rule place octets (frames_of r.frames.items) (left - 1)
+  pub dead : (left : ℕ) → left ≡ modulo_2_64 (length h.rest + n) → IsDead rule place octets (frames_of r.frames.items) (left - 1)
   dead left e =
       let by = dies_by rule d.max (take at octets ++ g.0.before) (frames_of r.frames.items) g.0.octet (limit ∙ h.max) g.0.by in
       let spot : place ≡ length (take at octets ++ g.0.before) = omega (arith, g.0.place_is, all, small, length-append (take at octets) g.0.before) in

@@ -1,24 +1,23 @@
 -- What a decoder keeps is the payload of the frame under way, and of the last data frame.
-use Rattle.std.proofs.Common.{◌≡◌, ℕ, ◌+◌, ◌-◌, ◌<◌, ◌≤◌, ◌⊎◌, Bool, true, false, nat_le, List, [], ◌∷◌, ◌++◌, length, take, drop, min, inl, inr, refl, ap, sym, ◌∙◌, arith, subst, append_assoc, append-nil, length-append}
+use Rattle.std.proofs.Common.{◌≡◌, ℕ, ◌+◌, ◌<◌, ◌≤◌, Bool, true, false, nat_le, Option, Some, None, List, [], ◌∷◌, ◌++◌, length, take, drop, min, refl, ap, sym, ◌∙◌, arith, subst, append_assoc, append-nil, length-append}
 use Rattle.std.proofs.lemmas.List.{take_all, drop_at, length-take, take-take}
-use Rattle.std.specs.List.{AllByRecursion}
-use Rattle.std.proofs.Math.Seq.{take-append_seam, take-append-add, take-add}
+use Rattle.std.proofs.Math.Seq.{take-append_seam, take-append-add}
 use Rattle.std.proofs.lemmas.Bool.Decides.{nat_tests}
 use Rattle.beep_frame.specs.declared.head.Head.{Head}
 use Rattle.beep_frame.specs.declared.seq.Seq.{Seq}
-use Rattle.beep_frame.specs.declared.rule.Rule.{Rule}
 use Rattle.beep_frame.specs.declared.line.Line.{Line}
 use Rattle.beep_frame.specs.declared.finder.Place.{Place}
 use Rattle.beep_frame.specs.declared.step.Step.{Step}
-use Rattle.beep_frame.specs.Held.{Held, KeepsRoom}
-use Rattle.beep_frame.specs.Told.{told}
+use Rattle.beep_octets.specs.Held.{KeepsRoom}
+use Rattle.beep_frame.specs.Modulo.{modulo_2_64}
 use Rattle.beep_frame.specs.Frame.{Frame, framed, seq_frame, IsFrame}
 use Rattle.beep_frame.specs.Spelling.{header, trailer, spelling}
 use Rattle.beep_frame.specs.Reading.{At}
-use Rattle.beep_frame.specs.Tracks.{TrackerState, Tracks, HasStopped, wanted_at}
-use Rattle.beep_frame.specs.Stands.{DecoderState, Keeps, Stands, IsBroken, payload_in}
-use Rattle.beep_frame.specs.Keeping.{Keeping, Kept, Added}
-use Rattle.beep_frame.specs.Decodes.{Breaks, Tells, Decodes}
+use Rattle.beep_frame.specs.Tracks.{TrackerState, IsWithinSize, Tracks, HasStopped, wanted_at}
+use Rattle.beep_frame.specs.Decoding.{DecoderState, Keeps, WasFed, payload_in}
+use Rattle.beep_frame.specs.Keeping.{Keeping, Added}
+use Rattle.beep_frame.specs.Decodes.{Breaks, Answers, Decodes}
+use Rattle.beep_frame.specs.Fed.{fed_of}
 
 -- ---- the last of a list
 
@@ -57,18 +56,18 @@ is_whole : (size : ℕ) (payload octets : List ℕ) → length payload ≡ size 
 is_whole size payload octets e = ap (λ k. take k (payload ++ octets)) (sym e) ∙ take-append_seam payload octets
 
 -- the payload so far, with the octets that follow
-taking : (place : Place) (line : Line) (rest : List ℕ) (heads : List Head) (head : Head) (tail : List Head) → heads ≡ head ∷ tail → At place line rest heads
+taking : (place : Place) (line : Line) (rest : List ℕ) (known : Option Head) (head : Head) → known ≡ Some head → At place line rest known
     → (more : List ℕ) → payload_in head (rest ++ more) ≡ payload_in head rest ++ take (wanted_at place) more
-taking Place.Line line rest heads head tail is at more = let two : head ∷ tail ≡ [] = sym is ∙ at.1 in cc
-taking (Place.Payload left) line rest heads head tail is at more =
-    let heads_are : head ∷ tail ≡ at.0 ∷ [] = sym is ∙ at.2.heads_are in
+taking Place.Line line rest known head is at more = let two : Some head ≡ None = sym is ∙ at.1 in cc
+taking (Place.Payload left) line rest known head is at more =
+    let known_is : Some head ≡ Some at.0 = sym is ∙ at.2.known_is in
     let same : at.0 ≡ head = cc in
     let rest_is : rest ≡ header head ++ at.1 = at.2.rest_is ∙ ap (λ h. header h ++ at.1) same in
     let size : length at.1 + left ≡ head.size = at.3 ∙ ap (λ (h : Head). h.size) same in
     behind head (rest ++ more) (at.1 ++ more) (ap (λ x. x ++ more) rest_is ∙ append_assoc (header head) at.1 more)
     ∙ goes_on head.size left at.1 more size ∙ ap (λ x. x ++ take left more) (sym (behind head rest at.1 rest_is))
-taking (Place.Trailer count) line rest heads head tail is at more =
-    let heads_are : head ∷ tail ≡ at.0 ∷ [] = sym is ∙ at.2.heads_are in
+taking (Place.Trailer count) line rest known head is at more =
+    let known_is : Some head ≡ Some at.0 = sym is ∙ at.2.known_is in
     let same : at.0 ≡ head = cc in
     let end : List ℕ = take count trailer in
     let rest_is : rest ≡ header head ++ (at.1 ++ end) = at.2.rest_is ∙ ap (λ h. header h ++ (at.1 ++ end)) same in
@@ -77,28 +76,28 @@ taking (Place.Trailer count) line rest heads head tail is at more =
     ∙ is_whole head.size at.1 (end ++ more) size ∙ sym (is_whole head.size at.1 end size) ∙ sym (behind head rest (at.1 ++ end) rest_is) ∙ sym (append-nil (payload_in head rest))
 
 -- no more octets are still to come than the size leaves
-size_left : (place : Place) (line : Line) (rest : List ℕ) (heads : List Head) (head : Head) (tail : List Head) → heads ≡ head ∷ tail → At place line rest heads
+size_left : (place : Place) (line : Line) (rest : List ℕ) (known : Option Head) (head : Head) → known ≡ Some head → At place line rest known
     → length (payload_in head rest) + wanted_at place ≤ head.size
-size_left Place.Line line rest heads head tail is at = let two : head ∷ tail ≡ [] = sym is ∙ at.1 in cc
-size_left (Place.Payload left) line rest heads head tail is at =
-    let heads_are : head ∷ tail ≡ at.0 ∷ [] = sym is ∙ at.2.heads_are in
+size_left Place.Line line rest known head is at = let two : Some head ≡ None = sym is ∙ at.1 in cc
+size_left (Place.Payload left) line rest known head is at =
+    let known_is : Some head ≡ Some at.0 = sym is ∙ at.2.known_is in
     let same : at.0 ≡ head = cc in
     let rest_is : rest ≡ header head ++ at.1 = at.2.rest_is ∙ ap (λ h. header h ++ at.1) same in
     let size : length at.1 + left ≡ head.size = at.3 ∙ ap (λ (h : Head). h.size) same in
     let so_far : payload_in head rest ≡ at.1 = behind head rest at.1 rest_is ∙ take_all head.size at.1 (omega arith) in
     omega (arith, ap length so_far)
-size_left (Place.Trailer count) line rest heads head tail is at =
+size_left (Place.Trailer count) line rest known head is at =
     omega (arith, length-take head.size (drop (length (header head)) rest))
 
 -- between two frames no payload is still to come
-none_wanted : (place : Place) (line : Line) (rest : List ℕ) (heads : List Head) → heads ≡ [] → At place line rest heads → wanted_at place ≡ 0
-none_wanted Place.Line line rest heads is at = refl
-none_wanted (Place.Payload left) line rest heads is at = let two : [] ≡ at.0 ∷ [] = sym is ∙ at.2.heads_are in absurd (cc)
-none_wanted (Place.Trailer count) line rest heads is at = refl
+none_wanted : (place : Place) (line : Line) (rest : List ℕ) (known : Option Head) → known ≡ None → At place line rest known → wanted_at place ≡ 0
+none_wanted Place.Line line rest known is at = refl
+none_wanted (Place.Payload left) line rest known is at = let two : None ≡ Some at.0 = sym is ∙ at.2.known_is in absurd (cc)
+none_wanted (Place.Trailer count) line rest known is at = refl
 
 -- ---- each step
 
-module _ (old new : DecoderState) (t : TrackerState) (fed : List ℕ) (frames : List Frame) (rest : List ℕ) (heads : List Head) (s : Stands old fed frames rest heads) (octets : List ℕ) (n m : ℕ) (within : n ≤ length octets) (m_is : m ≡ min n (wanted_at old.tracker.place)) where
+module _ (old new : DecoderState) (t : TrackerState) (fed : List ℕ) (frames : List Frame) (rest : List ℕ) (known : Option Head) (s : WasFed old (fed_of fed frames rest known)) (octets : List ℕ) (n m : ℕ) (within : n ≤ length octets) (m_is : m ≡ min n (wanted_at old.tracker.place)) where
   abbrev place : Place
   place = old.tracker.place
 
@@ -107,37 +106,37 @@ module _ (old new : DecoderState) (t : TrackerState) (fed : List ℕ) (frames : 
   taken_of = ap (λ k. take k octets) m_is ∙ sym (take_min (wanted_at place) n octets _ refl)
 
   -- they find room
-  fits : (head : Head) (tail : List Head) → heads ≡ head ∷ tail → length (take m octets) ≤ old.payload.spare
-  fits head tail is =
-      let kept : Keeps old frames rest (head ∷ tail) = subst (λ hs. Keeps old frames rest hs) is s.keeps in
-      let small : AllByRecursion (λ (h : Head). h.size ≤ old.tracker.max) (head ∷ tail) = subst (λ hs. AllByRecursion (λ (h : Head). h.size ≤ old.tracker.max) hs) is s.tracks.heads_within in
-      omega (arith, s.room, small.0, ap length kept.1, size_left place old.tracker.line rest heads head tail is s.tracks.at, length-take m octets, m_is)
+  fits : (head : Head) → known ≡ Some head → length (take m octets) ≤ old.payload.spare
+  fits head is =
+      let kept : Keeps old frames rest (Some head) = subst (Keeps old frames rest) is s.keeps in
+      let small : IsWithinSize old.tracker.max (Some head) = subst (IsWithinSize old.tracker.max) is s.tracks.known_within in
+      omega (arith, s.room, small, ap length kept.1, size_left place old.tracker.line rest known head is s.tracks.at, length-take m octets, m_is)
 
   -- the payload with them
-  grown : (head : Head) (tail : List Head) → heads ≡ head ∷ tail → new.head ≡ old.head → Added old.payload.octets new.payload.octets (take m octets) old.payload.spare
+  grown : (head : Head) → known ≡ Some head → new.head ≡ old.head → Added old.payload.octets new.payload.octets (take m octets) old.payload.spare
       → (new.head ≡ head) × (new.payload.octets ≡ payload_in head (rest ++ take n octets))
-  grown head tail is same added =
-      let kept : Keeps old frames rest (head ∷ tail) = subst (λ hs. Keeps old frames rest hs) is s.keeps in
-      (same ∙ kept.0, added.adds (fits head tail is) ∙ ap (λ x. x ++ take m octets) kept.1 ∙ ap (λ x. payload_in head rest ++ x) taken_of ∙ sym (taking place old.tracker.line rest heads head tail is s.tracks.at (take n octets)))
+  grown head is same added =
+      let kept : Keeps old frames rest (Some head) = subst (Keeps old frames rest) is s.keeps in
+      (same ∙ kept.0, added.adds (fits head is) ∙ ap (λ x. x ++ take m octets) kept.1 ∙ ap (λ x. payload_in head rest ++ x) taken_of ∙ sym (taking place old.tracker.line rest known head is s.tracks.at (take n octets)))
 
   -- octets that lead to no frame
-  keeps_on : (hs : List Head) → heads ≡ hs → (whole : List ℕ) → whole ≡ take n octets → new.head ≡ old.head
-      → Added old.payload.octets new.payload.octets (take m octets) old.payload.spare → Keeps new frames (rest ++ whole) hs
-  keeps_on [] is whole all same added =
-      let kept : Keeps old frames rest [] = subst (λ hs. Keeps old frames rest hs) is s.keeps in
-      let none : m ≡ 0 = omega (arith, m_is, none_wanted place old.tracker.line rest heads is s.tracks.at) in
+  keeps_on : (held : Option Head) → known ≡ held → (whole : List ℕ) → whole ≡ take n octets → new.head ≡ old.head
+      → Added old.payload.octets new.payload.octets (take m octets) old.payload.spare → Keeps new frames (rest ++ whole) held
+  keeps_on None is whole all same added =
+      let kept : Keeps old frames rest None = subst (Keeps old frames rest) is s.keeps in
+      let none : m ≡ 0 = omega (arith, m_is, none_wanted place old.tracker.line rest known is s.tracks.at) in
       let nothing : take m octets ≡ [] = ap (λ k. take k octets) none in
       let stays : new.payload.octets ≡ old.payload.octets = added.adds (omega (arith, ap length nothing)) ∙ ap (λ x. old.payload.octets ++ x) nothing ∙ append-nil old.payload.octets in
       λ before head payload e. (same ∙ (kept before head payload e).0, stays ∙ (kept before head payload e).1)
-  keeps_on (head ∷ tail) is whole all same added =
-      let now = grown head tail is same added in
+  keeps_on (Some head) is whole all same added =
+      let now = grown head is same added in
       (now.0, now.1 ∙ ap (λ x. payload_in head (rest ++ x)) (sym all))
 
   -- a frame more, which is this data frame
-  keeps_frame : (head : Head) (payload : List ℕ) → heads ≡ head ∷ [] → IsFrame (framed head payload) → rest ++ take n octets ≡ spelling (framed head payload)
-      → new.head ≡ old.head → Added old.payload.octets new.payload.octets (take m octets) old.payload.spare → Keeps new (frames ++ framed head payload ∷ []) [] []
+  keeps_frame : (head : Head) (payload : List ℕ) → known ≡ Some head → IsFrame (framed head payload) → rest ++ take n octets ≡ spelling (framed head payload)
+      → new.head ≡ old.head → Added old.payload.octets new.payload.octets (take m octets) old.payload.spare → Keeps new (frames ++ framed head payload ∷ []) [] None
   keeps_frame head payload is is_frame whole same added =
-      let now = grown head [] is same added in
+      let now = grown head is same added in
       let all : new.payload.octets ≡ payload = now.1 ∙ behind head (rest ++ take n octets) (payload ++ trailer) (whole ∙ append_assoc (header head) payload trailer) ∙ is_whole head.size payload trailer is_frame.1 in
       λ before h p e.
       let last : framed head payload ≡ framed h p = last_same frames before (framed head payload) (framed h p) e in
@@ -146,33 +145,33 @@ module _ (old new : DecoderState) (t : TrackerState) (fed : List ℕ) (frames : 
       (now.0 ∙ heads_same, all ∙ payloads_same)
 
   -- a frame more, which is a SEQ
-  keeps_seq : (seq : Seq) → Keeps new (frames ++ seq_frame seq ∷ []) [] []
+  keeps_seq : (seq : Seq) → Keeps new (frames ++ seq_frame seq ∷ []) [] None
   keeps_seq seq before h p e = let last : seq_frame seq ≡ framed h p = last_same frames before (seq_frame seq) (framed h p) e in cc
 
   -- a header that is whole
-  keeps_head : (head : Head) → rest ++ take n octets ≡ header head → new.head ≡ head → new.payload.octets ≡ [] → Keeps new frames (rest ++ take n octets) (head ∷ [])
+  keeps_head : (head : Head) → rest ++ take n octets ≡ header head → new.head ≡ head → new.payload.octets ≡ [] → Keeps new frames (rest ++ take n octets) (Some head)
   keeps_head head whole is empty =
       let nothing : payload_in head (rest ++ take n octets) ≡ [] = behind head (rest ++ take n octets) [] (whole ∙ sym (append-nil (header head))) ∙ take_all head.size [] (omega arith) in
       (is, empty ∙ sym nothing)
 
   module _ (max_is : t.max ≡ old.tracker.max) where
     -- the tracker's word, what is kept, and the room that stays
-    stands : (fed' : List ℕ) (frames' : List Frame) (rest' : List ℕ) (heads' : List Head) → new.tracker ≡ t → KeepsRoom old.payload new.payload
-        → Tracks t fed' frames' rest' heads' → Keeps new frames' rest' heads' → Stands new fed' frames' rest' heads'
-    stands fed' frames' rest' heads' same room tracks keeps =
-        record { tracks = subst (λ x. Tracks x fed' frames' rest' heads') (sym same) tracks; keeps = keeps; room = omega (arith, s.room, room, max_is, ap (λ (x : TrackerState). x.max) same) }
+    stands : (fed' : List ℕ) (frames' : List Frame) (rest' : List ℕ) (known' : Option Head) → new.tracker ≡ t → KeepsRoom old.payload new.payload
+        → Tracks t (fed_of fed' frames' rest' known') → Keeps new frames' rest' known' → WasFed new (fed_of fed' frames' rest' known')
+    stands fed' frames' rest' known' same room tracks keeps =
+        record { tracks = subst (λ x. Tracks x (fed_of fed' frames' rest' known')) (sym same) tracks; keeps = keeps; room = omega (arith, s.room, room, max_is, ap (λ (x : TrackerState). x.max) same) }
 
     -- a decoder answers what its tracker answers
-    pub decodes : (step : Step) → Keeping step (record old { tracker = t }) new (take m octets) → Tells step t fed frames rest heads octets n → Decodes step new fed frames rest heads octets n
+    pub decodes : (step : Step) → Keeping step (record old { tracker = t }) new (take m octets) → Answers step t (fed_of fed frames rest known) octets n → Decodes step new (fed_of fed frames rest known) octets n
     decodes Step.More k g =
         let all : octets ≡ take n octets = sym (take_all n octets (omega (arith, g.all))) in
-        record { all = g.all; stands = stands (fed ++ octets) frames (rest ++ octets) heads k.tracker k.room g.stands (keeps_on heads refl octets all k.kept.0 k.kept.1) }
+        record { all = g.all; stands = stands (fed ++ octets) frames (rest ++ octets) known k.tracker k.room g.stands (keeps_on known refl octets all k.kept.0 k.kept.1) }
     decodes (Step.Head head) k g =
-        record { first = g.first; is_head = g.is_head; within = omega (arith, g.within, ap (λ (x : TrackerState). x.max) k.tracker); whole = g.whole; stands = stands (fed ++ take n octets) frames (rest ++ take n octets) (head ∷ []) k.tracker k.room g.stands (keeps_head head g.whole k.kept.0 k.kept.1) }
+        record { first = g.first; is_head = g.is_head; within = omega (arith, g.within, ap (λ (x : TrackerState). x.max) k.tracker); whole = g.whole; stands = stands (fed ++ take n octets) frames (rest ++ take n octets) (Some head) k.tracker k.room g.stands (keeps_head head g.whole k.kept.0 k.kept.1) }
     decodes Step.Frame k g =
-        record { head = g.head; payload = g.payload; heads_are = g.heads_are; is_frame = g.is_frame; whole = g.whole; stands = stands (fed ++ take n octets) (frames ++ framed g.head g.payload ∷ []) [] [] k.tracker k.room g.stands (keeps_frame g.head g.payload g.heads_are g.is_frame g.whole k.kept.0 k.kept.1) }
+        record { head = g.head; payload = g.payload; known_is = g.known_is; is_frame = g.is_frame; whole = g.whole; stands = stands (fed ++ take n octets) (frames ++ framed g.head g.payload ∷ []) [] None k.tracker k.room g.stands (keeps_frame g.head g.payload g.known_is g.is_frame g.whole k.kept.0 k.kept.1) }
     decodes (Step.Seq seq) k g =
-        record { none = g.none; is_seq = g.is_seq; whole = g.whole; stands = stands (fed ++ take n octets) (frames ++ seq_frame seq ∷ []) [] [] k.tracker k.room g.stands (keeps_seq seq) }
+        record { none = g.none; is_seq = g.is_seq; whole = g.whole; stands = stands (fed ++ take n octets) (frames ++ seq_frame seq ∷ []) [] None k.tracker k.room g.stands (keeps_seq seq) }
     decodes (Step.Broken rule place) k g =
-        let breaks = subst (λ max. Breaks rule place max fed frames rest (take n octets)) (sym (ap (λ (x : TrackerState). x.max) k.tracker)) g.0 in
-        (breaks, record { stopped = subst (λ x. HasStopped x rule place (told (length rest + n))) (sym k.tracker) g.1; none = k.whole })
+        let breaks = subst (λ max. Breaks rule place max (fed_of fed frames rest known) (take n octets)) (sym (ap (λ (x : TrackerState). x.max) k.tracker)) g.0 in
+        (breaks, record { stopped = subst (λ x. HasStopped x rule place (modulo_2_64 (length rest + n))) (sym k.tracker) g.1; none = k.whole })

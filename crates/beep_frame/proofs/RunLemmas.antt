@@ -28,5 +28,5 @@ stops line now octets i r =
 pub takes : (t : LineTurn) (line now : Line) (octets : List ℕ) (i : ℕ) → (t ≡ LineTurn.Inside → ⊥) → run (at_line line) (take i octets) ≡ at_line now → TakesLine t line octets (i + 1)
 takes LineTurn.Inside line now octets i n r = absurd (n refl)
 takes (LineTurn.Data head) line now octets i n r = stops line now octets i r
-takes (LineTurn.Told seq) line now octets i n r = stops line now octets i r
+takes (LineTurn.Seq seq) line now octets i n r = stops line now octets i r
 takes LineTurn.Dead line now octets i n r = stops line now octets i r

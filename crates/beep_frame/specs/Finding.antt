@@ -1,5 +1,6 @@
--- What a decoder found in the octets of a feed, for its proofs: each case over the octets since the last whole frame.
-use Rattle.std.specs.Prelude.{◌≡◌, ◌≢◌, ℕ, ◌<◌, Bool, true, nat_lt, List, [], ◌∷◌, ◌++◌, length, take, slice_index}
+-- What a decoder found in the octets of a feed, for its proofs: each case over the octets since the
+-- last whole frame.
+use Rattle.std.specs.Prelude.{◌≡◌, ◌≢◌, ℕ, ◌<◌, Bool, true, nat_lt, Option, Some, None, List, [], ◌∷◌, ◌++◌, length, take, slice_index}
 use Rattle.beep_frame.specs.declared.head.Head.{Head}
 use Rattle.beep_frame.specs.declared.finder.Found.{Found}
 use Rattle.beep_frame.specs.declared.finder.Place.{Place}
@@ -32,32 +33,38 @@ pub record DiesInTrailer (before : List ℕ) (octet : ℕ) : Type 0 where
   pub other : octet ≢ slice_index trailer count
 
 -- a data frame is whole with these octets
-pub record EndsFrame (octets : List ℕ) (heads : List Head) : Type 0 where
+pub record EndsFrame (octets : List ℕ) (known : Option Head) : Type 0 where
   pub head : Head
   pub payload : List ℕ
-  pub heads_are : heads ≡ head ∷ []
+  pub known_is : known ≡ Some head
   pub is_frame : IsFrame (framed head payload)
   pub whole : octets ≡ spelling (framed head payload)
 
 -- the octets end with one that can't stand in a line there
-pub record EndsInLine (rest taken : List ℕ) : Type 0 where
+pub record EndsInLine (rest : List ℕ) (known : Option Head) (taken : List ℕ) : Type 0 where
+  pub none : known ≡ None
   pub before : List ℕ
   pub octet : ℕ
   pub taken_is : taken ≡ before ++ octet ∷ []
   pub dies : DiesInLine (rest ++ before) octet
 
 -- the octets end with one that can't stand in a trailer there
-pub record EndsInTrailer (rest taken : List ℕ) : Type 0 where
+pub record EndsInTrailer (rest : List ℕ) (known : Option Head) (taken : List ℕ) : Type 0 where
   pub before : List ℕ
   pub octet : ℕ
   pub taken_is : taken ≡ before ++ octet ∷ []
   pub dies : DiesInTrailer (rest ++ before) octet
+  pub known_is : known ≡ Some dies.head
 
 -- what was found in the first of these octets, as many as were used, behind the rest of the stream
-abbrev pub Finds : Found → Place → Line → List ℕ → List Head → List ℕ → ℕ → Type 0
-Finds Found.More place line rest heads octets used = (used ≡ length octets) × At place line (rest ++ octets) heads
-Finds (Found.Head head) place line rest heads octets used = (heads ≡ []) × IsHead head × (rest ++ take used octets ≡ header head)
-Finds Found.Frame place line rest heads octets used = EndsFrame (rest ++ take used octets) heads
-Finds (Found.Seq seq) place line rest heads octets used = (heads ≡ []) × IsSeq seq × (rest ++ take used octets ≡ spelling (seq_frame seq))
-Finds Found.BadLine place line rest heads octets used = EndsInLine rest (take used octets)
-Finds Found.BadTrailer place line rest heads octets used = EndsInTrailer rest (take used octets)
+abbrev pub Finds : Found → Place → Line → List ℕ → Option Head → List ℕ → ℕ → Type 0
+Finds Found.More place line rest known octets used =
+    (used ≡ length octets) × At place line (rest ++ octets) known
+Finds (Found.Head head) place line rest known octets used =
+    (known ≡ None) × IsHead head × (rest ++ take used octets ≡ header head)
+Finds Found.Frame place line rest known octets used = EndsFrame (rest ++ take used octets) known
+Finds (Found.Seq seq) place line rest known octets used =
+    (known ≡ None) × IsSeq seq × (rest ++ take used octets ≡ spelling (seq_frame seq))
+Finds Found.BadLine place line rest known octets used = EndsInLine rest known (take used octets)
+Finds Found.BadTrailer place line rest known octets used =
+    EndsInTrailer rest known (take used octets)

@@ -1,5 +1,6 @@
--- What a frame is: a header and its payload, or a SEQ (RFC 3080, section 2.2.1; RFC 3081, section 3.1).
--- The decoder never holds a frame: it tells a header when it has ended, and counts the payload.
+-- What a frame is: a header and its payload, or a SEQ (RFC 3080, section 2.2.1; RFC 3081, section
+-- 3.1).
+-- The decoder never holds a frame: it answers a header when that has ended, and counts the payload.
 use Rattle.std.specs.Prelude.{◌≡◌, ℕ, ◌^◌, ◌<◌, ◌≤◌, ◌==◌, Bool, true, false, not, List, length}
 use Rattle.beep_frame.specs.declared.kind.Kind.{Kind}
 use Rattle.beep_frame.specs.declared.head.Head.{Head}

@@ -1,9 +1,8 @@
 -- What a decoder keeps of a step, for its proofs.
 use Rattle.std.specs.Prelude.{◌≡◌, ℕ, ◌≤◌, Bool, true, false, List, [], ◌++◌, length}
-use Rattle.beep_frame.specs.declared.head.Head.{Head}
 use Rattle.beep_frame.specs.declared.step.Step.{Step}
-use Rattle.beep_frame.specs.Held.{Held, KeepsRoom}
-use Rattle.beep_frame.specs.Stands.{DecoderState}
+use Rattle.beep_octets.specs.Held.{KeepsRoom}
+use Rattle.beep_frame.specs.Decoding.{DecoderState}
 
 -- the step is a whole data frame
 abbrev pub is_frame : Step → Bool
@@ -19,9 +18,11 @@ pub record Added (old new octets : List ℕ) (spare : ℕ) : Type 0 where
 
 -- what happens to the header and the payload
 abbrev pub Kept : Step → DecoderState → DecoderState → List ℕ → Type 0
-Kept Step.More old new octets = (new.head ≡ old.head) × Added old.payload.octets new.payload.octets octets old.payload.spare
+Kept Step.More old new octets =
+    (new.head ≡ old.head) × Added old.payload.octets new.payload.octets octets old.payload.spare
 Kept (Step.Head head) old new octets = (new.head ≡ head) × (new.payload.octets ≡ [])
-Kept Step.Frame old new octets = (new.head ≡ old.head) × Added old.payload.octets new.payload.octets octets old.payload.spare
+Kept Step.Frame old new octets =
+    (new.head ≡ old.head) × Added old.payload.octets new.payload.octets octets old.payload.spare
 Kept (Step.Seq seq) old new octets = (new.head ≡ old.head) × (new.payload ≡ old.payload)
 Kept (Step.Broken rule place) old new octets = (new.head ≡ old.head) × (new.payload ≡ old.payload)
 

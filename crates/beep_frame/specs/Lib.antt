@@ -1,21 +1,19 @@
-pub mod Held
+-- What public clauses cite.
 pub mod Frame
 pub mod Spelling
+pub mod Stream
+pub mod Modulo
+pub mod Fed
+pub mod Decoding
+pub mod Decodes
+pub mod Outline
+pub mod Laws
+-- What proofs alone need: the decoder as a machine, its state in the code, and how an outline grows.
 pub mod Machine
 pub mod Line
-pub mod Stream
 pub mod Reading
 pub mod Finding
-pub mod Told
 pub mod Tracks
-pub mod Stands
 pub mod Keeping
-pub mod Decodes
-pub mod Telling
-pub mod Laws
-pub mod Journal
-pub mod Marks
-pub mod Broken
-pub mod Moments
-pub mod Outline
+pub mod Answering
 pub mod Outlining

@@ -27,7 +27,7 @@ line_start = record { keyword = Keyword.Seq; at = 0; number = None; values = rep
 abbrev pub turn_of : LineTurn → Line → Turn
 turn_of LineTurn.Inside line = at_line line
 turn_of (LineTurn.Data head) line = at_head head
-turn_of (LineTurn.Told seq) line = at_seq seq
+turn_of (LineTurn.Seq seq) line = at_seq seq
 turn_of LineTurn.Dead line = dead
 
 abbrev pub begun_by : Option Keyword → Line → Turn
@@ -53,7 +53,8 @@ head_of_line kind v =
 
 -- the SEQ with a whole line's values
 abbrev pub seq_of_line : List ℕ → Seq
-seq_of_line v = record { channel = slice_index v 4; ackno = slice_index v 5; window = slice_index v 6 }
+seq_of_line v =
+    record { channel = slice_index v 4; ackno = slice_index v 5; window = slice_index v 6 }
 
 abbrev pub ended : Keyword → List ℕ → Turn
 ended (Keyword.Data kind) values = at_head (head_of_line kind values)
@@ -63,7 +64,9 @@ ended Keyword.Seq values = at_seq (seq_of_line values)
 abbrev pub completed : Line → ℕ → ℕ → Turn
 completed line value count =
     let values = slice_set line.values line.at value in
-    if nat_lt (line.at + 1) count then at_line (record line { at = line.at + 1; number = None; values = values }) else ended line.keyword values
+    if nat_lt (line.at + 1) count
+    then at_line (record line { at = line.at + 1; number = None; values = values })
+    else ended line.keyword values
 
 abbrev pub after_part : PartTurn → Line → ℕ → Turn
 after_part (PartTurn.Digit n) line count = at_line (record line { number = Some n })
@@ -73,7 +76,8 @@ after_part PartTurn.Dead line count = dead
 -- the next octet, of a line with these parts
 abbrev pub parts_turn : List Part → Line → ℕ → Turn
 parts_turn parts line c =
-    if nat_lt line.at (length parts) then after_part (part_turn (slice_index_or parts line.at (Part.Octet 0)) line.number c) line (length parts) else dead
+    if nat_lt line.at (length parts)
+    then after_part (part_turn (slice_index_or parts line.at (Part.Octet 0)) line.number c) line (length parts) else dead
 
 -- the next octet
 unfoldable pub line_turn : Line → ℕ → Turn

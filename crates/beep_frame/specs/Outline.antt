@@ -1,4 +1,5 @@
--- What the plain reading of a short list of octets answers: its frames, its rest, and the octet at which it is dead (RFC 3080, section 2.2.1).
+-- What the plain reading of a short list of octets answers: its frames, its rest, and the octet at
+-- which it is dead (RFC 3080, section 2.2.1).
 -- It is the definition of a stream as an answer; a session's decoder keeps no frame.
 use Rattle.std.specs.Prelude.{◌≡◌, ℕ, ◌⊎◌, Option, Some, None, List, ◌∷◌, ◌++◌, map, length}
 use Rattle.beep_frame.specs.declared.rule.Rule.{Rule}
@@ -10,15 +11,17 @@ use Rattle.beep_frame.specs.Stream.{Stream, DiesAt, InTrailer}
 -- a frame, apart from how it lies in memory
 abbrev pub frame_of : PlainFrame → Frame
 frame_of (PlainFrame.Data head payload) = framed head payload.octets
-frame_of (PlainFrame.Told seq) = seq_frame seq
+frame_of (PlainFrame.Seq seq) = seq_frame seq
 
 -- frames, apart from how they lie in memory
 abbrev pub frames_of : List PlainFrame → List Frame
 frames_of frames = map frame_of frames
 
--- the rule by which a stream dies behind these octets: Trailer in a trailer's place, otherwise Header
+-- the rule by which a stream dies after these octets: Trailer in a trailer's place, otherwise
+-- Header
 abbrev pub DiesBy : Rule → List ℕ → Type 0
-DiesBy rule before = ((rule ≡ Rule.Trailer) × InTrailer before) ⊎ ((rule ≡ Rule.Header) × (InTrailer before → ⊥))
+DiesBy rule before =
+    ((rule ≡ Rule.Trailer) × InTrailer before) ⊎ ((rule ≡ Rule.Header) × (InTrailer before → ⊥))
 
 -- the octets are these frames and so many octets more
 pub record IsWhole (octets : List ℕ) (frames : List Frame) (count : ℕ) : Type 0 where
@@ -26,7 +29,8 @@ pub record IsWhole (octets : List ℕ) (frames : List Frame) (count : ℕ) : Typ
   pub stream : Stream octets frames rest
   pub count_is : count ≡ length rest
 
--- the stream is dead at the octet of this number, by this rule, behind these frames and so many octets more
+-- the stream is dead at the octet of this number, by this rule, after these frames and so many
+-- octets more
 pub record IsDead (rule : Rule) (place : ℕ) (octets : List ℕ) (frames : List Frame) (count : ℕ) : Type 0 where
   pub before : List ℕ
   pub octet : ℕ
@@ -44,4 +48,5 @@ OutlinesBy (Some dead) octets frames count = IsDead dead.0 dead.1 octets frames 
 
 -- the answer is what these octets are
 abbrev pub Outlines : Outline → List ℕ → Type 0
-Outlines outline octets = OutlinesBy outline.dead octets (frames_of outline.frames.items) outline.rest
+Outlines outline octets =
+    OutlinesBy outline.dead octets (frames_of outline.frames.items) outline.rest

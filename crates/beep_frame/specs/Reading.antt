@@ -1,5 +1,5 @@
 -- Where the octets since the last whole frame stand: the decoder's place and line, for its proofs.
-use Rattle.std.specs.Prelude.{◌≡◌, ℕ, ◌+◌, ◌-◌, ◌<◌, List, [], ◌∷◌, ◌++◌, length, take}
+use Rattle.std.specs.Prelude.{◌≡◌, ℕ, ◌+◌, ◌-◌, ◌<◌, Option, Some, None, List, [], ◌∷◌, ◌++◌, length, take}
 use Rattle.beep_frame.specs.declared.head.Head.{Head}
 use Rattle.beep_frame.specs.declared.finder.Place.{Place}
 use Rattle.beep_frame.specs.declared.line.Line.{Line}
@@ -21,18 +21,20 @@ run t [] = t
 run t (c ∷ cs) = run (turn t c) cs
 
 -- a whole header came, and this of its payload
-pub record PayloadOf (rest : List ℕ) (heads : List Head) (head : Head) (payload : List ℕ) : Type 0 where
-  pub heads_are : heads ≡ head ∷ []
+pub record PayloadOf (rest : List ℕ) (known : Option Head) (head : Head) (payload : List ℕ) : Type 0 where
+  pub known_is : known ≡ Some head
   pub is_head : IsHead head
   pub rest_is : rest ≡ header head ++ payload
 
 -- where the octets since the last whole frame lead, and the header among them
-abbrev pub At : Place → Line → List ℕ → List Head → Type 0
-At Place.Line line rest heads = (run (at_line line_start) rest ≡ at_line line) × (heads ≡ [])
-At (Place.Payload left) line rest heads =
-    (head : Head) × (payload : List ℕ) × PayloadOf rest heads head payload × (length payload + left ≡ head.size) × (0 < left)
-At (Place.Trailer count) line rest heads =
-    (head : Head) × (payload : List ℕ) × PayloadOf rest heads head (payload ++ take count trailer) × (length payload ≡ head.size) × (count < 5)
+abbrev pub At : Place → Line → List ℕ → Option Head → Type 0
+At Place.Line line rest known = (run (at_line line_start) rest ≡ at_line line) × (known ≡ None)
+At (Place.Payload left) line rest known =
+    (head : Head) × (payload : List ℕ) × PayloadOf rest known head payload
+    × (length payload + left ≡ head.size) × (0 < left)
+At (Place.Trailer count) line rest known =
+    (head : Head) × (payload : List ℕ) × PayloadOf rest known head (payload ++ take count trailer)
+    × (length payload ≡ head.size) × (count < 5)
 
 -- ---- a line's octets
 
@@ -46,5 +48,5 @@ pub record StopsAt (old : Line) (octets : List ℕ) (used : ℕ) : Type 0 where
 abbrev pub TakesLine : LineTurn → Line → List ℕ → ℕ → Type 0
 TakesLine LineTurn.Inside old octets used = used ≡ length octets
 TakesLine (LineTurn.Data head) old octets used = StopsAt old octets used
-TakesLine (LineTurn.Told seq) old octets used = StopsAt old octets used
+TakesLine (LineTurn.Seq seq) old octets used = StopsAt old octets used
 TakesLine LineTurn.Dead old octets used = StopsAt old octets used

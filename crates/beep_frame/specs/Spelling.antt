@@ -1,5 +1,6 @@
 -- The one spelling of a frame (RFC 3080, section 2.2.1; RFC 3081, section 3.1).
--- Choice: numbers have no leading zero (docs/DECISIONS.md, "Leading zeros"). The decoder knows no text of a whole frame.
+-- Choice: numbers have no leading zero (docs/DECISIONS.md, "Leading zeros"). The decoder knows no
+-- text of a whole frame.
 use Rattle.std.specs.Prelude.{ℕ, Bool, true, false, List, [], ◌∷◌, ◌++◌, codes}
 use Rattle.std.specs.Fmt.{decimal}
 use Rattle.beep_frame.specs.declared.kind.Kind.{Kind}
@@ -38,7 +39,9 @@ line_end = 13 ∷ 10 ∷ []
 
 -- a header's text without its CRLF
 unfoldable pub header_line : Head → List ℕ
-header_line h = keyword h.kind ++ field h.channel ++ field h.msgno ++ (32 ∷ continuation h.more ∷ []) ++ field h.seqno ++ field h.size ++ answer_field h.kind h.ansno
+header_line h =
+    keyword h.kind ++ field h.channel ++ field h.msgno ++ (32 ∷ continuation h.more ∷ [])
+    ++ field h.seqno ++ field h.size ++ answer_field h.kind h.ansno
 
 -- a header's text
 abbrev pub header : Head → List ℕ

@@ -1,15 +1,16 @@
-//! A decoder that finds the frames of a stream and keeps the payload of one, however the stream is cut
+//! A decoder that finds the frames of a stream and keeps the payload of one, however the stream is
+//! cut
 //! into reads (RFC 3080, section 2.2.1; RFC 3081, section 3.1).
-ghost use Rattle.std.specs.Prelude.{◌≡◌, ◌⊎◌, ℕ, ◌<◌, ◌≤◌, List, [], ◌∷◌, ◌++◌, length, true, IfOk, IsTrue};
+ghost use Rattle.std.specs.Prelude.{◌≡◌, ◌⊎◌, ℕ, ◌<◌, ◌≤◌, None, List, [], ◌∷◌, ◌++◌, length, true, IfOk, IsTrue};
 ghost use Rattle.beep_frame.specs.Frame.{Frame, framed};
 ghost use Rattle.beep_frame.specs.declared.head.Head.{Head as header_type};
 ghost use Rattle.beep_frame.specs.declared.rule.Rule.{Rule as rule_type};
 
 use crate::head::Head;
 use crate::kind::Kind;
-use crate::octets::{NoMemory, Octets};
 use crate::step::Step;
 use crate::tracker::Tracker;
+use beep_octets::{NoMemory, Octets};
 use std::alloc::Global;
 use std::marker::Model;
 
@@ -26,33 +27,40 @@ pub struct FrameRef<'b> {
 #[derive(Debug, Drop)]
 pub struct Decoder {
     tracker: Tracker,
-    /// The header that was told last, and before the first one some header.
+    /// The header that was answered last, and before the first one some header.
     head: Head,
-    /// The payload that came behind that header, in room for the largest.
+    /// The payload that came after that header, in room for the largest.
     payload: Octets,
     /// Whether the last step was a whole data frame.
     whole: bool,
 }
 
 impl Model for Decoder {
-    ghost use Rattle.beep_frame.specs.Stands.{DecoderState};
+    ghost use Rattle.beep_frame.specs.Decoding.{DecoderState};
 
     ghost Value = { DecoderState };
 
-    ghost view = { λ d. record { tracker = d.tracker; head = d.head; payload = d.payload; whole = d.whole } };
+    ghost view = { λ d. record {
+      tracker = d.tracker;
+      head = d.head;
+      payload = d.payload;
+      whole = d.whole;
+    } };
 }
 
 impl Decoder {
     ghost use Rattle.beep_frame.specs.declared.step.Step.{Step as step_type};
-    ghost use Rattle.beep_frame.specs.Told.{told};
-    ghost use Rattle.beep_frame.specs.Stands.{Stands, IsBroken};
+    ghost use Rattle.beep_frame.specs.Modulo.{modulo_2_64};
+    ghost use Rattle.beep_frame.specs.Fed.{Fed, fed_of, nothing_fed};
+    ghost use Rattle.beep_frame.specs.Decoding.{WasFed, IsBroken};
     ghost use Rattle.beep_frame.specs.Decodes.{Decodes, is_broken};
     ghost use Rattle.beep_frame.specs.Keeping.{Keeping};
 
-    /// A decoder of a stream of which no octet has come, that takes payloads of at most `max` octets. It
+    /// A decoder of a stream of which no octet has come, that takes payloads of at most `max`
+    /// octets. It
     /// takes room for one of them, and no memory later.
     pub fn new(alloc: Global, max: u32) -> Result<Decoder, NoMemory>
-        ensures stands { IfOk result (λ decoder. Stands decoder [] [] [] []) }
+        ensures stands { IfOk result (λ decoder. WasFed decoder nothing_fed) }
         ensures max { IfOk result (λ decoder. decoder.tracker.max ≡ max) }
     {
         let mut payload = Octets::new(alloc);
@@ -75,12 +83,11 @@ impl Decoder {
         })
     }
 
-    /// Takes octets up to the next step, and tells how many.
+    /// Takes octets up to the next step, and answers how many.
     pub fn feed(&mut self, bytes: &[u8]) -> (usize, Step)
         ensures within { result.0 ≤ length bytes.now }
-        ensures decodes { (fed : List ℕ) (frames : List Frame) (rest : List ℕ) (heads : List header_type)
-            → Stands self.old fed frames rest heads
-            → Decodes result.1 self.new fed frames rest heads bytes.now result.0 }
+        ensures decodes { (fed : Fed) → WasFed self.old fed
+            → Decodes result.1 self.new fed bytes.now result.0 }
         ensures broken { (rule : rule_type) (place left : ℕ) → IsBroken self.old rule place left
             → (result.0 ≡ 0) × (result.1 ≡ Step.Broken rule place) × (self.new ≡ self.old) }
         ensures progress { 0 < length bytes.now → (0 < result.0) ⊎ IsTrue (is_broken result.1) }
@@ -108,11 +115,11 @@ impl Decoder {
         }
     }
 
-    /// The data frame that was told last.
+    /// The data frame that was answered last.
     pub fn frame(&self) -> FrameRef<'_>
         requires whole { self.now.whole ≡ true }
-        ensures { (fed : List ℕ) (frames : List Frame) (head : header_type) (payload : List ℕ)
-            → Stands self.now fed (frames ++ framed head payload ∷ []) [] []
+        ensures { (octets : List ℕ) (before : List Frame) (head : header_type) (payload : List ℕ)
+            → WasFed self.now (fed_of octets (before ++ framed head payload ∷ []) [] None)
             → (result.head ≡ head) × (result.payload.now ≡ payload) }
     {
         FrameRef {
@@ -123,8 +130,8 @@ impl Decoder {
 
     /// The octets used since the last whole data frame or SEQ, modulo 2^64.
     pub fn left(&self) -> u64
-        ensures stands { (fed : List ℕ) (frames : List Frame) (rest : List ℕ) (heads : List header_type)
-            → Stands self.now fed frames rest heads → result ≡ told (length rest) }
+        ensures stands { (fed : Fed) → WasFed self.now fed
+            → result ≡ modulo_2_64 (length fed.rest) }
         ensures broken { (rule : rule_type) (place left : ℕ) → IsBroken self.now rule place left
             → result ≡ left }
     {

@@ -1,5 +1,5 @@
 //! Finding what the octets of a feed lead to: one place in a frame after another.
-ghost use Rattle.std.specs.Prelude.{◌≡◌, ◌≢◌, ℕ, ◌<◌, ◌≤◌, true, List, take, length, slice_index};
+ghost use Rattle.std.specs.Prelude.{◌≡◌, ◌≢◌, ℕ, ◌<◌, ◌≤◌, true, Option, List, take, length, slice_index};
 ghost use Rattle.beep_frame.specs.Line.{at_line, turn_of};
 ghost use Rattle.beep_frame.specs.Reading.{run, At, TakesLine};
 ghost use Rattle.beep_frame.specs.Finding.{is_place, Finds};
@@ -47,9 +47,9 @@ pub(crate) fn find(place: &mut Place, line: &mut Line, bytes: &[u8]) -> (usize, 
     ensures within { result.0 ≤ length bytes.now }
     ensures progress { 0 < length bytes.now → 0 < result.0 }
     ensures place { is_place place.new ≡ true }
-    ensures found { (rest : List ℕ) (heads : List header_type)
-        → At place.old line.old rest heads
-        → Finds result.1 place.new line.new rest heads bytes.now result.0 }
+    ensures found { (rest : List ℕ) (known : Option header_type)
+        → At place.old line.old rest known
+        → Finds result.1 place.new line.new rest known bytes.now result.0 }
 {
     match *place {
         Place::Line => find_line(line, bytes),
@@ -62,15 +62,15 @@ pub(crate) fn find(place: &mut Place, line: &mut Line, bytes: &[u8]) -> (usize, 
 fn find_line(line: &mut Line, bytes: &[u8]) -> (usize, Found)
     ensures within { result.0 ≤ length bytes.now }
     ensures progress { 0 < length bytes.now → 0 < result.0 }
-    ensures found { (rest : List ℕ) (heads : List header_type)
-        → At Place.Line line.old rest heads
-        → Finds result.1 Place.Line line.new rest heads bytes.now result.0 }
+    ensures found { (rest : List ℕ) (known : Option header_type)
+        → At Place.Line line.old rest known
+        → Finds result.1 Place.Line line.new rest known bytes.now result.0 }
 {
     let (count, turn) = read_line(line, bytes);
     match turn {
         LineTurn::Inside => (count, Found::More),
         LineTurn::Data(head) => (count, Found::Head(head)),
-        LineTurn::Told(seq) => (count, Found::Seq(seq)),
+        LineTurn::Seq(seq) => (count, Found::Seq(seq)),
         LineTurn::Dead => (count, Found::BadLine),
     }
 }
@@ -96,9 +96,9 @@ fn find_payload(place: &mut Place, left: u32, bytes: &[u8]) -> (usize, Found)
     ensures within { result.0 ≤ length bytes.now }
     ensures progress { 0 < length bytes.now → 0 < result.0 }
     ensures place { is_place place.old ≡ true → is_place place.new ≡ true }
-    ensures found { (rest : List ℕ) (heads : List header_type) (line : line_type)
-        → At (Place.Payload left) line rest heads
-        → Finds result.1 place.new line rest heads bytes.now result.0 }
+    ensures found { (rest : List ℕ) (known : Option header_type) (line : line_type)
+        → At (Place.Payload left) line rest known
+        → Finds result.1 place.new line rest known bytes.now result.0 }
 {
     let count = bytes.len();
     if (count as u64) < u64::from(left) {
@@ -116,9 +116,9 @@ fn find_trailer(place: &mut Place, at: usize, bytes: &[u8]) -> (usize, Found)
     ensures within { result.0 ≤ length bytes.now }
     ensures progress { 0 < length bytes.now → 0 < result.0 }
     ensures place { is_place place.old ≡ true → is_place place.new ≡ true }
-    ensures found { (rest : List ℕ) (heads : List header_type) (line : line_type)
-        → At (Place.Trailer at) line rest heads
-        → Finds result.1 place.new line rest heads bytes.now result.0 }
+    ensures found { (rest : List ℕ) (known : Option header_type) (line : line_type)
+        → At (Place.Trailer at) line rest known
+        → Finds result.1 place.new line rest known bytes.now result.0 }
 {
     let count = matched(&TRAILER[at..], bytes);
     if at + count == TRAILER.len() {

@@ -1,9 +1,11 @@
 //! The text line that a frame begins with: a header, or a whole SEQ (RFC 3080, section 2.2.1.1;
 //! RFC 3081, section 3.1).
 //!
-//! A line is a list of parts, which its keyword fixes. Each part is a fixed octet, one of two flags,
-//! or a number with the octet that ends it, so that each octet either goes on with its part, completes
-//! it, or can't stand there. The first octet alone tells the keyword.
+//! A line is a list of parts, which its keyword fixes. Each part is a fixed octet, one of two
+//! flags,
+//! or a number with the octet that ends it, so that each octet either goes on with its part,
+//! completes
+//! it, or can't stand there. The first octet alone decides the keyword.
 ghost use Rattle.std.specs.Prelude.{◌≡◌, ◌<◌, ◌≤◌, length};
 ghost use Rattle.beep_frame.specs.Machine.{parts_of, keyword_by, digit_turn_of, number_turn_of, octet_turn_of, part_turn};
 
@@ -50,7 +52,7 @@ pub(crate) enum LineTurn {
     /// The last octet of a header.
     Data(Head),
     /// The last octet of a SEQ.
-    Told(Seq),
+    Seq(Seq),
     /// It can't stand here.
     Dead,
 }
@@ -277,7 +279,7 @@ impl Line {
         }
         match self.keyword {
             Keyword::Data(kind) => LineTurn::Data(self.head(kind)),
-            Keyword::Seq => LineTurn::Told(self.seq()),
+            Keyword::Seq => LineTurn::Seq(self.seq()),
         }
     }
 

@@ -1,13 +1,14 @@
-//! The plain reading of a short list of octets (RFC 3080, section 2.2.1; RFC 3081, section 3.1): all
+//! The plain reading of a short list of octets (RFC 3080, section 2.2.1; RFC 3081, section 3.1):
+//! all
 //! of its frames, what is left, and where it dies. Its contract is the definition of a stream.
 ghost use Rattle.std.specs.Prelude.{◌≡◌, ◌+◌, ◌≤◌, length, take, drop, IfOk, OnOk};
 
 use crate::head::{Head, MAX_NUMBER};
-use crate::octets::{NoMemory, Octets};
 use crate::rule::Rule;
 use crate::seq::Seq;
 use crate::step::Step;
 use crate::tracker::Tracker;
+use beep_octets::{NoMemory, Octets};
 use std::alloc::Global;
 
 /// A frame with all of its octets.
@@ -16,7 +17,7 @@ pub enum PlainFrame {
     /// A data frame: its header and its payload.
     Data(Head, Octets),
     /// A SEQ.
-    Told(Seq),
+    Seq(Seq),
 }
 
 /// What a list of octets is.
@@ -24,13 +25,13 @@ pub enum PlainFrame {
 pub struct Outline {
     /// The whole frames, in order.
     pub frames: Vec<PlainFrame>,
-    /// The octets behind the last whole frame, up to the end or to the dead octet.
+    /// The octets after the last whole frame, up to the end or to the dead octet.
     pub rest: u64,
     /// The rule that the stream breaks, and the number of the octet at which it is dead, from 0.
     pub dead: Option<(Rule, u64)>,
 }
 
-/// A header that was told.
+/// A header that was answered.
 #[derive(Clone, Copy, Debug)]
 struct Begun {
     head: Head,
@@ -102,7 +103,7 @@ impl Reading {
                 Ok(())
             }
             Step::Frame => self.end_frame(alloc, read),
-            Step::Seq(seq) => self.add(PlainFrame::Told(seq)),
+            Step::Seq(seq) => self.add(PlainFrame::Seq(seq)),
         }
     }
 

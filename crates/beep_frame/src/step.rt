@@ -1,4 +1,5 @@
-//! What a decoder tells of a stream, step by step (RFC 3080, section 2.2.1; RFC 3081, section 3.1).
+//! What a decoder answers of a stream, step by step (RFC 3080, section 2.2.1; RFC 3081, section
+//! 3.1).
 
 use crate::head::Head;
 use crate::rule::Rule;

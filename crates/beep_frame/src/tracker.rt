@@ -1,4 +1,5 @@
-//! Following a stream from frame to frame, however it is cut into reads: where the next octet stands,
+//! Following a stream from frame to frame, however it is cut into reads: where the next octet
+//! stands,
 //! and how many came (RFC 3080, section 2.2.1; RFC 3081, section 3.1). No octet is kept.
 //!
 //! ```text
@@ -9,9 +10,7 @@
 //!   +----------------- whole SEQ, or last octet of the trailer ------+
 //!   from each place: an octet that can't stand there, or a size above the limit --> Broken
 //! ```
-ghost use Rattle.std.specs.Prelude.{◌≡◌, ◌⊎◌, ℕ, ◌<◌, ◌≤◌, List, [], length, IsTrue};
-ghost use Rattle.beep_frame.specs.Frame.{Frame};
-ghost use Rattle.beep_frame.specs.declared.head.Head.{Head as header_type};
+ghost use Rattle.std.specs.Prelude.{◌≡◌, ◌⊎◌, ℕ, ◌<◌, length, IsTrue, ◌≤◌};
 ghost use Rattle.beep_frame.specs.declared.rule.Rule.{Rule as rule_type};
 
 use crate::finder::{Found, Place, find};
@@ -57,14 +56,16 @@ impl Model for Tracker {
 
 impl Tracker {
     ghost use Rattle.std.specs.Prelude.{Some};
-    ghost use Rattle.beep_frame.specs.Told.{told};
+    ghost use Rattle.beep_frame.specs.Modulo.{modulo_2_64};
+    ghost use Rattle.beep_frame.specs.Fed.{Fed, nothing_fed};
     ghost use Rattle.beep_frame.specs.Tracks.{Tracks, HasStopped, wanted_at};
-    ghost use Rattle.beep_frame.specs.Decodes.{Tells, is_broken};
-    ghost use Rattle.beep_frame.specs.Telling.{step_of, after_found, renewed, broken_by, last_number, behind_header};
+    ghost use Rattle.beep_frame.specs.Decodes.{Answers, is_broken};
+    ghost use Rattle.beep_frame.specs.Answering.{step_of, after_found, renewed, broken_by, last_number, behind_header};
 
-    /// A tracker of a stream of which no octet has come, that takes payloads of at most `max` octets.
+    /// A tracker of a stream of which no octet has come, that takes payloads of at most `max`
+    /// octets.
     pub(crate) fn new(max: u32) -> Tracker
-        ensures stands { Tracks result [] [] [] [] }
+        ensures stands { Tracks result nothing_fed }
         ensures max { result.max ≡ max }
     {
         Tracker {
@@ -77,12 +78,11 @@ impl Tracker {
         }
     }
 
-    /// Takes octets up to the next step, and tells how many.
+    /// Takes octets up to the next step, and answers how many.
     pub(crate) fn feed(&mut self, bytes: &[u8]) -> (usize, Step)
         ensures within { result.0 ≤ length bytes.now }
-        ensures decodes { (fed : List ℕ) (frames : List Frame) (rest : List ℕ) (heads : List header_type)
-            → Tracks self.old fed frames rest heads
-            → Tells result.1 self.new fed frames rest heads bytes.now result.0 }
+        ensures decodes { (fed : Fed) → Tracks self.old fed
+            → Answers result.1 self.new fed bytes.now result.0 }
         ensures broken { (rule : rule_type) (place left : ℕ) → HasStopped self.old rule place left
             → (result.0 ≡ 0) × (result.1 ≡ Step.Broken rule place) × (self.new ≡ self.old) }
         ensures progress { 0 < length bytes.now → (0 < result.0) ⊎ IsTrue (is_broken result.1) }
@@ -94,16 +94,16 @@ impl Tracker {
         let (count, found) = find(&mut self.place, &mut self.line, bytes);
         self.left = self.left.wrapping_add(count as u64);
         self.used = self.used.wrapping_add(count as u64);
-        (count, self.tell(found))
+        (count, self.answer(found))
     }
 
-    fn tell(&mut self, found: Found) -> Step
+    fn answer(&mut self, found: Found) -> Step
         ensures step { result ≡ step_of self.old found }
         ensures after { self.new ≡ after_found self.old found }
     {
         match found {
             Found::More => Step::More,
-            Found::Head(head) => self.tell_head(head),
+            Found::Head(head) => self.answer_head(head),
             Found::Frame => {
                 self.renew();
                 Step::Frame
@@ -112,17 +112,17 @@ impl Tracker {
                 self.renew();
                 Step::Seq(seq)
             }
-            Found::BadLine => self.tell_broken(Rule::Header),
-            Found::BadTrailer => self.tell_broken(Rule::Trailer),
+            Found::BadLine => self.answer_broken(Rule::Header),
+            Found::BadTrailer => self.answer_broken(Rule::Trailer),
         }
     }
 
-    fn tell_head(&mut self, head: Head) -> Step
+    fn answer_head(&mut self, head: Head) -> Step
         ensures step { result ≡ step_of self.old (Found.Head head) }
         ensures after { self.new ≡ after_found self.old (Found.Head head) }
     {
         if head.size > self.max {
-            return self.tell_broken(Rule::Size);
+            return self.answer_broken(Rule::Size);
         }
         self.place = if head.size == 0 {
             Place::Trailer(0)
@@ -140,7 +140,7 @@ impl Tracker {
         self.left = 0;
     }
 
-    fn tell_broken(&mut self, rule: Rule) -> Step
+    fn answer_broken(&mut self, rule: Rule) -> Step
         ensures step { result ≡ Step.Broken rule (last_number self.old.used) }
         ensures after { self.new ≡ broken_by self.old rule }
     {
@@ -161,8 +161,8 @@ impl Tracker {
 
     /// The octets used since the last whole data frame or SEQ, modulo 2^64.
     pub(crate) fn left(&self) -> u64
-        ensures stands { (fed : List ℕ) (frames : List Frame) (rest : List ℕ) (heads : List header_type)
-            → Tracks self.now fed frames rest heads → result ≡ told (length rest) }
+        ensures stands { (fed : Fed) → Tracks self.now fed
+            → result ≡ modulo_2_64 (length fed.rest) }
         ensures broken { (rule : rule_type) (place left : ℕ) → HasStopped self.now rule place left
             → result ≡ left }
     {

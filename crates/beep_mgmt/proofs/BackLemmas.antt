@@ -6,11 +6,11 @@ use Rattle.std.proofs.lemmas.List.Folds.{list_all-append}
 use Rattle.std.proofs.lemmas.List.Sums.{fold_push}
 use Rattle.std.proofs.Math.Bool.{or-true}
 use Rattle.std.proofs.lemmas.Bool.Decides.{nat_tests}
-use Rattle.beep_text.specs.Characters.{is_digit, is_allowed}
+use Rattle.beep_chars.specs.Characters.{is_digit, is_allowed}
 use Rattle.beep_text.specs.Elements.{number_of, digit_of}
 use Rattle.beep_mgmt.specs.Said.{is_number, number_said, code_said}
 use Rattle.beep_mgmt.specs.Written.{code_digits}
-use Rattle.beep_mgmt.proofs.BoolLemmas.{both, left_of, right_of}
+use Rattle.beep_chars.proofs.BoolLemmas.{both, left_of, right_of}
 
 -- ---- numbers
 

@@ -7,9 +7,9 @@ use Rattle.base64.specs.GeneralPurpose.{encode_of, decode_of, IsBytes, IsConsist
 use Rattle.base64.specs.Engines.{standard}
 use Rattle.base64.specs.Rfc4648.{encode_symbols, encode_group, padding_len}
 use Rattle.base64.proofs.EngineFacts.{decode_of-encode_of}
-use Rattle.beep_text.specs.Characters.{is_space, is_allowed}
+use Rattle.beep_chars.specs.Characters.{is_space, is_allowed}
 use Rattle.beep_mgmt.specs.Sized.{is_octet}
-use Rattle.beep_mgmt.proofs.BoolLemmas.{both, left_of, right_of}
+use Rattle.beep_chars.proofs.BoolLemmas.{both, left_of, right_of}
 
 -- the octet is printable and no white space
 abbrev pub is_symbol : ℕ → Bool

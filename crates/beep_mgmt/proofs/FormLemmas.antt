@@ -7,7 +7,7 @@ use Rattle.std.proofs.lemmas.Str.{encodes-chars, IsUtf8-from_is_utf8}
 use Rattle.std.proofs.lemmas.Bool.Decides.{nat_tests}
 use Rattle.base64.specs.GeneralPurpose.{encode_of, decode_of}
 use Rattle.base64.specs.Engines.{standard}
-use Rattle.beep_text.specs.Characters.{is_space}
+use Rattle.beep_chars.specs.Characters.{is_space}
 use Rattle.beep_text.specs.Tree.{Tree, Items, nothing}
 use Rattle.beep_text.specs.Lawful.{value_named}
 use Rattle.beep_mgmt.specs.declared.profile.Encoding.{Encoding}
@@ -16,7 +16,7 @@ use Rattle.beep_mgmt.specs.Form.{PlainProfile, Form, greeting, start, chosen, cl
 use Rattle.beep_mgmt.specs.Said.{code_said, content_text, profile_with, profile_said, with_profile, profiles_said, note_said, greeting_with, start_with, chosen_with, close_with, fault_with, form_said}
 use Rattle.beep_mgmt.specs.Written.{setting, optional, code_digits, run, element, is_text, profile_as, with_element, profiles_as, element_as, is_writable, same_encoding, comes_back_profile, comes_back, has_profile}
 use Rattle.beep_mgmt.specs.Sized.{is_octet, has_octets, is_u32, is_sized}
-use Rattle.beep_mgmt.proofs.BoolLemmas.{left_of, right_of}
+use Rattle.beep_chars.proofs.BoolLemmas.{left_of, right_of}
 use Rattle.beep_mgmt.proofs.BackLemmas.{number_back, code_back}
 use Rattle.beep_mgmt.proofs.Base64Lemmas.{encoded-symbols, symbols-filtered, symbols-encoded, decoded-encoded, octets_are}
 

@@ -1,11 +1,10 @@
 mod BackLemmas
 mod Base64Lemmas
-mod BoolLemmas
 mod FormLemmas
 mod MessageLemmas
 mod NumberLemmas
 mod PartLemmas
 mod ProfileLemmas
+mod SaidLemmas
 mod TextLemmas
-mod WordLemmas
 mod WritableLemmas

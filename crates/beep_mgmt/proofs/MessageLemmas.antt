@@ -1,17 +1,18 @@
-use Rattle.std.proofs.Common.{◌≡◌, ℕ, ◌≤◌, List, [], ◌∷◌, ◌++◌, length, drop, Some, refl, sym, ap, subst, ◌∙◌, append_assoc, arith}
+use Rattle.std.proofs.Common.{◌≡◌, ℕ, ◌≤◌, List, [], ◌∷◌, ◌++◌, length, Some, refl, sym, ap, subst, ◌∙◌, append_assoc, arith}
 use Rattle.std.proofs.lemmas.List.Folds.{list_all-append}
 use Rattle.beep_text.specs.declared.limits.TheConstants.{MAX_TEXT}
 use Rattle.beep_text.specs.Tree.{Tree}
 use Rattle.beep_text.specs.Elements.{IsBody, Stops}
 use Rattle.beep_text.specs.Canonical.{element_text}
-use Rattle.beep_text.specs.Characters.{is_space}
-use Rattle.beep_text.specs.Split.{body_start}
+use Rattle.beep_chars.specs.Characters.{is_space}
+use Rattle.beep_mime.specs.Split.{body_of, mime_header}
+use Rattle.beep_mime.proofs.SplitLemmas.{body_of-header}
 use Rattle.beep_mgmt.specs.declared.read.MgmtError.{MgmtError}
 use Rattle.beep_mgmt.specs.Form.{Form}
 use Rattle.beep_mgmt.specs.Said.{form_said}
 use Rattle.beep_mgmt.specs.Written.{element_as}
-use Rattle.beep_mgmt.proofs.BoolLemmas.{both}
-use Rattle.beep_mgmt.specs.Message.{body_of, Says, SaysNothing, RefusesMessage, mime_header, message_text}
+use Rattle.beep_chars.proofs.BoolLemmas.{both}
+use Rattle.beep_mgmt.specs.Message.{Says, SaysNothing, RefusesMessage, message_text}
 
 abbrev pub OneElement : Type 0
 OneElement = (body : List ℕ) (e f : Tree) → IsBody body e → IsBody body f → e ≡ f
@@ -40,12 +41,6 @@ read_unless one no_stop payload form MgmtError.NoMemory says within refused = re
 
 -- ---- the message that is written
 
-header_skipped : (xs : List ℕ) → body_start (mime_header ++ xs) ≡ 38
-header_skipped xs = refl
-
-body_behind : (xs : List ℕ) → body_of (mime_header ++ xs) ≡ xs
-body_behind xs = ap (λ n. drop n (mime_header ++ xs)) (header_skipped xs)
-
 -- a body goes on with CR LF
 ended : (body : List ℕ) (e : Tree) → IsBody body e → IsBody (body ++ 13 ∷ 10 ∷ []) e
 ended body e is = record {
@@ -63,7 +58,7 @@ ended body e is = record {
 pub message_says : (form : Form) → IsBody (element_text (element_as form)) (element_as form) → form_said (element_as form) ≡ Some form → Says (message_text form) form
 message_says form is said =
     let text = element_text (element_as form) in
-    let body = ap body_of (append_assoc mime_header text (13 ∷ 10 ∷ [])) ∙ body_behind (text ++ 13 ∷ 10 ∷ []) in
+    let body = ap body_of (append_assoc mime_header text (13 ∷ 10 ∷ [])) ∙ body_of-header (text ++ 13 ∷ 10 ∷ []) in
     record {
       element = element_as form;
       body = subst (λ (x : List ℕ). IsBody x (element_as form)) (sym body) (ended text (element_as form) is);

@@ -2,7 +2,7 @@ use Rattle.std.proofs.Common.{◌≡◌, ℕ, zero, suc, ◌+◌, ◌-◌, ◌*�
 use Rattle.std.proofs.Math.Nat.{pow-succ'}
 use Rattle.std.proofs.lemmas.List.Sums.{fold_more}
 use Rattle.std.proofs.lemmas.Bool.Decides.{nat_tests}
-use Rattle.beep_text.specs.Characters.{is_digit}
+use Rattle.beep_chars.specs.Characters.{is_digit}
 use Rattle.beep_text.specs.Elements.{number_of, digit_of}
 
 -- powers grow

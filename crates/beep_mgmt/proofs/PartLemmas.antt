@@ -3,12 +3,12 @@ use Rattle.std.specs.List.{list_all}
 use Rattle.std.proofs.lemmas.List.{take-append-drop}
 use Rattle.std.proofs.lemmas.List.Sums.{fold_more}
 use Rattle.beep_text.specs.declared.element.Item.{Item}
-use Rattle.beep_text.specs.Characters.{is_space}
+use Rattle.beep_chars.specs.Characters.{is_space}
 use Rattle.beep_text.specs.Tree.{Items, nothing}
 use Rattle.beep_text.specs.Listed.{with_item, items_listed}
 use Rattle.beep_mgmt.specs.Said.{content_text, profiles_said, note_said, is_blank}
 use Rattle.beep_mgmt.specs.Parts.{part_text, with_part, is_blank_part}
-use Rattle.beep_mgmt.proofs.BoolLemmas.{and-false, same_either}
+use Rattle.beep_chars.proofs.BoolLemmas.{and-false, same_either}
 
 -- ---- one more part
 
@@ -46,7 +46,7 @@ fold-append : (xs ys : List Item) (items : Items) → fold with_item items (xs +
 fold-append [] ys items = refl
 fold-append (x ∷ xs) ys items = fold-append xs ys (with_item items x)
 
--- what holds behind some parts holds of all
+-- what holds after some parts holds of all
 stays_whole : {A : Type 0} (f : Items → A) (bad : A) → ((items : Items) (x : Item) → f items ≡ bad → f (with_item items x) ≡ bad)
     → (xs : List Item) (i : ℕ) → f (items_listed (take i xs)) ≡ bad → f (items_listed xs) ≡ bad
 stays_whole f bad keeps xs i is =

@@ -1,10 +1,10 @@
 use Rattle.std.proofs.Common.{◌≡◌, ℕ, zero, suc, ◌<◌, true, List, [], ◌∷◌, length, map, get_or, arith}
 use Rattle.std.specs.List.{list_all}
-use Rattle.beep_text.specs.Characters.{is_allowed}
+use Rattle.beep_chars.specs.Characters.{is_allowed}
 use Rattle.beep_mgmt.specs.declared.profile.Profile.{Profile}
 use Rattle.beep_mgmt.specs.Form.{plain_profile}
 use Rattle.beep_mgmt.specs.Written.{is_uri_allowed}
-use Rattle.beep_mgmt.proofs.BoolLemmas.{left_of, right_of}
+use Rattle.beep_chars.proofs.BoolLemmas.{left_of, right_of}
 
 -- each URI of profiles that can be written has allowed characters
 pub uri_at : (ps : List Profile) (i : ℕ) (d : Profile) → list_all is_uri_allowed (map plain_profile ps) ≡ true → i < length ps → list_all is_allowed (get_or ps i d).uri ≡ true

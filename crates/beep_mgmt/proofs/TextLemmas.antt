@@ -2,7 +2,7 @@ use Rattle.std.proofs.Common.{◌≡◌, ℕ, Bool, true, false, ◌&&◌, cond,
 use Rattle.std.specs.Str.{is_utf8}
 use Rattle.std.specs.List.{list_all}
 use Rattle.std.proofs.lemmas.Str.{IsUtf8-from_is_utf8, is_utf8-from_IsUtf8}
-use Rattle.beep_text.specs.Characters.{is_allowed}
+use Rattle.beep_chars.specs.Characters.{is_allowed}
 use Rattle.beep_mgmt.specs.Written.{is_text}
 
 -- octets that are no UTF-8 are no text

@@ -4,7 +4,7 @@ use Rattle.std.specs.List.{list_all}
 use Rattle.std.proofs.lemmas.List.Folds.{list_all-append}
 use Rattle.std.proofs.lemmas.Bool.Decides.{nat_tests}
 use Rattle.beep_text.specs.declared.attr.Attr.{Attr}
-use Rattle.beep_text.specs.Characters.{is_allowed, is_digit, is_name, is_space}
+use Rattle.beep_chars.specs.Characters.{is_allowed, is_digit, is_name, is_space}
 use Rattle.beep_text.specs.Tree.{Tree, Items, nothing, with_chars, with_child}
 use Rattle.beep_text.specs.Lawful.{are_attrs, are_items, value_named, IsElement}
 use Rattle.beep_text.specs.Canonical.{is_nothing}
@@ -14,7 +14,7 @@ use Rattle.beep_mgmt.specs.declared.limits.TheConstants.{MAX_CODE, MAX_CONTENT}
 use Rattle.beep_mgmt.specs.Form.{PlainProfile, Form}
 use Rattle.beep_mgmt.specs.Said.{is_code, code_said, number_said, number_or_zero, encoding_said, content_text, octets_said, profile_with, profile_of, profile_said, with_profile, profiles_said, note_said, is_blank, greeting_with, start_with, chosen_with, close_with, fault_with, form_said}
 use Rattle.beep_mgmt.specs.Written.{is_allowed_option, is_uri_allowed, is_writable}
-use Rattle.beep_mgmt.proofs.BoolLemmas.{both, left_of, right_of, by_test}
+use Rattle.beep_chars.proofs.BoolLemmas.{both, left_of, right_of, by_test}
 use Rattle.beep_mgmt.proofs.NumberLemmas.{digit_value}
 
 -- ---- codes

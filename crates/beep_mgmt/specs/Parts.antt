@@ -1,8 +1,9 @@
--- What one more part does to what an element says, for the code that goes from part to part.
+-- What one more part does to what an element says, for the code that goes from part to part; proofs
+-- alone need it.
 use Rattle.std.specs.Prelude.{ℕ, Bool, false, Option, Some, None, List, encode_utf8_all, if◌then◌else◌}
 use Rattle.std.specs.List.{list_all}
-use Rattle.beep_frame.specs.Held.{Held}
-use Rattle.beep_text.specs.Characters.{is_space}
+use Rattle.beep_octets.specs.Held.{Held}
+use Rattle.beep_chars.specs.Characters.{is_space}
 use Rattle.beep_text.specs.Canonical.{element_text}
 use Rattle.beep_text.specs.declared.element.Item.{Item}
 use Rattle.beep_text.specs.declared.read.TextError.{TextError}
@@ -15,7 +16,7 @@ abbrev pub part_text : Item → List ℕ
 part_text (Item.Chars cs) = encode_utf8_all cs
 part_text (Item.Child e) = element_text e
 
--- the profiles with one more part behind them
+-- the profiles with one more part after them
 abbrev pub with_part : Option (List PlainProfile) → Item → Option (List PlainProfile)
 with_part profiles (Item.Chars cs) = if list_all is_space cs then profiles else None
 with_part profiles (Item.Child e) = with_profile profiles (profile_said e)

@@ -1,12 +1,14 @@
--- Which element says which value (RFC 3080, section 2.3.1): each form by its name, its attributes and what it holds.
+-- Which element says which value (RFC 3080, section 2.3.1): each form by its name, its attributes
+-- and what it holds.
 -- The code goes over the parts of an element; here an element either says one value or none.
--- Choice: unknown attributes are passed over, and between children only white space may stand (docs/DECISIONS.md, "Elements of channel zero").
+-- Choice: unknown attributes are passed over, and between children only white space may stand
+-- (docs/DECISIONS.md, "Elements of channel zero").
 use Rattle.std.specs.Prelude.{ℕ, ◌^◌, Bool, true, false, ◌&&◌, ◌||◌, not, nat_le, nat_lt, ◌==◌, Option, Some, None, List, [], ◌∷◌, ◌++◌, length, slice_index, codes, bytes_eq, encode_utf8_all, if◌then◌else◌}
 use Rattle.std.specs.List.{list_all, filter}
 use Rattle.std.specs.Result.{result_ok}
 use Rattle.base64.specs.GeneralPurpose.{decode_of}
 use Rattle.base64.specs.Engines.{standard}
-use Rattle.beep_text.specs.Characters.{is_space, is_digit}
+use Rattle.beep_chars.specs.Characters.{is_space, is_digit}
 use Rattle.beep_text.specs.Tree.{Tree, Items, nothing, with_chars, with_child}
 use Rattle.beep_text.specs.Elements.{number_of}
 use Rattle.beep_text.specs.Lawful.{value_named}
@@ -48,7 +50,8 @@ code_said (Some text) = if is_code text then Some (number_of 10 text) else None
 abbrev pub encoding_said : Option (List ℕ) → Encoding
 encoding_said None = Encoding.Plain
 encoding_said (Some name) =
-    if bytes_eq name (codes "none") then Encoding.Plain else (if bytes_eq name (codes "base64") then Encoding.Base64 else Encoding.Other)
+    if bytes_eq name (codes "none") then Encoding.Plain
+    else (if bytes_eq name (codes "base64") then Encoding.Base64 else Encoding.Other)
 
 -- the content as it is written: characters in UTF-8, and each child element in canonical text
 abbrev pub content_text : Items → List ℕ
@@ -60,14 +63,17 @@ content_text (with_child items name attrs inside) =
 -- the octets that a content stands for, where it is readable: Base64 without its white space
 abbrev pub octets_said : Encoding → List ℕ → Option (List ℕ)
 octets_said Encoding.Plain text = Some text
-octets_said Encoding.Base64 text = result_ok (decode_of standard (filter (λ c. not (is_space c)) text))
+octets_said Encoding.Base64 text =
+    result_ok (decode_of standard (filter (λ c. not (is_space c)) text))
 octets_said Encoding.Other text = Some text
 
 -- a profile with these octets, where they are readable and no more than are kept
 abbrev pub profile_with : List ℕ → Encoding → Option (List ℕ) → PlainProfile
-profile_with uri encoding None = record { uri = uri; encoding = encoding; content = []; readable = false }
+profile_with uri encoding None =
+    record { uri = uri; encoding = encoding; content = []; readable = false }
 profile_with uri encoding (Some octets) =
-    if nat_le (length octets) MAX_CONTENT then record { uri = uri; encoding = encoding; content = octets; readable = true }
+    if nat_le (length octets) MAX_CONTENT
+    then record { uri = uri; encoding = encoding; content = octets; readable = true }
     else record { uri = uri; encoding = encoding; content = []; readable = false }
 
 -- a profile of this URI, which must be there
@@ -79,11 +85,13 @@ profile_of (Some uri) encoding text = Some (profile_with uri encoding (octets_sa
 abbrev pub profile_said : Tree → Option PlainProfile
 profile_said e =
     if bytes_eq e.name (codes "profile")
-    then profile_of (value_named (codes "uri") e.attrs) (encoding_said (value_named (codes "encoding") e.attrs)) (content_text e.items)
+    then profile_of (value_named (codes "uri") e.attrs)
+    (encoding_said (value_named (codes "encoding") e.attrs)) (content_text e.items)
     else None
 
--- one profile behind others, where all of them are
-abbrev pub with_profile : Option (List PlainProfile) → Option PlainProfile → Option (List PlainProfile)
+-- one profile after others, where all of them are
+abbrev pub with_profile : Option (List PlainProfile) → Option PlainProfile
+    → Option (List PlainProfile)
 with_profile None profile = None
 with_profile (Some profiles) None = None
 with_profile (Some profiles) (Some profile) = Some (profiles ++ profile ∷ [])
@@ -93,7 +101,8 @@ abbrev pub profiles_said : Items → Option (List PlainProfile)
 profiles_said nothing = Some []
 profiles_said (with_chars items cs) = if list_all is_space cs then profiles_said items else None
 profiles_said (with_child items name attrs inside) =
-    with_profile (profiles_said items) (profile_said (record { name = name; attrs = attrs; items = inside }))
+    with_profile (profiles_said items)
+    (profile_said (record { name = name; attrs = attrs; items = inside }))
 
 -- ---- what else an element holds
 
@@ -111,7 +120,8 @@ is_blank (with_child items name attrs inside) = false
 
 -- ---- each form
 
-abbrev pub greeting_with : Option (List ℕ) → Option (List ℕ) → Option (List PlainProfile) → Option Form
+abbrev pub greeting_with : Option (List ℕ) → Option (List ℕ) → Option (List PlainProfile)
+    → Option Form
 greeting_with features localize None = None
 greeting_with features localize (Some profiles) = Some (greeting features localize profiles)
 
@@ -141,12 +151,19 @@ fault_with (Some code) (Some note) = Some (fault code note)
 abbrev pub form_said : Tree → Option Form
 form_said e =
     if bytes_eq e.name (codes "greeting")
-    then greeting_with (value_named (codes "features") e.attrs) (value_named (codes "localize") e.attrs) (profiles_said e.items)
+    then greeting_with
+    (value_named (codes "features") e.attrs) (value_named (codes "localize") e.attrs)
+    (profiles_said e.items)
     else (if bytes_eq e.name (codes "start")
-    then start_with (number_said (value_named (codes "number") e.attrs)) (value_named (codes "serverName") e.attrs) (profiles_said e.items)
+    then start_with
+    (number_said (value_named (codes "number") e.attrs))
+    (value_named (codes "serverName") e.attrs) (profiles_said e.items)
     else (if bytes_eq e.name (codes "profile") then chosen_with (profile_said e)
     else (if bytes_eq e.name (codes "close")
-    then close_with (number_or_zero (value_named (codes "number") e.attrs)) (code_said (value_named (codes "code") e.attrs)) (note_said e.items)
+    then close_with
+    (number_or_zero (value_named (codes "number") e.attrs))
+    (code_said (value_named (codes "code") e.attrs)) (note_said e.items)
     else (if bytes_eq e.name (codes "ok") then (if is_blank e.items then Some okay else None)
-    else (if bytes_eq e.name (codes "error") then fault_with (code_said (value_named (codes "code") e.attrs)) (note_said e.items)
+    else (if bytes_eq e.name (codes "error")
+    then fault_with (code_said (value_named (codes "code") e.attrs)) (note_said e.items)
     else None)))))

@@ -1,4 +1,5 @@
--- What the types of the code say of a value: its number has 32 bits, and the contents of its profiles are octets.
+-- What the types of the code say of a value: its number has 32 bits, and the contents of its
+-- profiles are octets.
 -- Only reading back what was written asks it.
 use Rattle.std.specs.Prelude.{ℕ, ◌^◌, Bool, true, ◌&&◌, nat_lt}
 use Rattle.std.specs.List.{list_all}

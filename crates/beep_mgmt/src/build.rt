@@ -2,7 +2,7 @@
 ghost use Rattle.std.specs.Prelude.{◌≡◌, ◌≤◌, ◌∷◌, ◌++◌, [], false, codes, map, IsTrue, IfOk, OnOk};
 ghost use Rattle.std.specs.List.{list_all};
 ghost use Rattle.std.specs.Fmt.{decimal};
-ghost use Rattle.beep_text.specs.Characters.{is_name, is_allowed};
+ghost use Rattle.beep_chars.specs.Characters.{is_name, is_allowed};
 ghost use Rattle.beep_text.specs.Tree.{nothing};
 ghost use Rattle.beep_text.specs.Lawful.{has_name};
 ghost use Rattle.beep_mgmt.specs.declared.limits.TheConstants.{MAX_CODE};
@@ -14,8 +14,7 @@ use crate::number::{code_text, decimal_text};
 use crate::profile::Profile;
 use crate::profiles::Profiles;
 use crate::text::{base64_text, text_in};
-use crate::word::word_text;
-use beep_frame::NoMemory;
+use beep_octets::NoMemory;
 use beep_text::{Element, Item, Text};
 use std::alloc::Global;
 
@@ -107,7 +106,7 @@ fn fault_as(alloc: Global, code: u16, note: &Text) -> Result<Element, NoMemory>
     Ok(e)
 }
 
-/// The elements of profiles, one behind another.
+/// Appends the elements of profiles, one after another.
 fn push_profiles(alloc: Global, e: &mut Element, profiles: &Profiles) -> Result<(), NoMemory>
     requires empty { e.old.items ≡ nothing }
     requires allowed { IsTrue (list_all is_uri_allowed (map plain_profile profiles.now)) }
@@ -122,8 +121,10 @@ fn push_profiles(alloc: Global, e: &mut Element, profiles: &Profiles) -> Result<
 
 fn push_profile(alloc: Global, e: &mut Element, profile: &Profile) -> Result<(), NoMemory>
     requires allowed { IsTrue (list_all is_allowed profile.now.uri) }
-    ensures { OnOk result (e.new ≡ record e.old
-        { items = with_element e.old.items (profile_as profile.now.uri profile.now.content.octets) }) }
+    ensures { OnOk result (e.new ≡ record e.old {
+      items = with_element e.old.items
+          (profile_as profile.now.uri profile.now.content.octets);
+    }) }
 {
     let child = profile_as(alloc, profile)?;
     e.push_item(Item::Child(child))
@@ -140,7 +141,7 @@ fn profile_as(alloc: Global, profile: &Profile) -> Result<Element, NoMemory>
     match text_in(alloc, octets)? {
         Some(text) => push_run(&mut e, text)?,
         None => {
-            set(&mut e, "encoding", word_text(alloc, "base64")?)?;
+            set(&mut e, "encoding", Text::of_word(alloc, "base64")?)?;
             push_run(&mut e, base64_text(alloc, octets)?)?;
         }
     }
@@ -152,7 +153,7 @@ fn named(alloc: Global, name: &str) -> Result<Element, NoMemory>
     requires named { IsTrue (is_name name.now) }
     ensures { IfOk result (λ e. e ≡ element name.now [] nothing) }
 {
-    Ok(Element::new(alloc, word_text(alloc, name)?))
+    Ok(Element::new(alloc, Text::of_word(alloc, name)?))
 }
 
 /// Appends an attribute.
@@ -163,7 +164,7 @@ fn set(e: &mut Element, name: &str, value: Text) -> Result<(), NoMemory>
     ensures { OnOk result (e.new ≡ record e.old
         { attrs = e.old.attrs ++ setting name.now value ∷ [] }) }
 {
-    e.push_attr(word_text(e.alloc(), name)?, value)
+    e.push_attr(Text::of_word(e.alloc(), name)?, value)
 }
 
 /// Appends an attribute where there is a value.

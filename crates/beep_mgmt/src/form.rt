@@ -10,9 +10,7 @@ use crate::mgmt::Mgmt;
 use crate::number::{code_said, number_or_zero, number_said};
 use crate::profiles::Profiles;
 use crate::said::profile_said;
-use crate::space::is_blank;
-use crate::word::{is_word, value_of};
-use beep_frame::NoMemory;
+use beep_octets::NoMemory;
 use beep_text::{Element, Item, Text};
 use std::alloc::Global;
 
@@ -21,22 +19,22 @@ pub(crate) fn form_said(alloc: Global, element: &Element) -> Result<Option<Mgmt>
     ensures { IfOk result (λ m. option_map form_of m ≡ form_said element.now) }
 {
     let name = element.name();
-    if is_word(name, "greeting") {
+    if name.is_word("greeting") {
         return greeting_said(alloc, element);
     }
-    if is_word(name, "start") {
+    if name.is_word("start") {
         return start_said(alloc, element);
     }
-    if is_word(name, "profile") {
+    if name.is_word("profile") {
         return chosen_said(alloc, element);
     }
-    if is_word(name, "close") {
+    if name.is_word("close") {
         return close_said(alloc, element);
     }
-    if is_word(name, "ok") {
+    if name.is_word("ok") {
         return Ok(okay_said(element));
     }
-    if is_word(name, "error") {
+    if name.is_word("error") {
         return fault_said(alloc, element);
     }
     Ok(None)
@@ -51,8 +49,8 @@ fn greeting_said(alloc: Global, element: &Element) -> Result<Option<Mgmt>, NoMem
     let Some(profiles) = profiles_said(alloc, element.items())? else {
         return Ok(None);
     };
-    let features = copied(value_of(element, "features"))?;
-    let localize = copied(value_of(element, "localize"))?;
+    let features = copied(element.value_named("features"))?;
+    let localize = copied(element.value_named("localize"))?;
     Ok(Some(Mgmt::Greeting {
         features,
         localize,
@@ -66,7 +64,7 @@ fn start_said(alloc: Global, element: &Element) -> Result<Option<Mgmt>, NoMemory
         (value_named (codes "serverName") element.now.attrs)
         (profiles_said element.now.items)) }
 {
-    let Some(number) = number_said(value_of(element, "number")) else {
+    let Some(number) = number_said(element.value_named("number")) else {
         return Ok(None);
     };
     let Some(profiles) = profiles_said(alloc, element.items())? else {
@@ -75,7 +73,7 @@ fn start_said(alloc: Global, element: &Element) -> Result<Option<Mgmt>, NoMemory
     if profiles.is_empty() {
         return Ok(None);
     }
-    let server = copied(value_of(element, "serverName"))?;
+    let server = copied(element.value_named("serverName"))?;
     Ok(Some(Mgmt::Start {
         number,
         server,
@@ -98,10 +96,10 @@ fn close_said(alloc: Global, element: &Element) -> Result<Option<Mgmt>, NoMemory
         (code_said (value_named (codes "code") element.now.attrs))
         (note_said element.now.items)) }
 {
-    let Some(number) = number_or_zero(value_of(element, "number")) else {
+    let Some(number) = number_or_zero(element.value_named("number")) else {
         return Ok(None);
     };
-    let Some(code) = code_said(value_of(element, "code")) else {
+    let Some(code) = code_said(element.value_named("code")) else {
         return Ok(None);
     };
     let Some(note) = note_said(alloc, element.items())? else {
@@ -126,7 +124,7 @@ fn fault_said(alloc: Global, element: &Element) -> Result<Option<Mgmt>, NoMemory
         (code_said (value_named (codes "code") element.now.attrs))
         (note_said element.now.items)) }
 {
-    let Some(code) = code_said(value_of(element, "code")) else {
+    let Some(code) = code_said(element.value_named("code")) else {
         return Ok(None);
     };
     let Some(note) = note_said(alloc, element.items())? else {
@@ -161,11 +159,12 @@ fn profiles_said(alloc: Global, items: &[Item]) -> Result<Option<Profiles>, NoMe
 
 /// Appends the profile that a part says; false where it is neither a profile nor white space.
 fn put_profile(alloc: Global, item: &Item, profiles: &mut Profiles) -> Result<bool, NoMemory>
-    ensures { IfOk result (λ goes_on. (if goes_on then Some (map plain_profile profiles.new) else None)
+    ensures { IfOk result (λ goes_on.
+        (if goes_on then Some (map plain_profile profiles.new) else None)
         ≡ with_part (Some (map plain_profile profiles.old)) item.now) }
 {
     match item {
-        Item::Chars(text) => Ok(is_blank(text)),
+        Item::Chars(text) => Ok(text.is_blank()),
         Item::Child(element) => match profile_said(alloc, element)? {
             Some(profile) => {
                 profiles.push(profile)?;
@@ -206,7 +205,7 @@ fn is_blank_part(item: &Item) -> bool
     ensures { result ≡ is_blank_part item.now }
 {
     match item {
-        Item::Chars(text) => is_blank(text),
+        Item::Chars(text) => text.is_blank(),
         Item::Child(_) => false,
     }
 }

@@ -16,9 +16,7 @@ mod profiles;
 mod read;
 mod said;
 mod sized;
-mod space;
 mod text;
-mod word;
 mod write;
 
 pub use limits::{MAX_CODE, MAX_CONTENT};

@@ -2,7 +2,7 @@
 
 use crate::profile::Profile;
 use crate::profiles::Profiles;
-use beep_text::Text;
+use beep_chars::Text;
 
 /// What a message of channel zero says.
 #[derive(Debug, Drop)]

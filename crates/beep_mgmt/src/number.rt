@@ -2,14 +2,14 @@
 ghost use Rattle.std.specs.Prelude.{◌≡◌, ◌+◌, ◌-◌, ◌^◌, ◌<◌, ◌≤◌, ◌&&◌, ◌==◌, Some, None, option_copied, length, slice_index, nat_le, if◌then◌else◌, IfOk, IfSome};
 ghost use Rattle.std.specs.List.{list_all};
 ghost use Rattle.std.specs.Fmt.{decimal};
-ghost use Rattle.beep_text.specs.Characters.{is_digit};
+ghost use Rattle.beep_chars.specs.Characters.{is_digit};
 ghost use Rattle.beep_text.specs.Elements.{number_of};
 ghost use Rattle.beep_mgmt.specs.declared.limits.TheConstants.{MAX_CODE};
 ghost use Rattle.beep_mgmt.specs.Said.{number_said, number_or_zero, code_said};
 ghost use Rattle.beep_mgmt.specs.Written.{code_digits};
 
-use beep_frame::NoMemory;
-use beep_text::Text;
+use beep_chars::Text;
+use beep_octets::NoMemory;
 use std::alloc::Global;
 
 /// The number that an attribute says, where there is one.

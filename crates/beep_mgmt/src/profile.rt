@@ -1,7 +1,7 @@
 //! A profile: what a channel may be started with (RFC 3080, section 2.3.1.2).
 
-use beep_frame::Octets;
-use beep_text::Text;
+use beep_chars::Text;
+use beep_octets::Octets;
 
 /// How the content of a profile is written.
 #[derive(Clone, Copy, Debug, PartialEq, Eq)]

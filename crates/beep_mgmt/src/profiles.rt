@@ -3,7 +3,7 @@ ghost use Rattle.std.specs.Prelude.{◌≡◌, ◌==◌, [], ◌∷◌, ◌++◌
 ghost use Rattle.std.specs.Option.{option_copied};
 
 use crate::profile::Profile;
-use beep_frame::NoMemory;
+use beep_octets::NoMemory;
 use std::alloc::Global;
 use std::marker::Model;
 
@@ -64,8 +64,15 @@ impl Profiles {
         self.list.get(i)
     }
 
-    /// The profiles, one behind another.
-    pub(crate) fn as_slice(&self) -> &[Profile]
+    /// The profile at place `i`, moved out.
+    pub fn take(self, i: usize) -> Option<Profile>
+        ensures { result ≡ slice_get self i }
+    {
+        self.list.into_iter().nth(i)
+    }
+
+    /// The profiles, one after another.
+    pub fn as_slice(&self) -> &[Profile]
         ensures { result.now ≡ self.now }
     {
         &self.list

@@ -1,14 +1,16 @@
 //! Reading a message of channel zero (RFC 3080, section 2.3.1).
-ghost use Rattle.std.specs.Prelude.{◌≡◌, ◌<◌, length, drop, IfOk, IfErr, IsTrue, Err};
+ghost use Rattle.std.specs.Prelude.{◌≡◌, ◌≢◌, ◌<◌, length, IfOk, IfErr, IsTrue, Some, None, Err};
 ghost use Rattle.beep_text.specs.declared.limits.TheConstants.{MAX_TEXT};
 ghost use Rattle.beep_mgmt.specs.Form.{form_of};
-ghost use Rattle.beep_mgmt.specs.Message.{Says, RefusesMessage};
+ghost use Rattle.beep_mgmt.specs.Message.{Says, RefusesMessage, message_said};
 ghost use Rattle.beep_mgmt.specs.Parts.{error_of};
 ghost use Rattle.beep_mgmt.specs.Written.{is_writable};
 
 use crate::form::form_said;
+use crate::laws::{a_message_that_says_a_value_is_read, the_value_said_is_that_of_the_message};
 use crate::mgmt::Mgmt;
-use beep_text::{MAX_TEXT, TextError, read_element, split_entity};
+use beep_mime::body;
+use beep_text::{MAX_TEXT, TextError, read_element};
 use std::alloc::Global;
 use thiserror::Error;
 
@@ -27,8 +29,8 @@ pub enum MgmtError {
     /// The body says an element that has no meaning on channel zero.
     #[error("not an element of channel zero")]
     Shape,
-    /// Want of memory; a later call may succeed.
-    #[error("want of memory")]
+    /// Out of memory; a later call may succeed.
+    #[error("out of memory")]
     NoMemory,
 }
 
@@ -38,12 +40,26 @@ pub fn read_mgmt(alloc: Global, payload: &[u8]) -> Result<Mgmt, MgmtError>
     ensures writable { IfOk result (λ m. IsTrue (is_writable (form_of m))) }
     ensures refused { IfErr result (λ error. RefusesMessage payload.now error) }
     ensures too_long { MAX_TEXT < length payload.now → result ≡ Err MgmtError.TooLong }
+    // The same by the function from messages to values.
+    ensures said { IfOk result (λ m. message_said payload.now ≡ Some (form_of m)) }
+    ensures unsaid { IfErr result (λ error. error ≢ MgmtError.NoMemory
+        → message_said payload.now ≡ None) }
+{
+    the_value_said_is_that_of_the_message();
+    a_message_that_says_a_value_is_read();
+    read_value(alloc, payload)
+}
+
+fn read_value(alloc: Global, payload: &[u8]) -> Result<Mgmt, MgmtError>
+    ensures value { IfOk result (λ m. Says payload.now (form_of m)) }
+    ensures writable { IfOk result (λ m. IsTrue (is_writable (form_of m))) }
+    ensures refused { IfErr result (λ error. RefusesMessage payload.now error) }
+    ensures too_long { MAX_TEXT < length payload.now → result ≡ Err MgmtError.TooLong }
 {
     if payload.len() > MAX_TEXT {
         return Err(MgmtError::TooLong);
     }
-    let start = split_entity(payload);
-    let element = match read_element(alloc, &payload[start..]) {
+    let element = match read_element(alloc, body(payload)) {
         Ok(element) => element,
         Err(error) => return Err(error_of(error)),
     };

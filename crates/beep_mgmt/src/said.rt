@@ -4,8 +4,8 @@ ghost use Rattle.std.specs.List.{filter};
 ghost use Rattle.std.specs.Result.{result_ok};
 ghost use Rattle.base64.specs.GeneralPurpose.{decode_of};
 ghost use Rattle.base64.specs.Engines.{standard};
-ghost use Rattle.beep_frame.specs.Held.{Held};
-ghost use Rattle.beep_text.specs.Characters.{is_space};
+ghost use Rattle.beep_octets.specs.Held.{Held};
+ghost use Rattle.beep_chars.specs.Characters.{is_space};
 ghost use Rattle.beep_text.specs.Listed.{items_listed};
 ghost use Rattle.beep_mgmt.specs.Form.{plain_profile};
 ghost use Rattle.beep_mgmt.specs.Said.{encoding_said, content_text, octets_said, profile_with, profile_said};
@@ -13,11 +13,10 @@ ghost use Rattle.beep_mgmt.specs.Parts.{part_text, octets_in};
 
 use crate::limits::MAX_CONTENT;
 use crate::profile::{Encoding, Profile};
-use crate::space::is_space;
-use crate::word::{is_word, value_of};
 use base64::DecodeAllocError;
 use base64::engine::general_purpose::STANDARD;
-use beep_frame::{NoMemory, Octets};
+use beep_chars::is_space;
+use beep_octets::{NoMemory, Octets};
 use beep_text::{Element, Item, Text, write_element};
 use std::alloc::Global;
 
@@ -25,14 +24,14 @@ use std::alloc::Global;
 pub(crate) fn profile_said(alloc: Global, element: &Element) -> Result<Option<Profile>, NoMemory>
     ensures { IfOk result (λ p. option_map plain_profile p ≡ profile_said element.now) }
 {
-    if !is_word(element.name(), "profile") {
+    if !element.name().is_word("profile") {
         return Ok(None);
     }
-    let Some(uri) = value_of(element, "uri") else {
+    let Some(uri) = element.value_named("uri") else {
         return Ok(None);
     };
     let uri = uri.copy()?;
-    let encoding = encoding_said(value_of(element, "encoding"));
+    let encoding = encoding_said(element.value_named("encoding"));
     let mut text = Octets::new(alloc);
     put_content(element.items(), &mut text)?;
     let profile = profile_with(alloc, uri, encoding, text)?;
@@ -46,10 +45,10 @@ fn encoding_said(name: Option<&Text>) -> Encoding
     let Some(name) = name else {
         return Encoding::Plain;
     };
-    if is_word(name, "none") {
+    if name.is_word("none") {
         return Encoding::Plain;
     }
-    if is_word(name, "base64") {
+    if name.is_word("base64") {
         return Encoding::Base64;
     }
     Encoding::Other

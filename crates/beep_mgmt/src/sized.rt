@@ -6,7 +6,7 @@ ghost use Rattle.beep_mgmt.specs.Sized.{is_octet, is_u32, has_octets, is_sized};
 
 use crate::mgmt::Mgmt;
 use crate::profiles::Profiles;
-use beep_frame::Octets;
+use beep_octets::Octets;
 
 /// That its number has 32 bits, and its contents are octets.
 pub(crate) fn is_sized(m: &Mgmt)

@@ -10,7 +10,8 @@ ghost use Rattle.beep_mgmt.specs.Message.{Says, message_text};
 use crate::build::element_as;
 use crate::mgmt::Mgmt;
 use crate::sized::is_sized;
-use beep_frame::{NoMemory, Octets};
+use beep_mime::write_header;
+use beep_octets::{NoMemory, Octets};
 use beep_text::write_element;
 
 /// Appends the canonical message of a value: its MIME header, its element, and CR LF.
@@ -24,7 +25,7 @@ pub fn write_mgmt(m: &Mgmt, out: &mut Octets) -> Result<(), NoMemory>
     ensures room { out.old.spare ≤ out.new.spare + length (message_text (form_of m.now)) }
 {
     let mut text = Octets::new(out.alloc());
-    text.extend(b"Content-Type: application/beep+xml\r\n\r\n")?;
+    write_header(&mut text)?;
     write_mgmt_element(m, &mut text)?;
     text.extend(b"\r\n")?;
     out.extend(text.as_slice())

@@ -1,3 +1,2 @@
 mod WireLemmas
-mod EdgeLemmas
 mod StandardFacts

@@ -1,5 +1,7 @@
--- The numbers of octets on the wire, counts modulo 2^32 (RFC 3080, section 2.2.1.1; RFC 3081, section 3.1).
--- The code keeps such numbers and small differences; here a count is a natural number and never wraps.
+-- The numbers of octets on the wire, counts modulo 2^32 (RFC 3080, section 2.2.1.1; RFC 3081,
+-- section 3.1).
+-- The code keeps such numbers and small differences; here a count is a natural number and never
+-- wraps.
 use Rattle.std.specs.Prelude.{◌≡◌, ℕ, ◌+◌, ◌-◌, ◌%◌, ◌^◌, ◌≤◌}
 
 -- the number that a count of octets has on the wire

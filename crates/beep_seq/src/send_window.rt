@@ -1,7 +1,7 @@
 //! The window of the peer, as a sender sees it (RFC 3081, section 3.1).
-ghost use Rattle.std.specs.Prelude.{◌≡◌, ◌≤◌, ◌↔◌, List, [], ◌∷◌, IsOk, OnOk, OnErr, is_err};
+ghost use Rattle.std.specs.Prelude.{◌≡◌, ◌+◌, ◌-◌, ◌≤◌, ◌↔◌, IsOk, OnOk, OnErr, is_err};
 ghost use Rattle.beep_seq.specs.Due.{breaks_bad_ack, HasCountBetween};
-ghost use Rattle.beep_seq.specs.Sending.{SendCall, spent, acked, octets_acked, octets_sent, open_octets_after, Stands};
+ghost use Rattle.beep_seq.specs.Sending.{Departures, no_departures, after_seq, open_after, Stands};
 
 use crate::limits::INITIAL_WINDOW;
 use crate::seq_no::SeqNo;
@@ -33,7 +33,7 @@ impl Model for SendWindow {
 impl SendWindow {
     /// The window of a life in which nothing was sent.
     pub fn new() -> SendWindow
-        ensures { Stands result [] }
+        ensures { Stands result no_departures }
     {
         SendWindow {
             last_ackno: SeqNo::new(0),
@@ -45,31 +45,37 @@ impl SendWindow {
     /// The open octets: how many may be sent before the peer opens its window further.
     pub fn room(&self) -> u32
         ensures value { result ≡ self.now.room }
-        ensures counted { (past : List SendCall) → Stands self.now past
-            → result ≡ open_octets_after past }
+        ensures counted { (counts : Departures) → Stands self.now counts
+            → result ≡ open_after counts }
     {
         self.room
     }
 
     /// Notes that a frame with `n` octets of payload was sent.
     pub fn spend(&mut self, n: u32)
-        requires { n ≤ self.old.room }
-        ensures { (past : List SendCall) → Stands self.old past → Stands self.new (spent n ∷ past) }
+        requires fits { n ≤ self.old.room }
+        ensures value { self.new ≡ record self.old {
+          unacked = self.old.unacked + n;
+          room = self.old.room - n;
+        } }
+        ensures counted { (counts : Departures) → Stands self.old counts
+            → Stands self.new (record counts { sent = counts.sent + n }) }
     {
         self.unacked += n;
         self.room -= n;
     }
 
-    /// Obeys a SEQ with this `ackno` and `window`, also one that moves the window's end to the left.
+    /// Obeys a SEQ with this `ackno` and `window`, also one that moves the window's end to the
+    /// left.
     pub fn acked(&mut self, ackno: u32, window: u32) -> Result<(), BadAck>
-        ensures ok { (past : List SendCall) → Stands self.old past
-            → OnOk result (Stands self.new (acked ackno window ∷ past)) }
+        ensures ok { (counts : Departures) → Stands self.old counts
+            → OnOk result (Stands self.new (after_seq counts ackno window)) }
 
         // The ackno is the number of a count from the last ackno to the next octet to be sent.
-        ensures accepted { (past : List SendCall) → Stands self.old past
-            → IsOk result ↔ HasCountBetween (octets_acked past) (octets_sent past) ackno }
-        ensures refused { (past : List SendCall) → Stands self.old past
-            → is_err result ≡ breaks_bad_ack (octets_acked past) (octets_sent past) ackno }
+        ensures accepted { (counts : Departures) → Stands self.old counts
+            → IsOk result ↔ HasCountBetween counts.acknowledged counts.sent ackno }
+        ensures refused { (counts : Departures) → Stands self.old counts
+            → is_err result ≡ breaks_bad_ack counts.acknowledged counts.sent ackno }
         ensures err { OnErr result (self.new ≡ self.old) }
     {
         let ackno = SeqNo::new(ackno);

@@ -34,9 +34,7 @@ impl StdSink {
 }
 
 impl Sink for StdSink {
-    ghost written = { λ _. None };
-
-    ghost faults = { λ s. s };
+    ghost state = { λ faults. record { written = None; faults = faults } };
 
     fn write(&mut self, bytes: &[u8]) -> Result<usize, Failed>
         requires { 0 < length bytes.now }

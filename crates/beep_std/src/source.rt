@@ -44,13 +44,12 @@ impl StdSource {
 }
 
 impl Source for StdSource {
-    ghost left = { λ _. None };
-
-    ghost ended = { λ s. s.ended };
-
-    ghost faults = { λ s. s.faults };
-
-    ghost reads = { λ s. s.reads };
+    ghost state = { λ s. record {
+      left = None;
+      ended = s.ended;
+      faults = s.faults;
+      reads = s.reads;
+    } };
 
     fn read(&mut self, buf: &mut [u8]) -> Result<usize, Failed>
         requires room { 0 < length buf.old }

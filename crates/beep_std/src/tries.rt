@@ -9,7 +9,8 @@ use std::io::{ErrorKind, Read, Write};
 /// a guard against a call that never returns.
 pub const TRIES: u32 = 16;
 
-/// Reads once. An interrupted read is asked again, up to [`TRIES`] times in all, and then has failed.
+/// Reads once. An interrupted read is asked again, up to [`TRIES`] times in all, and then has
+/// failed.
 pub(crate) fn read_once<R: Read>(from: &mut R, buf: &mut [u8]) -> Result<usize, Failed>
     ensures { ReadsAtMost result buf.new }
 {

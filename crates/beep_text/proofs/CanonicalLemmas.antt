@@ -6,7 +6,7 @@ use Rattle.std.proofs.lemmas.List.Sums.{fold_more}
 use Rattle.std.proofs.lemmas.Bool.Decides.{nat_tests}
 use Rattle.beep_text.specs.declared.attr.Attr.{Attr}
 use Rattle.beep_text.specs.declared.element.Item.{Item}
-use Rattle.beep_text.specs.Characters.{is_name, is_begun_name, is_name_start, is_name_char, is_allowed}
+use Rattle.beep_chars.specs.Characters.{is_name, is_begun_name, is_name_start, is_name_char, is_allowed}
 use Rattle.beep_text.specs.Tree.{Items, nothing}
 use Rattle.beep_text.specs.Listed.{with_item, items_listed, tree_of}
 use Rattle.beep_text.specs.Lawful.{are_attrs}

@@ -9,7 +9,7 @@ use lib.Utf8.{encode}
 use Rattle.beep_text.specs.declared.mode.Letters.{Letters}
 use Rattle.beep_text.specs.declared.mode.Part.{Part}
 use Rattle.beep_text.specs.declared.mode.Taken.{Taken}
-use Rattle.beep_text.specs.Characters.{is_allowed}
+use Rattle.beep_chars.specs.Characters.{is_allowed}
 use Rattle.beep_text.specs.Elements.{Written, plain, named, decimal, hexadecimal, written_text, written_char, is_reference, is_written, digit_of, number_of}
 use Rattle.beep_text.specs.Machine.{letter_after, letters_taken, is_no_letter, allowed_taken, is_tail, grown, first_taken, base_of, is_digit_in, named_taken, taken_after, char_taken, is_fresh, is_ref}
 use Rattle.beep_text.proofs.ElementLemmas.{left_of, right_of, both, is_false}
@@ -185,7 +185,7 @@ three-more v b o is low high over under = record {
       ∙ ap₂ (λ x ys. o ++ x ∷ ys) (omega arith) (ap₂ (λ x y. x ∷ y ∷ []) (omega arith) (omega arith)) ∙ sym (append_assoc o (b ∷ []) ((128 + r / 64) ∷ (128 + r % 64) ∷ []));
 }
 
--- a letter behind a reference
+-- a letter after a reference
 abbrev LetterText : List ℕ → Option Letters → Type 0
 LetterText o None = Unit {0}
 LetterText o (Some letters) = o ≡ 38 ∷ letters_text letters

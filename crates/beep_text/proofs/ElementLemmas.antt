@@ -8,7 +8,7 @@ use Rattle.std.proofs.lemmas.Slice.Eq.{bytes_eq-Decides}
 use Rattle.std.proofs.lemmas.Bool.Decides.{same_from_decides}
 use Rattle.beep_text.specs.declared.attr.Attr.{Attr}
 use Rattle.beep_text.specs.declared.element.Item.{Item}
-use Rattle.beep_text.specs.Characters.{is_name, is_allowed}
+use Rattle.beep_chars.specs.Characters.{is_name, is_allowed}
 use Rattle.beep_text.specs.Tree.{Items, Tree, nothing, with_chars, with_child}
 use Rattle.beep_text.specs.Listed.{with_item, items_listed, listed}
 use Rattle.beep_text.specs.Lawful.{are_attrs, has_name, IsElement, IsNext, IsItem}

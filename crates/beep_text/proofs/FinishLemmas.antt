@@ -8,7 +8,7 @@ use Rattle.beep_text.specs.declared.mode.Letters.{Letters}
 use Rattle.beep_text.specs.declared.mode.Part.{Part}
 use Rattle.beep_text.specs.declared.mode.Taken.{Taken}
 use Rattle.beep_text.specs.declared.mode.Mode.{Mode}
-use Rattle.beep_text.specs.Characters.{is_allowed}
+use Rattle.beep_chars.specs.Characters.{is_allowed}
 use Rattle.beep_text.specs.Tree.{Items, Tree, nothing, with_child}
 use Rattle.beep_text.specs.Elements.{written_text, AttrText, attr_text, attr_said, IsAlive, IsBody, number_of, put}
 use Rattle.beep_text.specs.Machine.{State, start, run, taken_after, char_taken, is_fresh, has_room, ended_in, grown, base_of, is_digit_in, is_ref}
@@ -228,7 +228,7 @@ finish_slash : (below : List Tree) (top : Tree) (attr value gap t : List ℕ) �
 finish_slash [] top attr value gap t is = absurd is
 finish_slash (up ∷ below) top attr value gap t is = then_finishes _ (ended_in (up ∷ below) top attr value) (62 ∷ []) refl (finish_ended below up top attr value)
 
--- behind the value of an attribute; the elements are open as before it
+-- after the value of an attribute; the elements are open as before it
 finish_value : (below : List Tree) (name : List ℕ) (attrs : List Attr) (items : Items) (attr value gap t : List ℕ) (q : ℕ) → Opening below (tree name attrs items) gap t → Finishes (Some (st below (tree name attrs items) attr value (Mode.Value q Part.Fresh)))
 finish_value [] name attrs items attr value gap t q is = absurd is
 finish_value (up ∷ below) name attrs items attr value gap t q is =

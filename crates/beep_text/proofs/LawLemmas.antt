@@ -5,7 +5,7 @@ use Rattle.std.proofs.lemmas.List.Folds.{list_all-append}
 use Rattle.std.proofs.lemmas.List.{take-append-drop, take-take, take_all}
 use Rattle.beep_text.specs.declared.attr.Attr.{Attr}
 use Rattle.beep_text.specs.declared.limits.TheConstants.{MAX_NESTED}
-use Rattle.beep_text.specs.Characters.{is_allowed, is_name}
+use Rattle.beep_chars.specs.Characters.{is_allowed, is_name}
 use Rattle.beep_text.specs.Tree.{Items, Tree, nothing, with_chars, with_child}
 use Rattle.beep_text.specs.Lawful.{are_attrs, are_items, ends_in_chars, depth_of, IsElement}
 use Rattle.beep_text.specs.Elements.{Written, plain, named, decimal, hexadecimal, written_char, is_written, AttrText, attr_said, AreAttrTexts, Pieces, no_pieces, character, section, alone, around, items_of, put, IsPieces, IsBody, IsAlive, Stops}

@@ -2,15 +2,13 @@ mod CanonicalLemmas
 mod CharLemmas
 mod ElementLemmas
 mod FinishLemmas
-mod LawLemmas
-mod OutcomeLemmas
+pub mod LawLemmas
 mod PlaceLemmas
 mod ReachedLemmas
 mod ReadLemmas
 mod ReadingLemmas
 mod RoomLemmas
 mod RunLemmas
-mod SplitLemmas
+mod SaidLemmas
 mod StepLemmas
-mod TextLemmas
-mod WrittenLemmas
+pub mod WrittenLemmas

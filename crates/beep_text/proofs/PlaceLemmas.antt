@@ -7,7 +7,7 @@ use Rattle.beep_text.specs.declared.mode.Letters.{Letters}
 use Rattle.beep_text.specs.declared.mode.Part.{Part}
 use Rattle.beep_text.specs.declared.mode.Taken.{Taken}
 use Rattle.beep_text.specs.declared.mode.Mode.{Mode}
-use Rattle.beep_text.specs.Characters.{is_name, is_name_char}
+use Rattle.beep_chars.specs.Characters.{is_name, is_name_char}
 use Rattle.beep_text.specs.Lawful.{has_name}
 use Rattle.beep_text.specs.Tree.{Tree}
 use Rattle.beep_text.specs.Elements.{Written, plain, named, decimal, hexadecimal, written_text, is_reference, digit_of, IsAlive, IsBody, IsBegun, IsEntity, Stops}
@@ -158,7 +158,7 @@ section-goes bs s is are = run-stays in_section (λ b. not (b == 62)) (λ x b he
 
 -- ---- where `&` may stand
 
--- the places behind a `&`
+-- the places after a `&`
 pub data AmpMode : Mode → Type 0 where
   in_value : (q : ℕ) → AmpMode (Mode.Value q (Part.Name Letters.Empty))
   in_content : AmpMode (Mode.Content (Part.Name Letters.Empty))
@@ -264,7 +264,7 @@ closing_amp n below top attr value t opened is =
     (λ same. absurd (true≢false (sym (all_at is_name_char top.name n (name_chars top.name (named_top below top t opened is)) (ltb-true n (length top.name) within)) ∙ ap is_name_char (sym (eqb-true 38 (get_or top.name n 0) same))))) (λ _. tt))
     (λ _. tt)
 
--- behind a `&` a text stands in one of these places
+-- after a `&` a text stands in one of these places
 amp-step : (mode : Mode) (below : List Tree) (top : Tree) (attr value t : List ℕ) → ReachedIn mode below top attr value t → OnAmp (step_in mode (st below top attr value mode) 38)
 unfolding OnAmp
 amp-step Mode.Lead below top attr value t is = tt
@@ -283,7 +283,7 @@ amp-step (Mode.Closing n) below top attr value t is = closing_amp n below top at
 amp-step Mode.Closed below top attr value t is = tt
 amp-step Mode.Trail below top attr value t is = tt
 
--- behind `&` a blank can't follow in a reference, and can in a section
+-- after `&` a blank can't follow in a reference, and can in a section
 amp_case : (mode : Mode) (below : List Tree) (top : Tree) (attr value : List ℕ) → AmpMode mode
     → ((in_ref mode ≡ true) × (step_in mode (st below top attr value mode) 32 ≡ None)) ⊎ ((in_section mode ≡ true) × ((s : State) × (step_in mode (st below top attr value mode) 32 ≡ Some s)))
 amp_case _ below top attr value (in_value q) = inl (refl, refl)
@@ -398,7 +398,7 @@ not_both (Mode.Closing n) ref other = absurd (cc ref)
 not_both Mode.Closed ref other = absurd (cc ref)
 not_both Mode.Trail ref other = absurd (cc ref)
 
--- ---- the state behind a `&`
+-- ---- the state after a `&`
 
 some_none : (s : State) → Some s ≡ None → ⊥
 some_none s same = absurd (cc same)

@@ -4,7 +4,7 @@ use Rattle.std.specs.List.{list_all}
 use Rattle.beep_text.specs.declared.mode.Part.{Part}
 use Rattle.beep_text.specs.declared.mode.Mode.{Mode}
 use Rattle.beep_text.specs.declared.limits.TheConstants.{MAX_NESTED}
-use Rattle.beep_text.specs.Characters.{is_space, is_allowed, is_name}
+use Rattle.beep_chars.specs.Characters.{is_space, is_allowed, is_name}
 use Rattle.beep_text.specs.Lawful.{has_name}
 use Rattle.beep_text.specs.Tree.{Tree, nothing, with_child}
 use Rattle.beep_text.specs.Elements.{Written, written_text, written_char, is_written, AttrText, attr_text, attr_said, AreAttrTexts, Tag, tag_text, IsTag, Pieces, pieces_text, items_of, put, IsSection, IsPieces, IsBody}

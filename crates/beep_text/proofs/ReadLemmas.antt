@@ -9,8 +9,8 @@ use Rattle.beep_text.specs.Tree.{Items, Tree}
 use Rattle.beep_text.specs.Lawful.{are_attrs, are_items, depth_of, IsElement}
 use Rattle.beep_text.specs.Elements.{IsBody, IsEntity}
 use Rattle.beep_text.specs.Refused.{Refuses}
-use Rattle.beep_text.specs.Machine.{State, start, step, run, in_ref}
-use Rattle.beep_text.specs.Reading.{MayEnd, last_amp, last_amp_from, refusal_of, child_of, element_of, is_trail}
+use Rattle.beep_text.specs.Machine.{State, start, step, run, in_ref, child_of, element_of, is_trail}
+use Rattle.beep_text.specs.Reading.{MayEnd, last_amp, last_amp_from, refusal_of}
 use Rattle.beep_text.proofs.ElementLemmas.{left_of, right_of, is_false}
 use Rattle.beep_text.proofs.LawLemmas.{attrs_lawful, pieces_items}
 use Rattle.beep_text.proofs.PlaceLemmas.{in_ref_text, entity_place, no_entity, stops_at, stops_short}

@@ -7,7 +7,7 @@ use lib.Utf8.{encode}
 use Rattle.beep_text.specs.declared.mode.Letters.{Letters}
 use Rattle.beep_text.specs.declared.mode.Part.{Part}
 use Rattle.beep_text.specs.declared.mode.Taken.{Taken}
-use Rattle.beep_text.specs.Characters.{is_allowed, is_digit}
+use Rattle.beep_chars.specs.Characters.{is_allowed, is_digit}
 use Rattle.beep_text.specs.Elements.{Written, plain, named, decimal, hexadecimal, written_text, written_char, is_reference, has_reference, is_written, is_hex_digit, digit_of, number_of}
 use Rattle.beep_text.specs.Machine.{allowed_taken, is_tail, grown, first_taken, base_of, is_digit_in, taken_after, char_taken, is_fresh}
 use Rattle.beep_text.proofs.ElementLemmas.{left_of, right_of, both, is_false}

@@ -7,8 +7,8 @@ use Rattle.std.proofs.lemmas.List.{append_cancel_left, length-replicate}
 use Rattle.std.proofs.lemmas.List.Folds.{list_all-append}
 use Rattle.std.proofs.lemmas.Bool.Decides.{nat_tests}
 use Rattle.beep_text.specs.declared.attr.Attr.{Attr}
-use Rattle.beep_text.specs.declared.limits.TheConstants.{MAX_NAME}
-use Rattle.beep_text.specs.Characters.{is_name_char}
+use Rattle.beep_chars.specs.declared.limits.TheConstants.{MAX_NAME}
+use Rattle.beep_chars.specs.Characters.{is_name_char}
 use Rattle.beep_text.specs.Lawful.{has_name}
 use Rattle.beep_text.specs.Machine.{has_room, is_new_with}
 use Rattle.beep_text.proofs.WrittenLemmas.{by_test}

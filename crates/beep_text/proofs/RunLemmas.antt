@@ -10,8 +10,9 @@ use Rattle.std.proofs.lemmas.Str.{encode_ascii}
 use Rattle.beep_text.specs.declared.attr.Attr.{Attr}
 use Rattle.beep_text.specs.declared.mode.Part.{Part}
 use Rattle.beep_text.specs.declared.mode.Mode.{Mode}
-use Rattle.beep_text.specs.declared.limits.TheConstants.{MAX_NAME, MAX_NESTED}
-use Rattle.beep_text.specs.Characters.{is_space, is_allowed, is_name, is_begun_name, is_name_start, is_name_char}
+use Rattle.beep_chars.specs.declared.limits.TheConstants.{MAX_NAME}
+use Rattle.beep_text.specs.declared.limits.TheConstants.{MAX_NESTED}
+use Rattle.beep_chars.specs.Characters.{is_space, is_allowed, is_name, is_begun_name, is_name_start, is_name_char}
 use Rattle.beep_text.specs.Lawful.{has_name}
 use Rattle.beep_text.specs.Tree.{Items, Tree, nothing, with_child}
 use Rattle.beep_text.specs.Elements.{Written, plain, named, decimal, hexadecimal, written_text, written_char, is_written, AttrText, attr_text, attr_said, IsAttrText, AreAttrTexts, Tag, tag_text, IsTag, Pieces, no_pieces, character, section, alone, around, pieces_text, items_of, put, IsSection, IsPieces, IsBody, is_one}
@@ -278,7 +279,7 @@ attr-name below top attr value (b ∷ cs) is new =
     let rest = right_of (is_name_start b) _ begins in
     rw (apart.0, apart.1, apart.2, start_is) (attr-more cs below top (b ∷ []) value (omega (arith, fits)) rest new)
 
--- behind the name of an attribute and white space
+-- after the name of an attribute and white space
 BeforeEquals : List Tree → Tree → List ℕ → List ℕ → List ℕ → Type 0
 BeforeEquals below top attr value before = (mode : Mode) × Goes (st below top attr value Mode.Attr) before (st below top attr value mode) × (step (st below top attr value mode) 61 ≡ Some (st below top attr value Mode.Quote))
 
@@ -358,7 +359,7 @@ gap-any : (below : List Tree) (top : Tree) (attr value : List ℕ) (mode : Mode)
 gap-any below top attr value mode [] is are = (mode, is, (attr, value, refl))
 gap-any below top attr value mode (b ∷ gap) is are = (Mode.Tag true, inr (true, refl), (attr, value, gap-run below top attr value mode (b ∷ gap) is are (omega arith)))
 
--- a start tag, behind a place where `<` begins one
+-- a start tag, after a place where `<` begins one
 pub tag-run : (s : State) (below : List Tree) (top : Tree) (attr value : List ℕ) (t : Tag) → step s 60 ≡ Some (st below top attr value Mode.Begun) → IsTag t → length below < MAX_NESTED
     → TagLeads s (tag_text t) (top ∷ below) (tree t.name (map attr_said t.attrs) nothing)
 tag-run s below top attr value t begins is room =
@@ -376,7 +377,7 @@ tag-opens below top attr value mode is = tag_any (λ m. step (st below top attr 
 pub tag-closes : (below : List Tree) (up top : Tree) (attr value : List ℕ) (mode : Mode) → IsTagMode mode → run (Some (st (up ∷ below) top attr value mode)) (47 ∷ 62 ∷ []) ≡ ended_in (up ∷ below) top attr value
 tag-closes below up top attr value mode is = tag_any (λ m. run (Some (st (up ∷ below) top attr value m)) (47 ∷ 62 ∷ []) ≡ ended_in (up ∷ below) top attr value) mode is refl (λ spaced. refl)
 
--- the mode behind an element
+-- the mode after an element
 abbrev pub after_child : List Tree → Mode
 after_child below = if is_nil below then Mode.Trail else Mode.Content Part.Fresh
 

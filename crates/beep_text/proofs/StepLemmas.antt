@@ -12,8 +12,9 @@ use Rattle.beep_text.specs.declared.attr.Attr.{Attr}
 use Rattle.beep_text.specs.declared.mode.Part.{Part}
 use Rattle.beep_text.specs.declared.mode.Taken.{Taken}
 use Rattle.beep_text.specs.declared.mode.Mode.{Mode}
-use Rattle.beep_text.specs.declared.limits.TheConstants.{MAX_NAME, MAX_NESTED}
-use Rattle.beep_text.specs.Characters.{is_space, is_allowed, is_name, is_begun_name, is_name_start, is_name_char}
+use Rattle.beep_chars.specs.declared.limits.TheConstants.{MAX_NAME}
+use Rattle.beep_text.specs.declared.limits.TheConstants.{MAX_NESTED}
+use Rattle.beep_chars.specs.Characters.{is_space, is_allowed, is_name, is_begun_name, is_name_start, is_name_char}
 use Rattle.beep_text.specs.Lawful.{has_name}
 use Rattle.beep_text.specs.Tree.{Items, Tree, with_child}
 use Rattle.beep_text.specs.Elements.{Written, written_text, written_char, is_written, AttrText, attr_text, attr_said, IsAttrText, AreAttrTexts, Tag, tag_text, Pieces, no_pieces, character, section, alone, around, pieces_text, items_of, put, IsSection, IsPieces, is_one}

@@ -3,7 +3,7 @@ use Rattle.std.specs.List.{list_all}
 use Rattle.std.specs.Prelude.{bytes_eq}
 use Rattle.beep_text.specs.declared.attr.Attr.{Attr}
 use Rattle.beep_text.specs.declared.limits.TheConstants.{MAX_NESTED}
-use Rattle.beep_text.specs.Characters.{is_name, is_allowed, is_space}
+use Rattle.beep_chars.specs.Characters.{is_name, is_allowed, is_space}
 use Rattle.beep_text.specs.Tree.{Items, Tree, nothing, with_chars, with_child}
 use Rattle.beep_text.specs.Lawful.{are_attrs, are_items, has_name, ends_in_chars, depth_of, IsElement}
 use Rattle.beep_text.specs.Elements.{Written, Pieces, no_pieces, character, written_char, is_written, attr_said, AreAttrTexts, IsTag, IsPieces, IsBody, is_one, put, items_of}

@@ -1,6 +1,7 @@
 -- The one text that is written of an element: that of one tree of pieces.
 -- The writer appends octets; here the pieces are chosen, and their text is the grammar's.
--- Choice: an element without items is one tag, values stand between `'`, and what could be read otherwise is a reference (docs/DECISIONS.md, "Canonical text").
+-- Choice: an element without items is one tag, values stand between `'`, and what could be read
+-- otherwise is a reference (docs/DECISIONS.md, "Canonical text").
 use Rattle.std.specs.Prelude.{ℕ, Bool, true, false, ◌&&◌, ◌==◌, List, [], ◌∷◌, map, flat_map, fold, if◌then◌else◌, codes}
 use Rattle.beep_text.specs.declared.attr.Attr.{Attr}
 use Rattle.beep_text.specs.declared.element.Item.{Item}
@@ -10,12 +11,22 @@ use Rattle.beep_text.specs.Elements.{Written, plain, named, decimal, AttrText, T
 -- how a character is written, in a value or not
 abbrev pub written_as : Bool → ℕ → Written
 written_as in_value c =
-    if c == 38 then named 38 else (if c == 60 then named 60 else (if c == 62 then named 62 else (if c == 13 then decimal (codes "13")
-    else (if in_value && c == 39 then named 39 else (if in_value && c == 9 then decimal (codes "9") else (if in_value && c == 10 then decimal (codes "10") else plain c))))))
+    if c == 38 then named 38 else (if c == 60 then named 60
+    else (if c == 62 then named 62 else (if c == 13 then decimal (codes "13")
+    else (if in_value && c == 39 then named 39
+    else (if in_value && c == 9 then decimal (codes "9")
+    else (if in_value && c == 10 then decimal (codes "10") else plain c))))))
 
 -- how an attribute is written
 abbrev pub attr_as : Attr → AttrText
-attr_as a = record { gap = 32 ∷ []; name = a.name; before = []; after = []; quote = 39; value = map (written_as true) a.value }
+attr_as a = record {
+  gap = 32 ∷ [];
+  name = a.name;
+  before = [];
+  after = [];
+  quote = 39;
+  value = map (written_as true) a.value;
+}
 
 -- how a tag is written, with this white space before its end
 abbrev pub tag_as : List ℕ → List Attr → List ℕ → Tag
@@ -34,13 +45,15 @@ is_nothing (with_child items name attrs inside) = false
 -- an element after pieces: one tag where it holds nothing
 abbrev pub child_as : Pieces → List ℕ → List Attr → Items → Pieces → Pieces
 child_as ps name attrs inside inner =
-    if is_nothing inside then alone ps (tag_as name attrs (32 ∷ [])) else around ps (tag_as name attrs []) inner []
+    if is_nothing inside then alone ps (tag_as name attrs (32 ∷ []))
+    else around ps (tag_as name attrs []) inner []
 
 -- the pieces that are written
 abbrev pub pieces_as : Items → Pieces
 pieces_as nothing = no_pieces
 pieces_as (with_chars items cs) = chars_as (pieces_as items) cs
-pieces_as (with_child items name attrs inside) = child_as (pieces_as items) name attrs inside (pieces_as inside)
+pieces_as (with_child items name attrs inside) =
+    child_as (pieces_as items) name attrs inside (pieces_as inside)
 
 -- the canonical text of an element
 abbrev pub element_text : Tree → List ℕ

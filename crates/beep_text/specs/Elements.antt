@@ -1,12 +1,15 @@
--- Which texts say which element, and where a text that says none is refused (RFC 3080, section 6.4).
--- The reader takes one octet at a time; here a text is the text of a tree of pieces, and the place of a
+-- Which texts say which element, and where a text that says none is refused (RFC 3080, section
+-- 6.4).
+-- The reader takes one octet at a time; here a text is the text of a tree of pieces, and the place
+-- of a
 -- refusal is stated over the whole text: no octets that could follow make it one.
--- Choice: the form is closed: no declarations, comments or instructions (docs/DECISIONS.md, "The form of elements").
+-- Choice: the form is closed: no declarations, comments or instructions (docs/DECISIONS.md, "The
+-- form of elements").
 use Rattle.std.specs.Prelude.{◌≡◌, ℕ, suc, ◌+◌, ◌-◌, ◌*◌, ◌<◌, ◌≤◌, ◌≢◌, Bool, true, false, ◌&&◌, ◌||◌, not, nat_le, nat_lt, ◌==◌, List, [], ◌∷◌, ◌++◌, length, take, drop, map, flat_map, fold, IsTrue, if◌then◌else◌, codes, encode_utf8, encode_utf8_all}
 use Rattle.std.specs.List.{list_all}
 use Rattle.beep_text.specs.declared.attr.Attr.{Attr}
 use Rattle.beep_text.specs.declared.limits.TheConstants.{MAX_NESTED}
-use Rattle.beep_text.specs.Characters.{is_space, is_allowed, is_digit, is_name}
+use Rattle.beep_chars.specs.Characters.{is_space, is_allowed, is_digit, is_name}
 use Rattle.beep_text.specs.Lawful.{has_name}
 use Rattle.beep_text.specs.Tree.{Items, Tree, nothing, with_chars, with_child}
 
@@ -21,7 +24,9 @@ pub data Written : Type 0 where
 
 -- the name of a character that has one
 abbrev pub name_of : ℕ → List ℕ
-name_of c = if c == 60 then codes "lt" else (if c == 62 then codes "gt" else (if c == 38 then codes "amp" else (if c == 39 then codes "apos" else codes "quot")))
+name_of c =
+    if c == 60 then codes "lt" else (if c == 62 then codes "gt"
+    else (if c == 38 then codes "amp" else (if c == 39 then codes "apos" else codes "quot")))
 
 -- the character has a name
 abbrev pub has_reference : ℕ → Bool
@@ -65,7 +70,8 @@ abbrev pub is_written : ℕ → Written → Bool
 is_written stop (plain c) = is_allowed c && not (c == 38) && not (c == 60) && not (c == stop)
 is_written stop (named c) = is_reference (named c)
 is_written stop (decimal digits) = is_reference (decimal digits) && is_allowed (number_of 10 digits)
-is_written stop (hexadecimal digits) = is_reference (hexadecimal digits) && is_allowed (number_of 16 digits)
+is_written stop (hexadecimal digits) =
+    is_reference (hexadecimal digits) && is_allowed (number_of 16 digits)
 
 -- ---- a tag
 
@@ -79,7 +85,9 @@ pub record AttrText : Type 0 where
   pub value : List Written
 
 abbrev pub attr_text : AttrText → List ℕ
-attr_text a = a.gap ++ a.name ++ a.before ++ 61 ∷ a.after ++ a.quote ∷ flat_map written_text a.value ++ a.quote ∷ []
+attr_text a =
+    a.gap ++ a.name ++ a.before ++ 61 ∷ a.after ++ a.quote ∷ flat_map written_text a.value
+    ++ a.quote ∷ []
 
 abbrev pub attr_said : AttrText → Attr
 attr_said a = record { name = a.name; value = map written_char a.value }
@@ -105,7 +113,8 @@ tag_text t = 60 ∷ t.name ++ flat_map attr_text t.attrs ++ t.gap
 abbrev pub AreAttrTexts : List Attr → List AttrText → Type 0
 AreAttrTexts before [] = Unit {0}
 AreAttrTexts before (a ∷ attrs) =
-    IsAttrText a × (has_name a.name before ≡ false) × AreAttrTexts (before ++ attr_said a ∷ []) attrs
+    IsAttrText a × (has_name a.name before ≡ false) × AreAttrTexts (before
+    ++ attr_said a ∷ []) attrs
 
 pub record IsTag (t : Tag) : Type 0 where
   pub name : IsTrue (is_name t.name)
@@ -114,7 +123,8 @@ pub record IsTag (t : Tag) : Type 0 where
 
 -- ---- what an element holds
 
--- pieces, and one last piece: a character, a CDATA section, an empty element, or an element round others
+-- pieces, and one last piece: a character, a CDATA section, an empty element, or an element round
+-- others
 pub data Pieces : Type 0 where
   no_pieces : Pieces
   character : Pieces → Written → Pieces
@@ -125,7 +135,8 @@ pub data Pieces : Type 0 where
 abbrev pub pieces_text : Pieces → List ℕ
 pieces_text no_pieces = []
 pieces_text (character ps w) = pieces_text ps ++ written_text w
-pieces_text (section ps cs) = pieces_text ps ++ codes "<![CDATA[" ++ encode_utf8_all cs ++ codes "]]>"
+pieces_text (section ps cs) =
+    pieces_text ps ++ codes "<![CDATA[" ++ encode_utf8_all cs ++ codes "]]>"
 pieces_text (alone ps tag) = pieces_text ps ++ tag_text tag ++ codes "/>"
 pieces_text (around ps tag inner gap) =
     pieces_text ps ++ tag_text tag ++ 62 ∷ pieces_text inner ++ 60 ∷ 47 ∷ tag.name ++ gap ++ 62 ∷ []
@@ -134,7 +145,8 @@ pieces_text (around ps tag inner gap) =
 abbrev pub put : Items → ℕ → Items
 put nothing c = with_chars nothing (c ∷ [])
 put (with_chars items cs) c = with_chars items (cs ++ c ∷ [])
-put (with_child items name attrs inside) c = with_chars (with_child items name attrs inside) (c ∷ [])
+put (with_child items name attrs inside) c =
+    with_chars (with_child items name attrs inside) (c ∷ [])
 
 -- what pieces say
 abbrev pub items_of : Pieces → Items
@@ -142,7 +154,8 @@ items_of no_pieces = nothing
 items_of (character ps w) = put (items_of ps) (written_char w)
 items_of (section ps cs) = fold put (items_of ps) cs
 items_of (alone ps tag) = with_child (items_of ps) tag.name (map attr_said tag.attrs) nothing
-items_of (around ps tag inner gap) = with_child (items_of ps) tag.name (map attr_said tag.attrs) (items_of inner)
+items_of (around ps tag inner gap) =
+    with_child (items_of ps) tag.name (map attr_said tag.attrs) (items_of inner)
 
 -- `]]>` stands nowhere in the characters
 abbrev pub IsSection : List ℕ → Type 0
@@ -155,7 +168,8 @@ IsPieces depth (character ps w) = IsPieces depth ps × IsTrue (is_written 60 w)
 IsPieces depth (section ps cs) = IsPieces depth ps × IsTrue (list_all is_allowed cs) × IsSection cs
 IsPieces depth (alone ps tag) = IsPieces depth ps × IsTag tag × (depth < MAX_NESTED)
 IsPieces depth (around ps tag inner gap) =
-    IsPieces depth ps × IsTag tag × (depth < MAX_NESTED) × IsPieces (suc depth) inner × IsTrue (list_all is_space gap)
+    IsPieces depth ps × IsTag tag × (depth < MAX_NESTED) × IsPieces (suc depth) inner
+    × IsTrue (list_all is_space gap)
 
 -- ---- a body
 
@@ -208,7 +222,8 @@ pub record IsBegun (octets : List ℕ) : Type 0 where
   pub others : List ℕ
   pub text : written_text whole ≡ octets ++ next ∷ others
 
--- the octets from p to before q stand in the place of a reference, where `&` may stand and not plain, and begin one
+-- the octets from p to before q stand in the place of a reference, where `&` may stand and not
+-- plain, and begin one
 pub record IsEntity (body : List ℕ) (q p : ℕ) : Type 0 where
   pub octet : q < length body
   pub before : p < q

@@ -5,7 +5,7 @@ use Rattle.std.specs.List.{list_all, list_any}
 use Rattle.beep_text.specs.declared.attr.Attr.{Attr}
 use Rattle.beep_text.specs.declared.element.Item.{Item}
 use Rattle.beep_text.specs.declared.limits.TheConstants.{MAX_NESTED}
-use Rattle.beep_text.specs.Characters.{is_name, is_allowed}
+use Rattle.beep_chars.specs.Characters.{is_name, is_allowed}
 use Rattle.beep_text.specs.Tree.{Items, Tree, nothing, with_chars, with_child}
 
 -- an attribute has this name
@@ -20,7 +20,8 @@ value_named name (a ∷ attrs) = if bytes_eq a.name name then Some a.value else 
 -- each attribute is one, and no name stands twice
 abbrev pub are_attrs : List Attr → Bool
 are_attrs [] = true
-are_attrs (a ∷ attrs) = is_name a.name && list_all is_allowed a.value && not (has_name a.name attrs) && are_attrs attrs
+are_attrs (a ∷ attrs) =
+    is_name a.name && list_all is_allowed a.value && not (has_name a.name attrs) && are_attrs attrs
 
 -- the last part is a run of characters
 abbrev pub ends_in_chars : Items → Bool
@@ -49,9 +50,11 @@ pub record IsElement (e : Tree) : Type 0 where
   pub items : IsTrue (are_items e.items)
   pub nested : depth_of e.items < MAX_NESTED
 
--- the part may stand next: a run of allowed characters that isn't empty and follows none, or an element that isn't too deep
+-- the part may stand next: a run of allowed characters that isn't empty and follows none, or an
+-- element that isn't too deep
 abbrev pub IsNext : Items → Item → Type 0
-IsNext items (Item.Chars cs) = (ends_in_chars items ≡ false) × (0 < length cs) × IsTrue (list_all is_allowed cs)
+IsNext items (Item.Chars cs) =
+    (ends_in_chars items ≡ false) × (0 < length cs) × IsTrue (list_all is_allowed cs)
 IsNext items (Item.Child e) = depth_of e.items + 1 < MAX_NESTED
 
 -- a part is lawful

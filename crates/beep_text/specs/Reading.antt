@@ -1,10 +1,10 @@
 -- The state of the machine that a reader keeps.
-use Rattle.std.specs.Prelude.{◌≡◌, ◌==◌, ℕ, suc, Bool, true, false, Option, Some, None, List, [], ◌∷◌, reverse, map, if◌then◌else◌}
+use Rattle.std.specs.Prelude.{◌≡◌, ◌==◌, ℕ, suc, Bool, Option, Some, None, List, [], ◌∷◌, reverse, map, if◌then◌else◌}
 use Rattle.beep_text.specs.declared.mode.Mode.{Mode}
 use Rattle.beep_text.specs.declared.read.TextError.{TextError}
 use Rattle.beep_text.specs.declared.reader.Level.{Level}
 use Rattle.beep_text.specs.declared.reader.Reader.{Reader}
-use Rattle.beep_text.specs.Tree.{Tree, Items, nothing, with_chars, with_child}
+use Rattle.beep_text.specs.Tree.{Tree}
 use Rattle.beep_text.specs.Listed.{tree_of}
 use Rattle.beep_text.specs.Lawful.{IsElement}
 use Rattle.beep_text.specs.Machine.{State, in_ref}
@@ -15,7 +15,14 @@ tree_in l = tree_of l.name l.attrs.items l.items.items
 
 -- the state of a reader
 abbrev pub state_of : Reader → State
-state_of r = record { below = reverse (map tree_in r.below.items); top = tree_in r.top; attr = r.attr; value = r.value; mode = r.mode }
+state_of r =
+    record {
+      below = reverse (map tree_in r.below.items);
+      top = tree_in r.top;
+      attr = r.attr;
+      value = r.value;
+      mode = r.mode;
+    }
 
 -- the reader took the step, or there is none
 abbrev pub Steps : Option State → Bool → State → Type 0
@@ -50,30 +57,3 @@ last_amp bs = last_amp_from 0 0 bs
 -- the refusal at a place
 abbrev pub refusal_of : Mode → ℕ → ℕ → TextError
 refusal_of mode q p = if in_ref mode then TextError.Entity p else TextError.Malformed q
-
--- the element of the outermost place
-abbrev pub child_of : Items → Option Tree
-child_of nothing = None
-child_of (with_chars items cs) = None
-child_of (with_child items name attrs inside) = Some (record { name = name; attrs = attrs; items = inside })
-
--- the element that was read, behind the end of it
-abbrev pub is_trail : Mode → Bool
-is_trail Mode.Lead = false
-is_trail Mode.Begun = false
-is_trail Mode.Naming = false
-is_trail (Mode.Tag spaced) = false
-is_trail Mode.Slash = false
-is_trail Mode.Attr = false
-is_trail Mode.Equals = false
-is_trail Mode.Quote = false
-is_trail (Mode.Value q part) = false
-is_trail (Mode.Content part) = false
-is_trail (Mode.Bang n) = false
-is_trail (Mode.Section k part) = false
-is_trail (Mode.Closing n) = false
-is_trail Mode.Closed = false
-is_trail Mode.Trail = true
-
-abbrev pub element_of : Mode → Items → Option Tree
-element_of mode items = if is_trail mode then child_of items else None

@@ -1,5 +1,7 @@
--- What an element is: a name, attributes, and what it holds, in the order written (RFC 3080, section 6.4).
--- The code keeps lists of parts; here what an element holds is one type, and a run of characters is one part of it.
+-- What an element is: a name, attributes, and what it holds, in the order written (RFC 3080,
+-- section 6.4).
+-- The code keeps lists of parts; here what an element holds is one type, and a run of characters is
+-- one part of it.
 use Rattle.std.specs.Prelude.{◌≡◌, ℕ, ◌+◌, ◌==◌, List, [], ◌∷◌, map, if◌then◌else◌}
 use Rattle.std.proofs.Common.{refl, ap, ap₂, ◌∙◌}
 use Rattle.std.specs.Coded.{Coded, code_by, coded×, coded_ℕ, coded_list}
@@ -45,14 +47,16 @@ tail_of (up ∷ ups) = ups
 abbrev pub built : Items → List Items → List Token → Items
 built now ups [] = now
 built now ups (t ∷ ts) = built
-    (if t.0 == 0 then with_chars now t.1.0 else (if t.0 == 1 then nothing else closed_up ups t.1.0 (map attr_of t.1.1) now))
+    (if t.0 == 0 then with_chars now t.1.0 else (if t.0 == 1 then nothing
+    else closed_up ups t.1.0 (map attr_of t.1.1) now))
     (if t.0 == 0 then ups else (if t.0 == 1 then now ∷ ups else tail_of ups)) ts
 
 pub attrs_back : (attrs : List Attr) → map attr_of (map pair_of attrs) ≡ attrs
 attrs_back [] = refl
 attrs_back (a ∷ attrs) = ap (λ settings. a ∷ settings) (attrs_back attrs)
 
-pub built_back : (items : Items) (ups : List Items) (rest : List Token) → built nothing ups (tokens items rest) ≡ built items ups rest
+pub built_back : (items : Items) (ups : List Items) (rest : List Token)
+    → built nothing ups (tokens items rest) ≡ built items ups rest
 built_back nothing ups rest = refl
 built_back (with_chars items cs) ups rest = built_back items ups ((0, (cs, [])) ∷ rest)
 built_back (with_child items name attrs inside) ups rest =
@@ -64,10 +68,17 @@ built_back (with_child items name attrs inside) ups rest =
 abbrev pub tree_code : Coded Tree
 tree_code =
     code_by (List ℕ × (List (List ℕ × List ℕ) × List Token))
-    (coded× (coded_list coded_ℕ) (coded× (coded_list (coded× (coded_list coded_ℕ) (coded_list coded_ℕ))) (coded_list (coded× coded_ℕ (coded× (coded_list coded_ℕ) (coded_list (coded× (coded_list coded_ℕ) (coded_list coded_ℕ))))))))
+    (coded× (coded_list coded_ℕ) (coded×
+    (coded_list (coded× (coded_list coded_ℕ) (coded_list coded_ℕ)))
+    (coded_list (coded× coded_ℕ (coded× (coded_list coded_ℕ)
+    (coded_list (coded× (coded_list coded_ℕ) (coded_list coded_ℕ))))))))
     (λ t. (t.name, (map pair_of t.attrs, tokens t.items [])))
     (λ p. record { name = p.0; attrs = map attr_of p.1.0; items = built nothing [] p.1.1 })
-    (λ t. ap₂ (λ settings parts. record { name = t.name; attrs = settings; items = parts }) (attrs_back t.attrs) (built_back t.items [] []))
+    (λ t. ap₂ (λ settings parts. record {
+      name = t.name;
+      attrs = settings;
+      items = parts;
+    }) (attrs_back t.attrs) (built_back t.items [] []))
 
 -- ---- how large it is, for proofs alone
 

@@ -1,6 +1,6 @@
 //! An attribute of an element.
 
-use crate::text::Text;
+use beep_chars::Text;
 
 /// A name and what it is set to.
 #[derive(Debug, Drop)]

@@ -4,8 +4,8 @@ ghost use Rattle.std.specs.List.{list_all};
 ghost use Rattle.beep_text.specs.Lawful.{IsItem};
 
 use crate::attr::Attr;
-use crate::text::Text;
-use beep_frame::NoMemory;
+use beep_chars::Text;
+use beep_octets::NoMemory;
 use std::alloc::Global;
 use std::marker::Model;
 
@@ -51,7 +51,7 @@ impl Model for Element {
 }
 
 impl Element {
-    ghost use Rattle.beep_text.specs.Characters.{is_name, is_allowed};
+    ghost use Rattle.beep_chars.specs.Characters.{is_name, is_allowed};
     ghost use Rattle.beep_text.specs.Tree.{nothing};
     ghost use Rattle.beep_text.specs.Listed.{with_item, listed, items_listed};
     ghost use Rattle.beep_text.specs.Lawful.{IsElement, IsNext, has_name, value_named};
@@ -73,7 +73,7 @@ impl Element {
         *self.attrs.allocator()
     }
 
-    /// The name.
+    /// The name, which every element has.
     pub fn name(&self) -> &Text
         ensures name { result.now ≡ self.now.name }
         ensures lawful { IsElement self.now }
@@ -93,9 +93,18 @@ impl Element {
         None
     }
 
+    /// The same by a word that stands in the code, which is said of its octets.
+    pub fn value_named(&self, name: &str) -> Option<&Text>
+        requires named { IsTrue (is_name name.now) }
+        ensures { option_copied result ≡ value_named name.now self.now.attrs }
+    {
+        self.attr(name)
+    }
+
     /// The name and the value of the attribute at `i`.
     pub fn attr_at(&self, i: usize) -> Option<(&Text, &Text)>
-        ensures { option_map (λ a. record { name = a.0.now; value = a.1.now }) result ≡ slice_get self.now.attrs i }
+        ensures { option_map (λ a. record { name = a.0.now; value = a.1.now }) result
+            ≡ slice_get self.now.attrs i }
     {
         let attr = self.attrs.get(i)?;
         Some((&attr.name, &attr.value))
@@ -120,7 +129,8 @@ impl Element {
         requires named { IsTrue (is_name name) }
         requires new { has_name name self.old.attrs ≡ false }
         requires allowed { IsTrue (list_all is_allowed value) }
-        ensures ok { OnOk result (self.new ≡ record self.old { attrs = self.old.attrs ++ record { name = name; value = value } ∷ [] }) }
+        ensures ok { OnOk result (self.new ≡ record self.old
+            { attrs = self.old.attrs ++ record { name = name; value = value } ∷ [] }) }
         ensures err { OnErr result (self.new ≡ self.old) }
     {
         push_attr(&mut self.attrs, name, value)
@@ -129,7 +139,8 @@ impl Element {
     /// Appends a part.
     pub fn push_item(&mut self, item: Item) -> Result<(), NoMemory>
         requires next { IsNext self.old.items item }
-        ensures ok { OnOk result (self.new ≡ record self.old { items = with_item self.old.items item }) }
+        ensures ok { OnOk result (self.new ≡ record self.old
+            { items = with_item self.old.items item }) }
         ensures err { OnErr result (self.new ≡ self.old) }
     {
         is_lawful(&item);
@@ -154,7 +165,8 @@ fn is_lawful(item: &Item)
 
 /// Appends an attribute to a list.
 pub(crate) fn push_attr(attrs: &mut Vec<Attr>, name: Text, value: Text) -> Result<(), NoMemory>
-    ensures ok { OnOk result (attrs.new.items ≡ attrs.old.items ++ record { name = name; value = value } ∷ []) }
+    ensures ok { OnOk result (attrs.new.items
+        ≡ attrs.old.items ++ record { name = name; value = value } ∷ []) }
     ensures err { OnErr result (attrs.new.items ≡ attrs.old.items) }
 {
     match attrs.push(Attr { name, value }) {

@@ -1,8 +1,8 @@
 //! Where elements end: the end of a tag, an end tag, and the end of the body.
 ghost use Rattle.std.specs.Prelude.{◌≡◌, IfOk};
 ghost use Rattle.beep_text.specs.Lawful.{IsElement};
-ghost use Rattle.beep_text.specs.Machine.{slash_step, closing_step, closed_step, ended};
-ghost use Rattle.beep_text.specs.Reading.{tree_in, state_of, Steps, element_of, child_of};
+ghost use Rattle.beep_text.specs.Machine.{slash_step, closing_step, closed_step, ended, element_of, child_of};
+ghost use Rattle.beep_text.specs.Reading.{tree_in, state_of, Steps};
 ghost use Rattle.beep_text.specs.Listed.{items_listed};
 
 use crate::element::{Element, Item};
@@ -10,7 +10,7 @@ use crate::level::push_item;
 use crate::mode::{Mode, Part};
 use crate::octet::is_space;
 use crate::reader::{Level, Reader};
-use beep_frame::NoMemory;
+use beep_octets::NoMemory;
 use std::mem;
 
 impl Reader {
@@ -27,13 +27,17 @@ impl Reader {
         } = self;
         match mode {
             Mode::Trail => outermost(top.items),
-            _ => None,
+            Mode::Lead | Mode::Begun | Mode::Naming | Mode::Tag(_) | Mode::Slash => None,
+            Mode::Attr | Mode::Equals | Mode::Quote | Mode::Value(_, _) => None,
+            Mode::Content(_) | Mode::Bang(_) | Mode::Section(_, _) => None,
+            Mode::Closing(_) | Mode::Closed => None,
         }
     }
 
     pub(crate) fn slash(&mut self, octet: u8) -> Result<bool, NoMemory>
         requires ends { IsElement (tree_in self.old.top) }
-        ensures { IfOk result (λ went. Steps (slash_step (state_of self.old) octet) went (state_of self.new)) }
+        ensures { IfOk result (λ went.
+            Steps (slash_step (state_of self.old) octet) went (state_of self.new)) }
     {
         if octet == b'>' {
             return self.end();
@@ -43,7 +47,8 @@ impl Reader {
 
     pub(crate) fn closing(&mut self, n: usize, octet: u8) -> Result<bool, NoMemory>
         requires ends { IsElement (tree_in self.old.top) }
-        ensures { IfOk result (λ went. Steps (closing_step (state_of self.old) n octet) went (state_of self.new)) }
+        ensures { IfOk result (λ went.
+            Steps (closing_step (state_of self.old) n octet) went (state_of self.new)) }
     {
         if n >= self.top.name.len() {
             return self.closed(octet);
@@ -57,7 +62,8 @@ impl Reader {
 
     pub(crate) fn closed(&mut self, octet: u8) -> Result<bool, NoMemory>
         requires ends { IsElement (tree_in self.old.top) }
-        ensures { IfOk result (λ went. Steps (closed_step (state_of self.old) octet) went (state_of self.new)) }
+        ensures { IfOk result (λ went.
+            Steps (closed_step (state_of self.old) octet) went (state_of self.new)) }
     {
         if is_space(octet) {
             self.mode = Mode::Closed;

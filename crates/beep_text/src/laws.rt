@@ -1,8 +1,9 @@
 //! Laws above the definitions of specs/. The functions do nothing: what they ensure is the law.
-ghost use Rattle.std.specs.Prelude.{◌≡◌, ℕ, List};
+ghost use Rattle.std.specs.Prelude.{◌≡◌, ◌↔◌, ℕ, List, Some};
 ghost use Rattle.beep_text.specs.Tree.{Tree};
 ghost use Rattle.beep_text.specs.Lawful.{IsElement};
 ghost use Rattle.beep_text.specs.Elements.{IsBody, Stops};
+ghost use Rattle.beep_text.specs.Said.{element_said};
 ghost use Rattle.beep_text.specs.Canonical.{element_text};
 
 /// A body says one element.
@@ -13,6 +14,11 @@ pub fn a_body_says_one_element()
 /// What a body says is an element that can be built: its names, texts and depth are lawful.
 pub fn a_body_says_a_lawful_element()
     ensures { (body : List ℕ) (e : Tree) → IsBody body e → IsElement e }
+{}
+
+/// The function from bodies to elements gives exactly the element that a body says.
+pub fn the_element_said_is_that_of_the_body()
+    ensures { (body : List ℕ) (e : Tree) → (element_said body ≡ Some e) ↔ IsBody body e }
 {}
 
 /// A text that says no element stops at one place.
@@ -27,5 +33,6 @@ pub fn a_body_stops_nowhere()
 
 /// What is read in the canonical text of an element is written as that text again.
 pub fn canonical_text_is_written_again()
-    ensures { (e f : Tree) → IsElement e → IsBody (element_text e) f → element_text f ≡ element_text e }
+    ensures { (e f : Tree) → IsElement e → IsBody (element_text e) f
+        → element_text f ≡ element_text e }
 {}

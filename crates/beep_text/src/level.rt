@@ -8,10 +8,9 @@ ghost use Rattle.beep_text.specs.Listed.{items_listed};
 
 use crate::attr::Attr;
 use crate::element::Item;
-use crate::limits::MAX_NAME;
-use crate::octet::is_name_char;
-use crate::text::Text;
-use beep_frame::NoMemory;
+use crate::limits::LONG_NAME;
+use beep_chars::{MAX_NAME, Text, is_name_char};
+use beep_octets::NoMemory;
 
 /// Whether an attribute has this name.
 pub(crate) fn has_name(attrs: &[Attr], name: &Text) -> bool
@@ -30,7 +29,7 @@ pub(crate) fn has_name(attrs: &[Attr], name: &Text) -> bool
 pub(crate) fn has_room(attrs: &[Attr], name: &Text) -> Result<bool, NoMemory>
     ensures { IfOk result (λ room. room ≡ has_room name.now attrs.now) }
 {
-    if name.len() < 63 {
+    if name.len() < LONG_NAME {
         return Ok(true);
     }
     if !has_name(attrs, name) {
@@ -47,11 +46,11 @@ pub(crate) fn has_room(attrs: &[Attr], name: &Text) -> Result<bool, NoMemory>
     Ok(false)
 }
 
-/// Whether a name is new with this octet behind it.
+/// Whether a name is new with this octet after it.
 fn is_new(attrs: &[Attr], name: &Text, octet: u8) -> Result<bool, NoMemory>
     ensures { IfOk result (λ new. new ≡ is_new_with name.now attrs.now octet) }
 {
-    if !is_name_char(octet) {
+    if !is_name_char(octet as char) {
         return Ok(false);
     }
     let mut longer = name.copy()?;
@@ -62,7 +61,8 @@ fn is_new(attrs: &[Attr], name: &Text, octet: u8) -> Result<bool, NoMemory>
 /// Appends a character: to the last run, or as a new one.
 pub(crate) fn put(items: &mut Vec<Item>, character: char, empty: Text) -> Result<(), NoMemory>
     requires { empty ≡ [] }
-    ensures { OnOk result (items_listed items.new.items ≡ put_in (items_listed items.old.items) character) }
+    ensures { OnOk result (items_listed items.new.items
+        ≡ put_in (items_listed items.old.items) character) }
 {
     match items.pop() {
         Some(Item::Chars(mut run)) => {
@@ -77,6 +77,7 @@ pub(crate) fn put(items: &mut Vec<Item>, character: char, empty: Text) -> Result
     }
 }
 
+/// Appends a run of one character.
 fn put_first(items: &mut Vec<Item>, character: char, mut run: Text) -> Result<(), NoMemory>
     requires { run ≡ [] }
     ensures { OnOk result (items.new.items ≡ items.old.items ++ Item.Chars (character ∷ []) ∷ []) }

@@ -64,7 +64,7 @@ pub enum Mode {
     Begun,
     /// In the name of a start tag.
     Naming,
-    /// In a start tag, behind its name or a value; whether white space came since.
+    /// In a start tag, after its name or a value; whether white space came since.
     Tag(bool),
     /// After the `/` of a start tag.
     Slash,
@@ -80,7 +80,7 @@ pub enum Mode {
     Content(Part),
     /// After `<!` and so many octets of `[CDATA[`.
     Bang(u8),
-    /// In a CDATA section, behind so many `]` that may end it.
+    /// In a CDATA section, after so many `]` that may end it.
     Section(u8, Part),
     /// After `</` and so many octets of the name.
     Closing(usize),

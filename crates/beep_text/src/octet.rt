@@ -1,6 +1,6 @@
 //! What one octet does to a character, and the classes of characters (RFC 3080, section 6.4).
 ghost use Rattle.std.specs.Prelude.{◌≡◌, ◌+◌, ◌*◌, ◌^◌, ◌≤◌};
-ghost use Rattle.beep_text.specs.Characters.{is_space, is_allowed, is_name_start, is_name_char, is_digit};
+ghost use Rattle.beep_chars.specs.Characters.{is_space, is_allowed, is_name_start, is_name_char, is_digit};
 ghost use Rattle.beep_text.specs.Elements.{is_hex_digit, digit_of};
 ghost use Rattle.beep_text.specs.Machine.{letter_after, letters_taken, is_no_letter, allowed_taken, first_taken, named_taken, digit_taken, is_digit_in, taken_after, char_taken, is_fresh, is_tail, grown, base_of, is_ref, in_ref};
 ghost use Rattle.beep_text.specs.declared.mode.Part.{Part};
@@ -8,25 +8,64 @@ ghost use Rattle.beep_text.specs.declared.mode.Letters.{Letters};
 
 use crate::mode::{Letters, Mode, Part, Taken};
 
+// What a character of UTF-8 begins with and goes on with (RFC 3629, section 4).
+const FIRST_TAIL: u8 = 0x80;
+
+const FIRST_OF_TWO: u8 = 0xC2;
+
+const FIRST_OF_THREE: u8 = 0xE0;
+
+const FIRST_OF_FOUR: u8 = 0xF0;
+
+const FIRST_OF_NONE: u8 = 0xF5;
+
+const LEAD_OF_TWO: u8 = 0xC0;
+
+const TAIL_VALUES: u64 = 64;
+
+// The numbers of characters: all but the surrogates and two more.
+const LAST_BEFORE_SURROGATES: u64 = 0xD7FF;
+
+const FIRST_AFTER_SURROGATES: u64 = 0xE000;
+
+const LAST_OF_THREE: u64 = 0xFFFD;
+
+const LEAST_OF_FOUR: u64 = 0x10000;
+
+const LAST: u64 = 0x10FFFF;
+
+// What is left of these bounds before the last octet of a character, and before the last two.
+const THREE_BY_ONE: u64 = 0x800 / 64;
+
+const SURROGATES_BY_ONE: u64 = 0xD800 / 64;
+
+const AFTER_SURROGATES_BY_ONE: u64 = 0xE000 / 64;
+
+const END_BY_ONE: u64 = 0x110000 / 64;
+
+const FOUR_BY_TWO: u64 = 0x10000 / 4096;
+
+const END_BY_TWO: u64 = 0x110000 / 4096;
+
 /// Whether the octet is white space.
 pub(crate) fn is_space(octet: u8) -> bool
     ensures { result ≡ is_space octet }
 {
-    octet == b' ' || octet == b'\t' || octet == b'\r' || octet == b'\n'
+    beep_chars::is_space(octet as char)
 }
 
 /// Whether a name may begin with the octet.
 pub(crate) fn is_name_start(octet: u8) -> bool
     ensures { result ≡ is_name_start octet }
 {
-    (b'A' <= octet && octet <= b'Z') || (b'a' <= octet && octet <= b'z') || octet == b'_'
+    beep_chars::is_name_start(octet as char)
 }
 
 /// Whether a name may go on with the octet.
 pub(crate) fn is_name_char(octet: u8) -> bool
     ensures { result ≡ is_name_char octet }
 {
-    is_name_start(octet) || is_digit(octet) || octet == b'-' || octet == b'.' || octet == b':'
+    beep_chars::is_name_char(octet as char)
 }
 
 fn is_digit(octet: u8) -> bool
@@ -45,9 +84,9 @@ fn is_allowed(number: u64) -> bool
     ensures { result ≡ is_allowed number }
 {
     (number == 9 || number == 10 || number == 13)
-        || (32 <= number && number <= 0xD7FF)
-        || (0xE000 <= number && number <= 0xFFFD)
-        || (0x10000 <= number && number <= 0x10FFFF)
+        || (32 <= number && number <= LAST_BEFORE_SURROGATES)
+        || (FIRST_AFTER_SURROGATES <= number && number <= LAST_OF_THREE)
+        || (LEAST_OF_FOUR <= number && number <= LAST)
 }
 
 /// A character of this number, where a text may have it.
@@ -101,20 +140,20 @@ pub(crate) fn taken_after(part: Part, octet: u8) -> Taken
 fn first_taken(octet: u8) -> Taken
     ensures { result ≡ first_taken octet }
 {
-    if octet < 128 {
+    if octet < FIRST_TAIL {
         return allowed(octet as u64);
     }
-    if octet < 194 {
+    if octet < FIRST_OF_TWO {
         return Taken::Dead;
     }
-    if octet < 224 {
-        return Taken::More(Part::One((octet - 192) as u32));
+    if octet < FIRST_OF_THREE {
+        return Taken::More(Part::One((octet - LEAD_OF_TWO) as u32));
     }
-    if octet < 240 {
-        return Taken::More(Part::Two((octet - 224) as u32));
+    if octet < FIRST_OF_FOUR {
+        return Taken::More(Part::Two((octet - FIRST_OF_THREE) as u32));
     }
-    if octet < 245 {
-        return Taken::More(Part::Three((octet - 240) as u32));
+    if octet < FIRST_OF_NONE {
+        return Taken::More(Part::Three((octet - FIRST_OF_FOUR) as u32));
     }
     Taken::Dead
 }
@@ -122,13 +161,13 @@ fn first_taken(octet: u8) -> Taken
 fn is_tail(octet: u8) -> bool
     ensures { result ≡ is_tail octet }
 {
-    128 <= octet && octet < 192
+    FIRST_TAIL <= octet && octet < LEAD_OF_TWO
 }
 
 fn grown(value: u32, octet: u8) -> u64
     ensures { result ≡ grown value octet }
 {
-    value as u64 * 64 + (octet as u64).saturating_sub(128)
+    value as u64 * TAIL_VALUES + (octet.saturating_sub(FIRST_TAIL)) as u64
 }
 
 fn one_after(value: u32, octet: u8) -> Taken
@@ -144,7 +183,10 @@ fn two_after(value: u32, octet: u8) -> Taken
     ensures { result ≡ taken_after (Part.Two value) octet }
 {
     let next = grown(value, octet);
-    if is_tail(octet) && 32 <= next && next < 17408 && !(864 <= next && next < 896) {
+    if !is_tail(octet) || next < THREE_BY_ONE || END_BY_ONE <= next {
+        return Taken::Dead;
+    }
+    if next < SURROGATES_BY_ONE || AFTER_SURROGATES_BY_ONE <= next {
         return Taken::More(Part::One(next as u32));
     }
     Taken::Dead
@@ -154,7 +196,7 @@ fn three_after(value: u32, octet: u8) -> Taken
     ensures { result ≡ taken_after (Part.Three value) octet }
 {
     let next = grown(value, octet);
-    if is_tail(octet) && 16 <= next && next < 272 {
+    if is_tail(octet) && FOUR_BY_TWO <= next && next < END_BY_TWO {
         return Taken::More(Part::Two(next as u32));
     }
     Taken::Dead
@@ -238,14 +280,13 @@ fn digit_of(octet: u8) -> u64
     ensures value { result ≡ digit_of octet }
     ensures within { result ≤ 256 }
 {
-    let octet = octet as u64;
-    if octet <= 57 {
-        return octet.saturating_sub(48);
+    if octet <= b'9' {
+        return octet.saturating_sub(b'0') as u64;
     }
-    if octet <= 70 {
-        return octet.saturating_sub(55);
+    if octet <= b'F' {
+        return octet.saturating_sub(b'A' - 10) as u64;
     }
-    octet.saturating_sub(87)
+    octet.saturating_sub(b'a' - 10) as u64
 }
 
 fn number_after(hex: bool, any: bool, value: u32, octet: u8) -> Taken
@@ -281,7 +322,7 @@ fn base_times(hex: bool, value: u32) -> u64
 fn digit_taken(hex: bool, number: u64) -> Taken
     ensures { result ≡ digit_taken hex number }
 {
-    if number <= 0x10FFFF {
+    if number <= LAST {
         return Taken::More(Part::Number(hex, true, number as u32));
     }
     Taken::Dead

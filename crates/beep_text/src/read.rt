@@ -24,8 +24,8 @@ pub enum TextError {
     /// The body has more octets than are read.
     #[error("too long")]
     TooLong,
-    /// Want of memory; a later call may succeed.
-    #[error("want of memory")]
+    /// Out of memory; a later call may succeed.
+    #[error("out of memory")]
     NoMemory,
 }
 
@@ -54,9 +54,9 @@ pub fn read_element(alloc: Global, body: &[u8]) -> Result<Element, TextError>
     }
 }
 
-/// The refusal behind these octets.
+/// The refusal after these octets.
 fn refusal(mode: Mode, front: &[u8]) -> TextError
-    requires { length front.now < 65536 }
+    requires short { length front.now < MAX_TEXT }
     ensures { result ≡ refusal_of mode (length front.now) (last_amp front.now) }
 {
     if in_ref(mode) {
@@ -78,6 +78,3 @@ fn last_amp(octets: &[u8]) -> usize
     }
     last
 }
-
-#[cfg(test)]
-mod tests;

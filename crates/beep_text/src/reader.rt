@@ -8,11 +8,11 @@ ghost use Rattle.beep_text.specs.Reading.{tree_in, state_of, Steps, MayEnd};
 use crate::attr::Attr;
 use crate::element::{Item, push_attr};
 use crate::level::{has_name, has_room, put};
-use crate::limits::{MAX_NAME, MAX_NESTED};
+use crate::limits::MAX_NESTED;
 use crate::mode::{Mode, Part, Taken};
 use crate::octet::{char_taken, is_fresh, is_name_char, is_name_start, is_space, taken_after};
-use crate::text::Text;
-use beep_frame::NoMemory;
+use beep_chars::{MAX_NAME, Text};
+use beep_octets::NoMemory;
 use std::alloc::Global;
 use std::mem;
 
@@ -70,7 +70,8 @@ impl Reader {
     }
 
     fn begun(&mut self, octet: u8) -> Result<bool, NoMemory>
-        ensures { IfOk result (λ went. Steps (begun_step (state_of self.old) octet) went (state_of self.new)) }
+        ensures { IfOk result (λ went.
+            Steps (begun_step (state_of self.old) octet) went (state_of self.new)) }
     {
         if is_name_start(octet) {
             if self.below.len() >= MAX_NESTED {
@@ -113,7 +114,8 @@ impl Reader {
     }
 
     fn naming(&mut self, octet: u8) -> Result<bool, NoMemory>
-        ensures { IfOk result (λ went. Steps (naming_step (state_of self.old) octet) went (state_of self.new)) }
+        ensures { IfOk result (λ went.
+            Steps (naming_step (state_of self.old) octet) went (state_of self.new)) }
     {
         if is_name_char(octet) {
             if self.top.name.len() >= MAX_NAME {
@@ -126,7 +128,8 @@ impl Reader {
     }
 
     fn tag(&mut self, spaced: bool, octet: u8) -> Result<bool, NoMemory>
-        ensures { IfOk result (λ went. Steps (tag_step spaced (state_of self.old) octet) went (state_of self.new)) }
+        ensures { IfOk result (λ went.
+            Steps (tag_step spaced (state_of self.old) octet) went (state_of self.new)) }
     {
         if is_space(octet) {
             self.mode = Mode::Tag(true);
@@ -154,7 +157,8 @@ impl Reader {
     }
 
     fn attr(&mut self, octet: u8) -> Result<bool, NoMemory>
-        ensures { IfOk result (λ went. Steps (attr_step (state_of self.old) octet) went (state_of self.new)) }
+        ensures { IfOk result (λ went.
+            Steps (attr_step (state_of self.old) octet) went (state_of self.new)) }
     {
         if is_name_char(octet) {
             if self.attr.len() >= MAX_NAME {
@@ -202,7 +206,8 @@ impl Reader {
     }
 
     fn value(&mut self, quote: u8, part: Part, octet: u8) -> Result<bool, NoMemory>
-        ensures { IfOk result (λ went. Steps (value_step (state_of self.old) quote part octet) went (state_of self.new)) }
+        ensures { IfOk result (λ went.
+            Steps (value_step (state_of self.old) quote part octet) went (state_of self.new)) }
     {
         if is_fresh(part) && octet == quote {
             self.set()?;
@@ -236,7 +241,8 @@ impl Reader {
     }
 
     fn content(&mut self, part: Part, octet: u8) -> Result<bool, NoMemory>
-        ensures { IfOk result (λ went. Steps (content_step (state_of self.old) part octet) went (state_of self.new)) }
+        ensures { IfOk result (λ went.
+            Steps (content_step (state_of self.old) part octet) went (state_of self.new)) }
     {
         if is_fresh(part) && octet == b'<' {
             self.mode = Mode::Begun;
@@ -257,7 +263,8 @@ impl Reader {
     }
 
     fn put(&mut self, character: char) -> Result<(), NoMemory>
-        ensures { OnOk result (state_of self.new ≡ with_items (state_of self.old) (put_in (state_of self.old).top.items character) self.old.mode) }
+        ensures { OnOk result (state_of self.new ≡ with_items (state_of self.old)
+            (put_in (state_of self.old).top.items character) self.old.mode) }
     {
         let run = Text::new(self.alloc());
         put(&mut self.top.items, character, run)
@@ -279,7 +286,8 @@ impl Reader {
     }
 
     fn section(&mut self, k: u8, part: Part, octet: u8) -> Result<bool, NoMemory>
-        ensures { IfOk result (λ went. Steps (section_step (state_of self.old) k part octet) went (state_of self.new)) }
+        ensures { IfOk result (λ went.
+            Steps (section_step (state_of self.old) k part octet) went (state_of self.new)) }
     {
         if is_fresh(part) && octet == b']' {
             self.dash(k)?;
@@ -315,7 +323,8 @@ impl Reader {
     }
 
     fn section_taken(&mut self, taken: Taken) -> Result<bool, NoMemory>
-        ensures { IfOk result (λ went. Steps (section_taken (state_of self.old) taken) went (state_of self.new)) }
+        ensures { IfOk result (λ went.
+            Steps (section_taken (state_of self.old) taken) went (state_of self.new)) }
     {
         match taken {
             Taken::Whole(character) => {
@@ -334,7 +343,8 @@ impl Reader {
     /// Takes one octet, where one can follow.
     pub(crate) fn take(&mut self, octet: u8) -> Result<bool, NoMemory>
         requires ends { MayEnd self.old.mode (tree_in self.old.top) }
-        ensures { IfOk result (λ went. Steps (step (state_of self.old) octet) went (state_of self.new)) }
+        ensures { IfOk result (λ went.
+            Steps (step (state_of self.old) octet) went (state_of self.new)) }
     {
         match self.mode {
             Mode::Lead => Ok(self.lead(octet)),

@@ -1,6 +1,6 @@
 //! The one text that is written of an element (RFC 3080, section 6.4).
 ghost use Rattle.std.specs.Prelude.{◌≡◌, ◌+◌, ◌≤◌, ◌∷◌, ◌++◌, length, flat_map, map, IsTrue, OnOk, OnErr};
-ghost use Rattle.beep_text.specs.Characters.{is_name};
+ghost use Rattle.beep_chars.specs.Characters.{is_name};
 ghost use Rattle.beep_text.specs.Lawful.{are_attrs};
 ghost use Rattle.beep_text.specs.Elements.{IsBody, attr_text, written_text};
 ghost use Rattle.beep_text.specs.Listed.{items_listed};
@@ -8,8 +8,8 @@ ghost use Rattle.beep_text.specs.Canonical.{element_text, items_text, item_text,
 
 use crate::attr::Attr;
 use crate::element::{Element, Item};
-use crate::text::Text;
-use beep_frame::{NoMemory, Octets};
+use beep_chars::Text;
+use beep_octets::{NoMemory, Octets};
 
 /// Appends the canonical text of an element.
 pub fn write_element(e: &Element, out: &mut Octets) -> Result<(), NoMemory>
@@ -72,7 +72,8 @@ fn put_item(item: &Item, out: &mut Octets) -> Result<(), NoMemory>
 
 fn put_attrs(attrs: &[Attr], out: &mut Octets) -> Result<(), NoMemory>
     requires lawful { IsTrue (are_attrs attrs.now) }
-    ensures { OnOk result (out.new.octets ≡ out.old.octets ++ flat_map (λ a. attr_text (attr_as a)) attrs.now) }
+    ensures { OnOk result (out.new.octets
+        ≡ out.old.octets ++ flat_map (λ a. attr_text (attr_as a)) attrs.now) }
 {
     for attr in attrs {
         put_attr(attr, out)?;
@@ -101,7 +102,8 @@ fn put_name(name: &Text, out: &mut Octets) -> Result<(), NoMemory>
 }
 
 fn put_text(text: &Text, in_value: bool, out: &mut Octets) -> Result<(), NoMemory>
-    ensures { OnOk result (out.new.octets ≡ out.old.octets ++ flat_map (λ c. written_text (written_as in_value c)) text.now) }
+    ensures { OnOk result (out.new.octets
+        ≡ out.old.octets ++ flat_map (λ c. written_text (written_as in_value c)) text.now) }
 {
     for character in text.as_str().chars() {
         put_char(character, in_value, out)?;
@@ -110,7 +112,8 @@ fn put_text(text: &Text, in_value: bool, out: &mut Octets) -> Result<(), NoMemor
 }
 
 fn put_char(character: char, in_value: bool, out: &mut Octets) -> Result<(), NoMemory>
-    ensures { OnOk result (out.new.octets ≡ out.old.octets ++ written_text (written_as in_value character)) }
+    ensures { OnOk result (out.new.octets
+        ≡ out.old.octets ++ written_text (written_as in_value character)) }
 {
     match character {
         '&' => out.extend(b"&amp;"),
@@ -123,6 +126,3 @@ fn put_char(character: char, in_value: bool, out: &mut Octets) -> Result<(), NoM
         _ => out.extend(character.encode_utf8(&mut [0; 4]).as_bytes()),
     }
 }
-
-#[cfg(test)]
-mod tests;

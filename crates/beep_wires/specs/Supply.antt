@@ -4,7 +4,8 @@ use Rattle.std.specs.Prelude.{◌==◌, ℕ, min, Bool, false, List, length, dro
 use Rattle.beep_wires.specs.Counts.{next_count}
 use Rattle.beep_wires.specs.Planned.{is_planned}
 
--- the octets that are left, the most that a read gives, the calls that are to fail, and what came of the calls so far
+-- the octets that are left, the most that a read gives, the calls that are to fail, and what came
+-- of the calls so far
 pub record Supply : Type 0 where
   pub left : List ℕ
   pub piece : ℕ

@@ -4,7 +4,8 @@ use Rattle.std.specs.Prelude.{◌==◌, ◌||◌, ◌++◌, ℕ, ◌-◌, min, B
 use Rattle.beep_wires.specs.Counts.{next_count}
 use Rattle.beep_wires.specs.Planned.{is_planned}
 
--- what was written, how many more octets find room, the most that a write takes, the calls that are to fail, and what came of the calls so far
+-- what was written, how many more octets find room, the most that a write takes, the calls that are
+-- to fail, and what came of the calls so far
 pub record Tray : Type 0 where
   pub written : List ℕ
   pub room : ℕ
@@ -33,9 +34,15 @@ tray_failed t = record t { faults = next_count t.faults; writes = next_count t.w
 -- a write that took these octets
 abbrev pub tray_written : Tray → List ℕ → Tray
 tray_written t octets =
-    record t { written = t.written ++ octets; room = t.room - length octets; writes = next_count t.writes }
+    record t {
+      written = t.written
+          ++ octets;
+      room = t.room - length octets;
+      writes = next_count t.writes;
+    }
 
 -- the sink after a write of these octets
 abbrev pub tray_after : Tray → List ℕ → Tray
 tray_after t bytes =
-    if has_fault t then tray_failed t else tray_written t (take (taken_count t (length bytes)) bytes)
+    if has_fault t then tray_failed t
+    else tray_written t (take (taken_count t (length bytes)) bytes)

@@ -3,7 +3,7 @@ ghost use Rattle.std.specs.Prelude.{◌≡◌, [], ◌∷◌, ◌++◌, length, 
 ghost use Rattle.std.specs.Option.{option_copied};
 ghost use Rattle.beep_wires.specs.Planned.{is_planned};
 
-use beep_frame::NoMemory;
+use beep_octets::NoMemory;
 use std::alloc::Global;
 use std::marker::Model;
 

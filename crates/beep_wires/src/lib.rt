@@ -1,7 +1,8 @@
 //! What BEEP reads from and writes to: the traits of a source and of a sink, and forms of them in
 //! memory whose failures are planned, for tests and for the plain programs.
 //!
-//! A source or a sink fails only where its count of faults rises. What stands behind it, a file or a
+//! A source or a sink fails only where its count of faults rises. What stands behind it, a file or
+//! a
 //! wire, is told where it is known, and nothing is claimed of it elsewhere.
 #![tactic(auto)]
 

@@ -8,7 +8,7 @@ use crate::count::next_count;
 use crate::failed::Failed;
 use crate::fails::Fails;
 use crate::sink::Sink;
-use beep_frame::{NoMemory, Octets};
+use beep_octets::{NoMemory, Octets};
 use std::alloc::Global;
 use std::marker::Model;
 
@@ -71,9 +71,7 @@ impl MemSink {
 }
 
 impl Sink for MemSink {
-    ghost written = { λ s. Some s.written };
-
-    ghost faults = { λ s. s.faults };
+    ghost state = { λ s. record { written = Some s.written; faults = s.faults } };
 
     fn write(&mut self, bytes: &[u8]) -> Result<usize, Failed>
         requires { 0 < length bytes.now }
@@ -82,7 +80,8 @@ impl Sink for MemSink {
         ensures after { self.new ≡ tray_after self.old bytes.now }
         // What each sink ensures.
         ensures within { IfOk result (λ n. (0 < n) × (n ≤ length bytes.now)) }
-        ensures octets { WriteAppends (Some self.old.written) (Some self.new.written) result bytes.now }
+        ensures octets { WriteAppends (Some self.old.written) (Some self.new.written)
+            result bytes.now }
         ensures failed { OnErr result (Rose self.old.faults self.new.faults) }
         ensures kept { self.old.faults ≤ self.new.faults }
     {

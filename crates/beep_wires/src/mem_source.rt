@@ -11,7 +11,7 @@ use crate::count::next_count;
 use crate::failed::Failed;
 use crate::fails::Fails;
 use crate::source::Source;
-use beep_frame::Octets;
+use beep_octets::Octets;
 use std::marker::Model;
 
 /// A source that gives what it was made of, in pieces, and fails at the calls that were planned.
@@ -65,13 +65,12 @@ impl MemSource {
 }
 
 impl Source for MemSource {
-    ghost left = { λ s. Some s.left };
-
-    ghost ended = { λ s. s.ended };
-
-    ghost faults = { λ s. s.faults };
-
-    ghost reads = { λ s. s.reads };
+    ghost state = { λ s. record {
+      left = Some s.left;
+      ended = s.ended;
+      faults = s.faults;
+      reads = s.reads;
+    } };
 
     fn read(&mut self, buf: &mut [u8]) -> Result<usize, Failed>
         requires room { 0 < length buf.old }
@@ -115,7 +114,7 @@ fn copy_front(from: &[u8], most: usize, to: &mut [u8]) -> usize
 #[cfg(test)]
 mod tests {
     use super::*;
-    use beep_frame::NoMemory;
+    use beep_octets::NoMemory;
     use std::alloc::Global;
 
     fn greeting(alloc: Global, fails: Fails) -> Result<MemSource, NoMemory>
@@ -126,7 +125,8 @@ mod tests {
         Ok(MemSource::new(contents, 4, fails))
     }
 
-    // Calls 0 and 3 fail. The others give `gree`, `ting`, `s` and the end, at the front of the buffer.
+    // Calls 0 and 3 fail. The others give `gree`, `ting`, `s` and the end, at the front of the
+    // buffer.
     #[test]
     fn pieces_come_between_planned_failures(rt: HostRuntime) -> Result<(), NoMemory> {
         let mut fails = Fails::new(rt.alloc());

@@ -11,9 +11,7 @@ use crate::sink::Sink;
 pub struct NullSink;
 
 impl Sink for NullSink {
-    ghost written = { λ _. None };
-
-    ghost faults = { λ _. 0 };
+    ghost state = { λ _. record { written = None; faults = 0 } };
 
     fn write(&mut self, bytes: &[u8]) -> Result<usize, Failed>
         requires { 0 < length bytes.now }

@@ -9,11 +9,13 @@ use crate::sink::Sink;
 
 /// Writes all of `bytes`, by as many calls of `write` as that takes, and none where it is empty.
 pub fn write_all<S: Sink>(sink: &mut S, bytes: &[u8]) -> Result<(), Failed>
-    ensures appended { OnOk result (Appends (S.written sink.old) (S.written sink.new) bytes.now) }
-    ensures prefix { OnErr result (AppendsPrefix (S.written sink.old) (S.written sink.new) bytes.now) }
-    ensures failed { OnErr result (Rose (S.faults sink.old) (S.faults sink.new)) }
+    ensures appended { OnOk result
+        (Appends (S.state sink.old).written (S.state sink.new).written bytes.now) }
+    ensures prefix { OnErr result
+        (AppendsPrefix (S.state sink.old).written (S.state sink.new).written bytes.now) }
+    ensures failed { OnErr result (Rose (S.state sink.old).faults (S.state sink.new).faults) }
     ensures empty { length bytes.now ≡ 0 → IsOk result × (sink.new ≡ sink.old) }
-    ensures kept { S.faults sink.old ≤ S.faults sink.new }
+    ensures kept { (S.state sink.old).faults ≤ (S.state sink.new).faults }
 {
     let mut at = 0;
     while at < bytes.len() {
@@ -30,7 +32,7 @@ mod tests {
     use super::*;
     use crate::fails::Fails;
     use crate::mem_sink::MemSink;
-    use beep_frame::NoMemory;
+    use beep_octets::NoMemory;
 
     // The room, the number of the call that fails, the answer, and what is written of `greetings`
     // in pieces of 4.

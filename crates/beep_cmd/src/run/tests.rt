@@ -3,7 +3,7 @@
 ghost use Rattle.std.specs.Prelude.{None};
 
 use super::*;
-use beep_frame::Octets;
+use beep_octets::Octets;
 use beep_wires::{Fails, MemSink, MemSource, next_count};
 use std::process::Abort;
 use std::test::Fail;
@@ -37,13 +37,7 @@ struct Pieces<'a> {
 }
 
 impl Source for Pieces<'_> {
-    ghost left = { λ _. None };
-
-    ghost ended = { λ s. s.ended };
-
-    ghost faults = { λ _. 0 };
-
-    ghost reads = { λ s. s.reads };
+    ghost state = { λ s. record { left = None; ended = s.ended; faults = 0; reads = s.reads } };
 
     fn read(&mut self, buf: &mut [u8]) -> Result<usize, Failed> {
         self.reads = next_count(self.reads);
@@ -184,7 +178,11 @@ fn other_words_are_refused(rt: HostRuntime) -> Result<(), Fail> {
         "show --octets 73 --elements",
         "show --window 4096",
         "show --octets 73 --window 4096",
-        "replay",
+        "show replay",
+        "replay replay",
+        "replay --elements no",
+        "--elements no replay",
+        "Replay",
     ];
     for words in rows {
         wants(&rt, words, GREETING, "! usage\n", 1)?;
@@ -196,14 +194,14 @@ fn other_words_are_refused(rt: HostRuntime) -> Result<(), Fail> {
 #[test]
 fn options_come_in_any_order(rt: HostRuntime) -> Result<(), Fail> {
     let plain = "RPY 0 0 . 0 52\nframes 1 octets 73\n";
-    let told = "RPY 0 0 . 0 52\n  <greeting />\nframes 1 octets 73\n";
+    let listed = "RPY 0 0 . 0 52\n  <greeting />\nframes 1 octets 73\n";
     let rows = [
         ("show --elements no", plain, 0),
-        ("show --elements yes", told, 0),
+        ("show --elements yes", listed, 0),
         ("show --octets 74", plain, 0),
         ("show --octets 4294967295", plain, 0),
-        ("show --elements yes --octets 74", told, 0),
-        ("show --octets 74 --elements yes", told, 0),
+        ("show --elements yes --octets 74", listed, 0),
+        ("show --octets 74 --elements yes", listed, 0),
         ("show --octets 74 --elements no", plain, 0),
         ("show --octets 73", "RPY 0 0 . 0 52\n! spent 73\n", 11),
         ("show --octets 72", "! spent 72\n", 11),
@@ -362,7 +360,7 @@ fn a_frame_may_be_cut_anywhere(rt: HostRuntime) -> Result<(), Fail> {
     Ok(())
 }
 
-// A run ends with the write that fails, so its reads tell when that write was made: the line of the
+// A run ends with the write that fails, so its reads show when that write was made: the line of the
 // first frame behind the second read, those of three frames by one write behind the third, and the
 // last line behind the fifth, which is the end.
 #[test]
@@ -382,3 +380,5 @@ fn lines_are_written_once_their_frames_are_read(rt: HostRuntime) -> Result<(), F
     }
     Ok(())
 }
+
+mod records;

@@ -1,54 +1,87 @@
-ghost use Rattle.std.specs.Prelude.{◌≡◌, None};
+ghost use Rattle.std.specs.Prelude.{◌≡◌};
 
 use super::Exchange;
-use beep_frame::{
-    EXAMPLES, ExampleStep, Head, JournalItem, Kind, MAX_ANSWERS, MAX_REQUESTS, Octets, Rule, Side,
-    exchange_rule,
+use beep_frame::{Head, Kind, Rule, Tag};
+use beep_history::{
+    EXAMPLES, ExampleStep, JournalItem, LIMIT_EXAMPLES, Side, exchange_rule, request, step_of,
+    unfinished_answer,
 };
+use beep_octets::Octets;
 use std::alloc::Global;
 use std::process::Abort;
 use std::test::Fail;
 
-/// The header that this step begins with.
-fn head_of(step: ExampleStep) -> Head {
-    let ExampleStep(_, kind, msgno, more, size, ansno) = step;
-    Head {
-        kind,
-        channel: 1,
-        msgno,
-        more,
-        seqno: 0,
-        size,
-        ansno,
+/// A history under way in an exchange and as a list of items, the earliest first.
+#[derive(Drop)]
+struct Twice {
+    exchange: Exchange,
+    items: Vec<JournalItem>,
+    exchanged: bool,
+}
+
+impl Twice {
+    fn new(alloc: Global, exchanged: bool) -> Result<Twice, Fail> {
+        Ok(Twice {
+            exchange: Exchange::new(alloc, false)?,
+            items: Vec::new(alloc),
+            exchanged,
+        })
     }
-}
 
-fn side_of(step: ExampleStep, exchanged: bool) -> Side {
-    if exchanged { step.0.other() } else { step.0 }
-}
+    fn side(&self, side: Side) -> Side {
+        if self.exchanged { side.other() } else { side }
+    }
 
-/// What the exchange answers to this step.
-fn judge(exchange: &Exchange, side: Side, head: &Head) -> Option<Rule> {
-    match side {
-        Side::Received => exchange.judge_in(head),
-        Side::Sent => exchange.judge_out(head),
+    fn pass(&mut self, rt: &impl Abort, side: Side, head: Head) -> Result<(), Fail> {
+        let side = self.side(side);
+        note(rt, &mut self.exchange, side, &head);
+        let alloc = *self.items.allocator();
+        self.items.push(JournalItem::Began(side, head))?;
+        self.items
+            .push(JournalItem::Passed(side, head, Octets::new(alloc)))?;
+        Ok(())
+    }
+
+    /// Passes the frames of a text.
+    fn play(&mut self, rt: &impl Abort, past: &str) -> Result<(), Fail> {
+        if past.is_empty() {
+            return Ok(());
+        }
+        for text in past.split(';') {
+            match step_of(text).ok_or("a step")? {
+                ExampleStep::Passed(side, head) => self.pass(rt, side, head)?,
+                ExampleStep::Told(..) => return Err("a frame".into()),
+            }
+        }
+        Ok(())
+    }
+
+    /// What the exchange and the plain program answer to the header of a text.
+    fn judge(mut self, next: &str) -> Result<(Option<Rule>, Option<Rule>), Fail> {
+        let ExampleStep::Passed(side, head) = step_of(next).ok_or("a step")? else {
+            return Err("a header".into());
+        };
+        let side = self.side(side);
+        self.items.reverse();
+        let found = match side {
+            Side::Received => self.exchange.judge_in(&head),
+            Side::Sent => self.exchange.judge_out(&head),
+        };
+        Ok((found, exchange_rule(side, &self.items, &head)))
     }
 }
 
 /// Notes a whole frame, which must break no rule.
-fn pass(rt: &impl Abort, exchange: &mut Exchange, side: Side, head: &Head)
-    requires received { exchange.old.received.under_way ≡ None }
-    requires sent { exchange.old.sent.under_way ≡ None }
-    ensures received { exchange.new.received.under_way ≡ None }
-    ensures sent { exchange.new.sent.under_way ≡ None }
-{
+fn note(rt: &impl Abort, exchange: &mut Exchange, side: Side, head: &Head) {
     match side {
         Side::Received => {
+            assert!(rt; exchange.receiving().is_none());
             assert!(rt; exchange.judge_in(head).is_none());
             exchange.note_in(head);
             exchange.note_whole();
         }
         Side::Sent => {
+            assert!(rt; exchange.sending().is_none());
             assert!(rt; exchange.judge_out(head).is_none());
             exchange.note_out(head);
             exchange.note_sent();
@@ -56,170 +89,39 @@ fn pass(rt: &impl Abort, exchange: &mut Exchange, side: Side, head: &Head)
     }
 }
 
-/// What the exchange answers to the next step after these frames, and what the plain program does.
-fn both(
-    rt: &impl Abort,
-    alloc: Global,
-    frames: &[ExampleStep],
-    next: ExampleStep,
-    exchanged: bool,
-) -> Result<(Option<Rule>, Option<Rule>), Fail> {
-    let mut exchange = Exchange::new(alloc, false)?;
-    let mut items = Vec::new(alloc);
-    for step in frames {
-        let head = head_of(*step);
-        let side = side_of(*step, exchanged);
-        pass(rt, &mut exchange, side, &head);
-        items.push(JournalItem::Began(side, head))?;
-        items.push(JournalItem::Passed(side, head, Octets::new(alloc)))?;
-    }
-    items.reverse();
-    let head = head_of(next);
-    let side = side_of(next, exchanged);
-    Ok((
-        judge(&exchange, side, &head),
-        exchange_rule(side, &items, &head),
-    ))
-}
-
-// The examples and their rules are those of beep_frame.
+// The examples and their rules are those of beep_history.
 #[test]
 fn the_exchange_agrees_with_the_plain_program_on_each_example(rt: HostRuntime) -> Result<(), Fail> {
     for example in &EXAMPLES {
         for exchanged in [false, true] {
-            let (found, plain) = both(&rt, rt.alloc(), example.frames, example.next, exchanged)?;
+            let mut both = Twice::new(rt.alloc(), exchanged)?;
+            both.play(&rt, example.past)?;
             let name = example.name;
-            assert_eq!(rt; found, example.broken, "at {name}");
-            assert_eq!(rt; plain, example.broken, "at {name}");
+            let found = both.judge(example.next)?;
+            assert_eq!(rt; found, (example.breaks, example.breaks), "at {name}");
         }
     }
     Ok(())
 }
 
-/// Requests of the side that is answered, of numbers from 0, all complete.
-fn asked(alloc: Global, count: u32) -> Result<Vec<ExampleStep>, Fail> {
-    let mut steps = Vec::new(alloc);
-    for number in 0..count {
-        steps.push(ExampleStep(Side::Sent, Kind::Msg, number, false, 0, 0))?;
-    }
-    Ok(steps)
-}
-
-/// One request, and answers to it that go on.
-fn answering(alloc: Global, count: u32) -> Result<Vec<ExampleStep>, Fail> {
-    let mut steps = asked(alloc, 1)?;
-    for number in 0..count {
-        steps.push(ExampleStep(Side::Received, Kind::Ans, 0, true, 1, number))?;
-    }
-    Ok(steps)
-}
-
-/// Runs a history with one more frame, if any, in both directions, in the exchange and the plain program.
-fn agree(
-    rt: &impl Abort,
-    alloc: Global,
-    mut steps: Vec<ExampleStep>,
-    more: Option<ExampleStep>,
-    next: ExampleStep,
-    want: Option<Rule>,
-) -> Result<(), Fail> {
-    if let Some(step) = more {
-        steps.push(step)?;
-    }
-    for exchanged in [false, true] {
-        let (found, plain) = both(rt, alloc, &steps, next, exchanged)?;
-        assert_eq!(rt; found, want);
-        assert_eq!(rt; plain, want);
+#[test]
+fn the_exchange_agrees_at_the_limits_of_one_life(rt: HostRuntime) -> Result<(), Fail> {
+    for example in &LIMIT_EXAMPLES {
+        for exchanged in [false, true] {
+            let mut both = Twice::new(rt.alloc(), exchanged)?;
+            for number in 0..example.requests {
+                both.pass(&rt, Side::Sent, request(number))?;
+            }
+            for number in 0..example.answers {
+                both.pass(&rt, Side::Received, unfinished_answer(number))?;
+            }
+            both.play(&rt, example.past)?;
+            let name = example.name;
+            let found = both.judge(example.next)?;
+            assert_eq!(rt; found, (example.breaks, example.breaks), "at {name}");
+        }
     }
     Ok(())
-}
-
-#[test]
-fn the_exchange_agrees_at_the_limits_of_requests(rt: HostRuntime) -> Result<(), Fail> {
-    let reply = ExampleStep(Side::Received, Kind::Rpy, 0, false, 0, 0);
-    let last = ExampleStep(Side::Sent, Kind::Msg, MAX_REQUESTS, false, 0, 0);
-    let full = MAX_REQUESTS;
-    agree(
-        &rt,
-        rt.alloc(),
-        asked(rt.alloc(), full - 1)?,
-        None,
-        last,
-        None,
-    )?;
-    agree(
-        &rt,
-        rt.alloc(),
-        asked(rt.alloc(), full)?,
-        None,
-        last,
-        Some(Rule::TooManyRequests),
-    )?;
-    agree(
-        &rt,
-        rt.alloc(),
-        asked(rt.alloc(), full)?,
-        Some(reply),
-        last,
-        None,
-    )?;
-    agree(
-        &rt,
-        rt.alloc(),
-        asked(rt.alloc(), full)?,
-        Some(reply),
-        reply,
-        Some(Rule::AlreadyAnswered),
-    )?;
-    let mut steps = asked(rt.alloc(), full)?;
-    steps.push(reply)?;
-    agree(
-        &rt,
-        rt.alloc(),
-        steps,
-        Some(last),
-        reply,
-        Some(Rule::NeverAsked),
-    )
-}
-
-#[test]
-fn the_exchange_agrees_at_the_limit_of_answers(rt: HostRuntime) -> Result<(), Fail> {
-    let first = ExampleStep(Side::Received, Kind::Ans, 0, false, 1, 0);
-    let next = ExampleStep(Side::Received, Kind::Ans, 0, false, 1, MAX_ANSWERS);
-    let full = MAX_ANSWERS;
-    agree(
-        &rt,
-        rt.alloc(),
-        answering(rt.alloc(), full - 1)?,
-        None,
-        next,
-        None,
-    )?;
-    agree(
-        &rt,
-        rt.alloc(),
-        answering(rt.alloc(), full)?,
-        None,
-        next,
-        Some(Rule::TooManyAnswers),
-    )?;
-    agree(
-        &rt,
-        rt.alloc(),
-        answering(rt.alloc(), full)?,
-        None,
-        first,
-        None,
-    )?;
-    agree(
-        &rt,
-        rt.alloc(),
-        answering(rt.alloc(), full)?,
-        Some(first),
-        next,
-        None,
-    )
 }
 
 // On channel zero each end owes a greeting at first (RFC 3080, section 2.3.1).
@@ -247,4 +149,37 @@ fn answers_are_counted_until_the_nul(rt: HostRuntime) -> Result<(), Fail> {
     exchange.note_given(Kind::Nul);
     assert_eq!(rt; exchange.begun_answers(), None);
     Ok(())
+}
+
+// Positions count from 0 on each side. A reply is given to the oldest request that is owed one, and taken of the
+// oldest own request that waits.
+#[test]
+fn requests_are_owed_and_asked_by_position(rt: HostRuntime) -> Result<(), Fail> {
+    let mut exchange = Exchange::new(rt.alloc(), false)?;
+    exchange.note_taken_end(end_of(Kind::Msg, 0));
+    exchange.note_taken_end(end_of(Kind::Msg, 1));
+    assert_eq!(rt; exchange.first_owed(), Some(0));
+    exchange.note_given(Kind::Rpy);
+    assert_eq!(rt; exchange.first_owed(), Some(1));
+    exchange.note_given(Kind::Msg);
+    exchange.note_given(Kind::Msg);
+    assert_eq!(rt; (exchange.asked(), exchange.first_asked()), (2, Some(0)));
+    exchange.note_taken_end(end_of(Kind::Ans, 0));
+    assert_eq!(rt; (exchange.asked(), exchange.first_asked()), (2, Some(0)));
+    exchange.note_taken_end(end_of(Kind::Nul, 0));
+    assert_eq!(rt; (exchange.asked(), exchange.first_asked()), (1, Some(1)));
+    exchange.note_taken_end(end_of(Kind::Err, 1));
+    assert_eq!(rt; (exchange.asked(), exchange.first_asked()), (0, None));
+    Ok(())
+}
+
+/// The tag of the end of a message.
+fn end_of(kind: Kind, request: u64) -> Tag
+    ensures { result ≡ record { kind = kind; request = request; ansno = 0 } }
+{
+    Tag {
+        kind,
+        request,
+        ansno: 0,
+    }
 }

@@ -1,14 +1,17 @@
 //! The rules that a header of one direction can break, told from what both directions keep.
 ghost use Rattle.std.specs.Prelude.{◌≡◌};
-ghost use Rattle.beep_frame.specs.Broken.{first_of, breaks_nul_shape};
+ghost use Rattle.beep_history.specs.Broken.{first_of, breaks_nul_shape};
 ghost use Rattle.beep_exchange.specs.Kept.{breaks_not_continued, goes_on_request, changes_message, changes_reply, breaks_kind_changed, breaks_number_in_use, breaks_never_asked, breaks_early_reply, breaks_already_answered, breaks_out_of_turn, breaks_nul_not_after_ans, breaks_nul_too_soon, breaks_empty_answer, breaks_too_many_requests, breaks_too_many_answers, shape_tests, limit_tests, judged};
 
 use super::{Way, goes_on};
-use beep_frame::{Head, MAX_ANSWERS, MAX_REQUESTS, Rule};
+use beep_frame::{Head, Rule};
+use beep_history::{MAX_ANSWERS, MAX_REQUESTS};
 
 impl Way {
-    /// The first rule that a header of this direction breaks, where `theirs` is the other one. Its cost is constant
-    /// for the first frame of a reply to the oldest request that waits, and else bounded by what is kept.
+    /// The first rule that a header of this direction breaks, where `theirs` is the other one. Its
+    /// cost is constant
+    /// for the first frame of a reply to the oldest request that waits, and else bounded by what is
+    /// kept.
     pub fn judge(&self, theirs: &Way, head: &Head) -> Option<Rule>
         ensures { result ≡ judged self.now theirs.now head.now }
     {

@@ -117,7 +117,7 @@ fn single_octets_give_the_same_steps(rt: HostRuntime) -> Result<(), NoMemory> {
     Ok(())
 }
 
-// The octets fed and those left behind the last whole frame.
+// The octets fed and those left after the last whole frame.
 #[test]
 fn left_counts_from_the_last_whole_frame(rt: HostRuntime) -> Result<(), NoMemory> {
     let rows = [

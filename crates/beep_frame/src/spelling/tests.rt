@@ -5,8 +5,8 @@ use super::*;
 use crate::decoder::Decoder;
 use crate::head::MAX_NUMBER;
 use crate::limits::MAX_PAYLOAD;
-use crate::octets::NoMemory;
 use crate::step::Step;
+use beep_octets::NoMemory;
 use std::alloc::Global;
 
 // The request that asks for a channel (RFC 3080, section 2.3.1.2), 120 octets, and the shortest greeting, 52.

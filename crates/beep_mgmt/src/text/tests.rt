@@ -3,22 +3,23 @@ use base64::engine::general_purpose::STANDARD;
 use std::test::Fail;
 
 // RFC 4648, section 10, and the 64 symbols of its table 1 in their order.
+static SYMBOLS: [(&[u8], &str); 8] = [
+    (b"", ""),
+    (b"f", "Zg=="),
+    (b"fo", "Zm8="),
+    (b"foo", "Zm9v"),
+    (b"foob", "Zm9vYg=="),
+    (b"fooba", "Zm9vYmE="),
+    (b"foobar", "Zm9vYmFy"),
+    (
+        b"\x00\x10\x83\x10\x51\x87\x20\x92\x8B\x30\xD3\x8F\x41\x14\x93\x51\x55\x97\x61\x96\x9B\x71\xD7\x9F\x82\x18\xA3\x92\x59\xA7\xA2\x9A\xAB\xB2\xDB\xAF\xC3\x1C\xB3\xD3\x5D\xB7\xE3\x9E\xBB\xF3\xDF\xBF",
+        "ABCDEFGHIJKLMNOPQRSTUVWXYZabcdefghijklmnopqrstuvwxyz0123456789+/",
+    ),
+];
+
 #[test]
 fn base64_is_that_of_the_standard(rt: HostRuntime) -> Result<(), Fail> {
-    let cases: [(&[u8], &str); 8] = [
-        (b"", ""),
-        (b"f", "Zg=="),
-        (b"fo", "Zm8="),
-        (b"foo", "Zm9v"),
-        (b"foob", "Zm9vYg=="),
-        (b"fooba", "Zm9vYmE="),
-        (b"foobar", "Zm9vYmFy"),
-        (
-            b"\x00\x10\x83\x10\x51\x87\x20\x92\x8B\x30\xD3\x8F\x41\x14\x93\x51\x55\x97\x61\x96\x9B\x71\xD7\x9F\x82\x18\xA3\x92\x59\xA7\xA2\x9A\xAB\xB2\xDB\xAF\xC3\x1C\xB3\xD3\x5D\xB7\xE3\x9E\xBB\xF3\xDF\xBF",
-            "ABCDEFGHIJKLMNOPQRSTUVWXYZabcdefghijklmnopqrstuvwxyz0123456789+/",
-        ),
-    ];
-    for (at, (octets, symbols)) in cases.iter().enumerate() {
+    for (at, (octets, symbols)) in SYMBOLS.iter().enumerate() {
         let text = base64_text(rt.alloc(), octets).map_err(|_| "memory")?;
         assert_eq!(rt; text.as_str(), *symbols, "at {at}");
         let back = STANDARD

@@ -4,53 +4,75 @@ use super::*;
 use crate::profile::{Encoding, Profile};
 use crate::profiles::Profiles;
 use crate::read::read_mgmt;
-use crate::word::word_text;
-use beep_text::Text;
+use beep_chars::Text;
+use beep_octets::{NoMemory, Octets};
 use std::alloc::Global;
 use std::test::Fail;
 
-/// The message that is written of what a payload says.
-fn again(alloc: Global, payload: &[u8]) -> Result<Octets, Fail> {
-    let m = read_mgmt(alloc, payload).map_err(|_| "not read")?;
+// The sizes are 40 octets and those of the element, counted by hand.
+static SIZES: [(&[u8], usize); 6] = [
+    (b"<greeting />", 52),
+    (b"<ok />", 46),
+    (b"<close number='1' code='200' />", 71),
+    (
+        b"<greeting><profile uri='http://beep.example/pair' /></greeting>",
+        103,
+    ),
+    (b"<profile uri='http://beep.example/pair' />", 82),
+    (b"<start number='1'><profile uri='urn:x' /></start>", 89),
+];
+
+// Octets that are UTF-8 of characters that an element may hold stand as they are, others in Base64
+// (RFC 4648, section 4), whatever the profile says of how they came.
+static PROFILES: [(&[u8], &[u8]); 8] = [
+    (b"", b"<profile uri='urn:x' />"),
+    (b"<ok />", b"<profile uri='urn:x'>&lt;ok /&gt;</profile>"),
+    (b" \t\n\r", b"<profile uri='urn:x'> \t\n&#13;</profile>"),
+    (b"\xC3\xA9", b"<profile uri='urn:x'>\xC3\xA9</profile>"),
+    (
+        b"\x00",
+        b"<profile uri='urn:x' encoding='base64'>AA==</profile>",
+    ),
+    (
+        b"\xFF\xFE",
+        b"<profile uri='urn:x' encoding='base64'>//4=</profile>",
+    ),
+    (
+        b"\xEF\xBF\xBE",
+        b"<profile uri='urn:x' encoding='base64'>77++</profile>",
+    ),
+    (
+        b"a\x0B",
+        b"<profile uri='urn:x' encoding='base64'>YQs=</profile>",
+    ),
+];
+
+/// Whether the payload is read, and written as this message.
+fn is_message(alloc: Global, payload: &[u8], message: &[u8]) -> Result<bool, NoMemory> {
+    let Ok(m) = read_mgmt(alloc, payload) else {
+        return Ok(false);
+    };
     let mut out = Octets::new(alloc);
-    write_mgmt(&m, &mut out).map_err(|_| "memory")?;
-    Ok(out)
+    write_mgmt(&m, &mut out)?;
+    Ok(out.as_slice() == message)
 }
 
-// The sizes are 40 octets and those of the element, counted by hand.
+/// Whether the element is written as a message of this size, which is written again as it is read.
+fn has_size(alloc: Global, element: &[u8], size: usize) -> Result<bool, NoMemory> {
+    let mut message = Octets::new(alloc);
+    message.extend(b"Content-Type: application/beep+xml\r\n\r\n")?;
+    message.extend(element)?;
+    message.extend(b"\r\n")?;
+    let written = is_message(alloc, element, message.as_slice())?;
+    let again = is_message(alloc, message.as_slice(), message.as_slice())?;
+    Ok(written && again && message.len() == size)
+}
+
 #[test]
 fn a_message_is_its_element_in_a_frame_of_40_octets(rt: HostRuntime) -> Result<(), Fail> {
-    let cases: [(&[u8], usize); 8] = [
-        (b"<greeting />", 52),
-        (b"<ok />", 46),
-        (b"<close number='1' code='200' />", 71),
-        (
-            b"<greeting><profile uri='http://beep.example/pair' /></greeting>",
-            103,
-        ),
-        (
-            b"<start number='1'><profile uri='http://beep.example/pair' /></start>",
-            108,
-        ),
-        (b"<profile uri='http://beep.example/pair' />", 82),
-        (b"<start number='1'><profile uri='urn:x' /></start>", 89),
-        (
-            b"<profile uri='http://iana.org/beep/TUNNEL'>&lt;ok /&gt;</profile>",
-            105,
-        ),
-    ];
-    for (at, (element, size)) in cases.iter().enumerate() {
-        let mut message = Octets::new(rt.alloc());
-        message
-            .extend(b"Content-Type: application/beep+xml\r\n\r\n")
-            .map_err(|_| "memory")?;
-        message.extend(element).map_err(|_| "memory")?;
-        message.extend(b"\r\n").map_err(|_| "memory")?;
-        let out = again(rt.alloc(), element)?;
-        assert_eq!(rt; out.as_slice(), message.as_slice(), "at {at}");
-        assert_eq!(rt; out.len(), *size, "at {at}");
-        let twice = again(rt.alloc(), out.as_slice())?;
-        assert_eq!(rt; twice.as_slice(), out.as_slice(), "at {at}");
+    for (at, (element, size)) in SIZES.iter().enumerate() {
+        let has = has_size(rt.alloc(), element, *size).map_err(|_| "memory")?;
+        assert!(rt; has, "at {at}");
     }
     Ok(())
 }
@@ -59,7 +81,7 @@ fn a_message_is_its_element_in_a_frame_of_40_octets(rt: HostRuntime) -> Result<(
 fn profile(alloc: Global, content: &[u8]) -> Result<Profile, NoMemory>
     ensures { IfOk result (λ p. p.uri ≡ codes "urn:x") }
 {
-    let uri = word_text(alloc, "urn:x")?;
+    let uri = Text::of_word(alloc, "urn:x")?;
     let mut octets = Octets::new(alloc);
     octets.extend(content)?;
     Ok(Profile {
@@ -70,74 +92,67 @@ fn profile(alloc: Global, content: &[u8]) -> Result<Profile, NoMemory>
     })
 }
 
-// Octets that are UTF-8 of characters that an element may hold stand as they are, others in Base64
-// (RFC 4648, section 4), whatever the profile says of how they came.
+/// Whether a profile of this content is written as this element.
+fn is_written(alloc: Global, content: &[u8], element: &[u8]) -> Result<bool, NoMemory> {
+    let profile = profile(alloc, content)?;
+    let mut out = Octets::new(alloc);
+    write_mgmt_element(&Mgmt::Chosen { profile }, &mut out)?;
+    Ok(out.as_slice() == element)
+}
+
 #[test]
 fn a_profile_is_written_by_its_uri_and_its_octets(rt: HostRuntime) -> Result<(), Fail> {
-    let cases: [(&[u8], &[u8]); 9] = [
-        (b"", b"<profile uri='urn:x' />"),
-        (b"<ok />", b"<profile uri='urn:x'>&lt;ok /&gt;</profile>"),
-        (b" \t\n\r", b"<profile uri='urn:x'> \t\n&#13;</profile>"),
-        (b"\xC3\xA9", b"<profile uri='urn:x'>\xC3\xA9</profile>"),
-        (
-            b"\x00",
-            b"<profile uri='urn:x' encoding='base64'>AA==</profile>",
-        ),
-        (
-            b"\xFF\xFE",
-            b"<profile uri='urn:x' encoding='base64'>//4=</profile>",
-        ),
-        (
-            b"\xFB\xEF\xBE",
-            b"<profile uri='urn:x' encoding='base64'>++++</profile>",
-        ),
-        (
-            b"\xEF\xBF\xBE",
-            b"<profile uri='urn:x' encoding='base64'>77++</profile>",
-        ),
-        (
-            b"a\x0B",
-            b"<profile uri='urn:x' encoding='base64'>YQs=</profile>",
-        ),
-    ];
-    for (at, (content, element)) in cases.iter().enumerate() {
-        let profile = profile(rt.alloc(), content).map_err(|_| "memory")?;
-        let mut out = Octets::new(rt.alloc());
-        write_mgmt_element(&Mgmt::Chosen { profile }, &mut out).map_err(|_| "memory")?;
-        assert_eq!(rt; out.as_slice(), *element, "at {at}");
+    for (at, (content, element)) in PROFILES.iter().enumerate() {
+        let is = is_written(rt.alloc(), content, element).map_err(|_| "memory")?;
+        assert!(rt; is, "at {at}");
     }
     Ok(())
 }
 
-// The parts are written behind what was there, in the order of the definition.
-#[test]
-fn a_value_that_is_built_is_written(rt: HostRuntime) -> Result<(), Fail> {
-    let alloc = rt.alloc();
+/// A start of the greatest number with one profile, after what is there.
+fn put_start(alloc: Global, out: &mut Octets) -> Result<(), NoMemory> {
     let mut profiles = Profiles::new(alloc);
-    let one = profile(alloc, b"").map_err(|_| "memory")?;
-    profiles.push(one).map_err(|_| "memory")?;
-    assert_eq!(rt; profiles.len(), 1);
-    assert_eq!(rt; profiles.is_empty(), false);
-    assert_eq!(rt; profiles.get(0).is_some(), true);
-    assert_eq!(rt; profiles.get(1).is_some(), false);
+    profiles.push(profile(alloc, b"")?)?;
+    let server = Some(Text::of_word(alloc, "a.b")?);
     let m = Mgmt::Start {
         number: 4294967295,
-        server: Some(word_text(alloc, "a.b").map_err(|_| "memory")?),
+        server,
         profiles,
     };
-    let mut out = Octets::new(alloc);
+    write_mgmt_element(&m, out)
+}
+
+// The parts are written after what was there, in the order of the definition.
+#[test]
+fn a_value_that_is_built_is_written(rt: HostRuntime) -> Result<(), Fail> {
+    let mut out = Octets::new(rt.alloc());
     out.extend(b"...").map_err(|_| "memory")?;
-    write_mgmt_element(&m, &mut out).map_err(|_| "memory")?;
-    assert_eq!(rt;
-        out.as_slice(),
-        b"...<start number='4294967295' serverName='a.b'><profile uri='urn:x' /></start>".as_slice()
-    );
+    put_start(rt.alloc(), &mut out).map_err(|_| "memory")?;
     let m = Mgmt::Fault {
         code: 7,
-        note: Text::new(alloc),
+        note: Text::new(rt.alloc()),
     };
-    let mut out = Octets::new(alloc);
     write_mgmt_element(&m, &mut out).map_err(|_| "memory")?;
-    assert_eq!(rt; out.as_slice(), b"<error code='007' />".as_slice());
+    let start = "...<start number='4294967295' serverName='a.b'><profile uri='urn:x' /></start>";
+    let fault = "<error code='007' />";
+    assert!(rt; out.as_slice().starts_with(start.as_bytes()));
+    assert!(rt; out.as_slice().ends_with(fault.as_bytes()));
+    assert_eq!(rt; out.len(), start.len() + fault.len());
+    Ok(())
+}
+
+#[test]
+fn a_profile_is_taken_out(rt: HostRuntime) -> Result<(), Fail> {
+    let mut profiles = Profiles::new(rt.alloc());
+    for content in [b"a", b"b"] {
+        let profile = profile(rt.alloc(), content).map_err(|_| "memory")?;
+        profiles.push(profile).map_err(|_| "memory")?;
+    }
+    assert!(rt; profiles.len() == 2 && !profiles.is_empty());
+    assert!(rt; profiles.get(1).is_some() && profiles.get(2).is_none());
+    let taken = profiles
+        .take(1)
+        .map(|p| p.content.as_slice() == b"b".as_slice());
+    assert_eq!(rt; taken, Some(true));
     Ok(())
 }

@@ -7,31 +7,31 @@ use Rattle.beep_cmd.proofs.EndLemmas.{finished, unfinished, cut_short, starved, 
 use Rattle.beep_cmd.proofs.show.finish.Goals as goal
 
 pub returns-in-WriteFault-clause-finishes : goal.returns-in-WriteFault-clause-finishes
-returns-in-WriteFault-clause-finishes g c = λ settings a b s ended f r h small le w.
+returns-in-WriteFault-clause-finishes g c = λ settings from to before small le w.
     let short = rw c.in-WriteFault.is at w in
-    cut_short settings small a b s _ ended f r h _ short.0 short.1
+    cut_short settings from to before _ short.0 short.1
 
 pub returns-in-NoMemory-clause-finishes : goal.returns-in-NoMemory-clause-finishes
-returns-in-NoMemory-clause-finishes g c = λ settings a b s ended f r h small le w.
+returns-in-NoMemory-clause-finishes g c = λ settings from to before small le w.
     let first = rw c.in-NoMemory.is at w in
-    starved settings a b s _ ended f r h _ first.1
+    starved settings from to before _ first.1
 
 pub returns-in-Ok : goal.returns-in-Ok
 returns-in-Ok g c = record {
-  finishes = λ settings a b s ended f r h small le w.
-      let clear = clear_at settings c.args.ending c.args.lister.now a b s _ ended f r h _ c.in_default.not-WriteFault c.in_default.not-NoMemory w in
+  finishes = λ settings from to before small le w.
+      let clear = clear_at settings c.args.ending c.args.lister.now from to before _ c.in_default.not-WriteFault c.in_default-ending.not-NoMemory w in
       let text : c.append_last-status.new.out.octets ≡ last_line c.args.ending c.args.lister.now.frames c.left-left.result = c.append_last-status.ensures.appended (omega (arith, clear.room)) ∙ ap (λ x. x ++ last_line c.args.ending c.args.lister.now.frames c.left-left.result) clear.none in
-      let written = subst (λ x. Appends (g.O.Sink.written c.args.output.now) (g.O.Sink.written c.write_all.new.sink) x) (c.as_slice.ensures ∙ text) c.in-Ok.ensures.appended in
-      subst (λ x. Shown settings x (run_of a b s (g.O.Sink.written c.write_all.new.sink) ended f r h (g.O.Sink.faults c.write_all.new.sink))) (sym c.append_last-status.ensures.status) (finished settings small c.args.lister.now c.left-left.result (λ fed frames rest heads holds. c.left-left.ensures.stands fed frames rest heads holds.stands) a b s _ ended f r c.args.ending h _ _ _ c.in_default.not-WriteFault c.in_default.not-NoMemory w written);
+      let written = subst (λ x. Appends (g.O.Sink.state c.args.output.now).written (g.O.Sink.state c.write_all.new.sink).written x) (c.as_slice.ensures ∙ text) c.in-Ok.ensures.appended in
+      subst (λ x. Shown settings x (run_of from to before (g.O.Sink.state c.write_all.new.sink))) (sym c.append_last-status.ensures.status) (finished settings (omega (arith, small)) c.args.lister.now c.left-left.result (λ fed holds. c.left-left.ensures.stands fed holds.stands) from to before (g.O.Sink.state c.args.output.now) c.args.ending _ c.in_default.not-WriteFault c.in_default-ending.not-NoMemory w written);
   answers = λ e. status_of-memory c.args.ending c.left-left.result (sym c.append_last-status.ensures.status ∙ e);
 }
 
 pub returns-in-Err : goal.returns-in-Err
 returns-in-Err g c = record {
-  finishes = λ settings a b s ended f r h small le w.
-      let clear = clear_at settings c.args.ending c.args.lister.now a b s _ ended f r h _ c.in_default.not-WriteFault c.in_default.not-NoMemory w in
+  finishes = λ settings from to before small le w.
+      let clear = clear_at settings c.args.ending c.args.lister.now from to before _ c.in_default.not-WriteFault c.in_default-ending.not-NoMemory w in
       let text : c.append_last-status.new.out.octets ≡ last_line c.args.ending c.args.lister.now.frames c.left-left.result = c.append_last-status.ensures.appended (omega (arith, clear.room)) ∙ ap (λ x. x ++ last_line c.args.ending c.args.lister.now.frames c.left-left.result) clear.none in
-      let written = subst (λ x. AppendsPrefix (g.O.Sink.written c.args.output.now) (g.O.Sink.written c.write_all.new.sink) x) (c.as_slice.ensures ∙ text) c.in-Err.ensures.prefix in
-      unfinished settings small c.args.lister.now c.left-left.result (λ fed frames rest heads holds. c.left-left.ensures.stands fed frames rest heads holds.stands) a b s _ ended f r c.args.ending h _ _ _ c.in_default.not-WriteFault c.in_default.not-NoMemory le w c.in-Err.ensures.failed written;
+      let written = subst (λ x. AppendsPrefix (g.O.Sink.state c.args.output.now).written (g.O.Sink.state c.write_all.new.sink).written x) (c.as_slice.ensures ∙ text) c.in-Err.ensures.prefix in
+      unfinished settings (omega (arith, small)) c.args.lister.now c.left-left.result (λ fed holds. c.left-left.ensures.stands fed holds.stands) from to before (g.O.Sink.state c.args.output.now) c.args.ending _ c.in_default.not-WriteFault c.in_default-ending.not-NoMemory le w c.in-Err.ensures.failed written;
   answers = λ e. absurd (omega arith);
 }

@@ -4,7 +4,7 @@ use Rattle.beep_cmd.proofs.show.show.Goals as goal
 
 pub returns-in-Ok-clause-shown : goal.returns-in-Ok-clause-shown
 returns-in-Ok-clause-shown g c =
-    c.finish.ensures.finishes c.args.settings _ _ _ _ _ _ _ (omega arith) c.list_input-ending.ensures.kept (c.list_input-ending.ensures.goes c.args.settings.elements c.in-Ok.ensures)
+    c.finish.ensures.finishes c.args.settings _ _ _ (omega arith) c.list_input-ending.ensures.kept (c.list_input-ending.ensures.goes c.args.settings.elements c.in-Ok.ensures)
 
 pub returns-in-Ok-clause-no_memory : goal.returns-in-Ok-clause-no_memory
 returns-in-Ok-clause-no_memory g c = λ e no_elements.
@@ -13,4 +13,4 @@ returns-in-Ok-clause-no_memory g c = λ e no_elements.
     absurd (cc)
 
 pub returns-in-Err-clause-shown : goal.returns-in-Err-clause-shown
-returns-in-Err-clause-shown g c = starved_first c.args.settings _ _ _ _ _
+returns-in-Err-clause-shown g c = starved_first c.args.settings _ _

@@ -4,8 +4,8 @@ use Rattle.beep_frame.proofs.finder.find_payload.Goals as goal
 
 pub returns-then-count-from-clause-found : goal.returns-then-count-from-clause-found
 returns-then-count-from-clause-found c =
-    λ rest heads line at. payload_more rest c.args.bytes.now heads c.args.left at.0 at.1 at.2 at.3 line (omega arith)
+    λ rest known line at. payload_more rest c.args.bytes.now known c.args.left at.0 at.1 at.2 at.3 line (omega arith)
 
 pub returns-clause-found : goal.returns-clause-found
 returns-clause-found c =
-    λ rest heads line at. shifted rest c.args.bytes.now _ c.args.left c.find_trailer-count.result.0 (omega arith) refl c.find_trailer-count.result.1 c.find_trailer-count.new.place line heads (c.find_trailer-count.ensures.found _ heads line (payload_whole rest c.args.bytes.now heads c.args.left at.0 at.1 at.2 at.3 line (omega arith)))
+    λ rest known line at. shifted rest c.args.bytes.now _ c.args.left c.find_trailer-count.result.0 (omega arith) refl c.find_trailer-count.result.1 c.find_trailer-count.new.place line known (c.find_trailer-count.ensures.found _ known line (payload_whole rest c.args.bytes.now known c.args.left at.0 at.1 at.2 at.3 line (omega arith)))

@@ -1,6 +1,6 @@
 use Rattle.std.proofs.Common.{ap, ◌∙◌, arith}
 use Rattle.std.specs.List.{list_all}
-use Rattle.beep_text.specs.Characters.{is_allowed}
+use Rattle.beep_chars.specs.Characters.{is_allowed}
 use Rattle.beep_mgmt.proofs.BackLemmas.{decimal-allowed}
 use Rattle.beep_mgmt.proofs.build.close_as.Goals as goal
 

@@ -1,6 +1,6 @@
 use Rattle.std.proofs.Common.{◌∙◌, ap, arith, map, List}
 use Rattle.std.specs.List.{list_all}
-use Rattle.beep_text.specs.Characters.{is_allowed}
+use Rattle.beep_chars.specs.Characters.{is_allowed}
 use Rattle.beep_mgmt.specs.declared.profile.Profile.{Profile}
 use Rattle.beep_mgmt.specs.Form.{plain_profile}
 use Rattle.beep_mgmt.specs.Written.{is_uri_allowed}

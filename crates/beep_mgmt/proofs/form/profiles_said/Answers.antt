@@ -1,6 +1,6 @@
 use Rattle.std.proofs.Common.{arith, sym, ◌∙◌, ap}
 use Rattle.beep_mgmt.specs.Parts.{with_part}
-use Rattle.beep_mgmt.proofs.BoolLemmas.{none_where}
+use Rattle.beep_chars.proofs.BoolLemmas.{none_where}
 use Rattle.beep_mgmt.proofs.PartLemmas.{profiles_said-none}
 use Rattle.beep_mgmt.proofs.form.profiles_said.Goals as goal
 

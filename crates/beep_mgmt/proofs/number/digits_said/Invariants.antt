@@ -1,6 +1,6 @@
 use Rattle.std.proofs.Common.{◌≡◌, ◌<◌, ◌^◌, take, true}
 use Rattle.std.specs.List.{list_all}
-use Rattle.beep_text.specs.Characters.{is_digit}
+use Rattle.beep_chars.specs.Characters.{is_digit}
 use Rattle.beep_text.specs.Elements.{number_of}
 use Rattle.beep_mgmt.proofs.number.digits_said.Given as goal
 

@@ -1,6 +1,6 @@
 use Rattle.std.proofs.Common.{◌≡◌, take, not}
 use Rattle.std.specs.List.{filter}
-use Rattle.beep_text.specs.Characters.{is_space}
+use Rattle.beep_chars.specs.Characters.{is_space}
 use Rattle.beep_mgmt.proofs.said.symbols_in.Given as goal
 
 abbrev pub invariant-loop-octet : goal.invariant-loop-octet

@@ -7,8 +7,8 @@ abbrev pub invariant-loop-at : goal.invariant-loop-at
 invariant-loop-at g l = record {
   within : l.at ≤ length l.bytes;
   empty : length l.bytes ≡ 0 → l.sink ≡ l.initial.sink;
-  kept : g.S.Sink.faults l.initial.sink ≤ g.S.Sink.faults l.sink;
-  appended : Appends (g.S.Sink.written l.initial.sink) (g.S.Sink.written l.sink) (take l.at l.bytes);
+  kept : (g.S.Sink.state l.initial.sink).faults ≤ (g.S.Sink.state l.sink).faults;
+  appended : Appends (g.S.Sink.state l.initial.sink).written (g.S.Sink.state l.sink).written (take l.at l.bytes);
 }
 
 abbrev pub decreases-loop-at : goal.decreases-loop-at

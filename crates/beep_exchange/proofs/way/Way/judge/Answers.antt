@@ -1,6 +1,6 @@
 -- The two lists of rules are asked one after the other.
 use Rattle.std.proofs.Common.{sym, ◌∙◌}
-use Rattle.beep_frame.proofs.RulesLemmas.{first_of-some, first_of-none}
+use Rattle.beep_history.proofs.RulesLemmas.{first_of-some, first_of-none}
 use Rattle.beep_exchange.specs.Kept.{judged, shape_tests, limit_tests}
 use Rattle.beep_exchange.proofs.way.Way.judge.Goals as goal
 

@@ -1,0 +1,3 @@
+pub mod BoolLemmas
+mod TextLemmas
+pub mod WordLemmas

@@ -1,0 +1,4 @@
+//! What this project takes of names, where the standard sets no bound.
+
+/// The most octets that a name has, so that a name is held in little memory.
+pub const MAX_NAME: usize = 64;

@@ -1,0 +1,114 @@
+//! The command `replay`: a recorded session, judged by the rules of both of its directions.
+ghost use Rattle.std.specs.Prelude.{◌≡◌, ◌+◌, ◌≤◌, ◌++◌, false, [], length, IfOk, OnErr};
+ghost use Rattle.beep_wires.specs.States.{SourceState, SinkState};
+ghost use Rattle.beep_cmd.specs.Gathering.{ReadsFew};
+ghost use Rattle.beep_cmd.specs.Judging.{TellsLog, TellsInput, verdict_status, verdict_line};
+ghost use Rattle.beep_cmd.specs.Replay.{Replayed, IsJudgement};
+ghost use Rattle.beep_cmd.specs.Show.{run_of};
+
+use crate::input::{MAX_INPUT, Unread, read_input};
+use crate::text::{LAST_ROOM, append_broken, append_numbered, append_written};
+use beep_octets::{NoMemory, Octets};
+use beep_record::{Log, RecordError, Verdict, read_record};
+use beep_wires::{Failed, Sink, Source, write_all};
+use std::alloc::Global;
+
+/// Runs `replay`. It writes nothing before the whole input is judged.
+pub(crate) fn replay<I: Source, O: Sink>(alloc: Global, input: &mut I, output: &mut O) -> u8
+    requires going { (I.state input.old).ended ≡ false }
+    ensures replayed { Replayed result (run_of (I.state input.old) (I.state input.new)
+        (O.state output.old) (O.state output.new)) }
+    ensures unwritten { result ≡ 7 → output.new ≡ output.old }
+    ensures reads { (I.state input.new).reads ≤ (I.state input.old).reads + (MAX_INPUT + 1) }
+{
+    let mut out = Octets::new(alloc);
+    match tell_input(alloc, input, &mut out) {
+        Ok(status) => write_report(&out, status, output),
+        Err(NoMemory) => 7,
+    }
+}
+
+/// Writes a report, and answers its status.
+fn write_report<O: Sink>(out: &Octets, status: u8, output: &mut O) -> u8
+    ensures wrote { (from to : SourceState) → TellsInput status out.now.octets from to
+        → Replayed result (run_of from to (O.state output.old) (O.state output.new)) }
+    ensures memory { (from to : SourceState) → TellsInput status out.now.octets from to
+        → result ≡ 7 → output.new ≡ output.old }
+{
+    match write_all(output, out.as_slice()) {
+        Ok(()) => status,
+        Err(Failed) => 5,
+    }
+}
+
+/// Makes the report of an input, and answers its status.
+fn tell_input<I: Source>(alloc: Global, input: &mut I, out: &mut Octets) -> Result<u8, NoMemory>
+    requires going { (I.state input.old).ended ≡ false }
+    requires empty { out.old.octets ≡ [] }
+    ensures ok { IfOk result (λ status.
+        TellsInput status out.new.octets (I.state input.old) (I.state input.new)) }
+    ensures err { OnErr result (ReadsFew (I.state input.old) (I.state input.new)) }
+    ensures reads { (I.state input.new).reads ≤ (I.state input.old).reads + (MAX_INPUT + 1) }
+{
+    out.reserve(LAST_ROOM)?;
+    match read_input(alloc, input) {
+        Ok(octets) => tell_record(octets, out),
+        Err(Unread::TooLong) => {
+            append_numbered(out, b"! bad ", MAX_INPUT as u64);
+            Ok(2)
+        }
+        Err(Unread::Fault) => {
+            out.extend_within(b"! read fault\n");
+            Ok(4)
+        }
+        Err(Unread::NoMemory) => Err(NoMemory),
+    }
+}
+
+/// Makes the report of a whole input. The octets are dropped once they are read as a log.
+fn tell_record(octets: Vec<u8>, out: &mut Octets) -> Result<u8, NoMemory>
+    requires empty { out.old.octets ≡ [] }
+    requires room { LAST_ROOM ≤ out.old.spare }
+    ensures { IfOk result (λ status. length octets.items ≤ MAX_INPUT
+        → IsJudgement octets.items out.new.octets status) }
+{
+    let read = read_record(out.alloc(), octets.as_slice());
+    drop(octets);
+    match read {
+        Ok(log) => tell_log(&log, out),
+        Err(RecordError::BadRecord(place)) => {
+            append_numbered(out, b"! bad ", place);
+            Ok(2)
+        }
+        Err(RecordError::NoMemory) => Err(NoMemory),
+    }
+}
+
+/// Appends the report of a log, and answers its status.
+fn tell_log(log: &Log, out: &mut Octets) -> Result<u8, NoMemory>
+    ensures { IfOk result (λ status.
+        TellsLog log.now.entries status out.old.octets out.new.octets) }
+{
+    let verdict = beep_record::replay(out.alloc(), log, out)?;
+    out.reserve(LAST_ROOM)?;
+    Ok(append_verdict(out, verdict))
+}
+
+/// Appends the last line of a verdict, where it finds room, and answers its status.
+fn append_verdict(out: &mut Octets, verdict: Verdict) -> u8
+    ensures status { result ≡ verdict_status verdict }
+    ensures appended { LAST_ROOM ≤ out.old.spare
+        → out.new.octets ≡ out.old.octets ++ verdict_line verdict }
+{
+    match verdict {
+        Verdict::Fine => 0,
+        Verdict::Broken(rule, place) => {
+            append_broken(out, rule, place);
+            3
+        }
+        Verdict::Written(rule, place) => {
+            append_written(out, rule, place);
+            2
+        }
+    }
+}

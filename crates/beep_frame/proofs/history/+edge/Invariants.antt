@@ -1,5 +1,0 @@
-use Rattle.std.proofs.Common.{length}
-use Rattle.beep_frame.proofs.history.+edge.Given as goal
-
-abbrev pub decreases-edge : goal.decreases-edge
-decreases-edge l = length l.past.now

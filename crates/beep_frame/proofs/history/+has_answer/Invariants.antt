@@ -1,5 +1,0 @@
-use Rattle.std.proofs.Common.{length}
-use Rattle.beep_frame.proofs.history.+has_answer.Given as goal
-
-abbrev pub decreases-has_answer : goal.decreases-has_answer
-decreases-has_answer l = length l.past.now

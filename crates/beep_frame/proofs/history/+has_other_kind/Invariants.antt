@@ -1,5 +1,0 @@
-use Rattle.std.proofs.Common.{length}
-use Rattle.beep_frame.proofs.history.+has_other_kind.Given as goal
-
-abbrev pub decreases-has_other_kind : goal.decreases-has_other_kind
-decreases-has_other_kind l = length l.past.now

@@ -1,5 +1,0 @@
-use Rattle.std.proofs.Common.{length}
-use Rattle.beep_frame.proofs.history.+has_waiting_before.Given as goal
-
-abbrev pub decreases-has_waiting_before : goal.decreases-has_waiting_before
-decreases-has_waiting_before l = length l.part.now

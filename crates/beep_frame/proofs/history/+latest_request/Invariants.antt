@@ -1,5 +1,0 @@
-use Rattle.std.proofs.Common.{length}
-use Rattle.beep_frame.proofs.history.+latest_request.Given as goal
-
-abbrev pub decreases-latest_request : goal.decreases-latest_request
-decreases-latest_request l = length l.past.now

@@ -1,5 +1,0 @@
-use Rattle.std.proofs.Common.{length}
-use Rattle.beep_frame.proofs.history.+octets_begun.Given as goal
-
-abbrev pub decreases-octets_begun : goal.decreases-octets_begun
-decreases-octets_begun l = length l.past.now

@@ -1,5 +1,0 @@
-use Rattle.std.proofs.Common.{length}
-use Rattle.beep_frame.proofs.history.+waiting_count.Given as goal
-
-abbrev pub decreases-waiting_count : goal.decreases-waiting_count
-decreases-waiting_count l = length l.part.now

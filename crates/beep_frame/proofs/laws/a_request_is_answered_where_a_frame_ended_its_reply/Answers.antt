@@ -1,5 +1,0 @@
-use Rattle.beep_frame.proofs.MomentsLemmas.{answered-moment}
-use Rattle.beep_frame.proofs.laws.a_request_is_answered_where_a_frame_ended_its_reply.Goals as goal
-
-pub returns : goal.returns
-returns c = answered-moment

@@ -1,5 +1,0 @@
-use Rattle.beep_frame.proofs.MomentsLemmas.{waiting-moment}
-use Rattle.beep_frame.proofs.laws.a_request_waits_where_it_was_asked_and_not_answered.Goals as goal
-
-pub returns : goal.returns
-returns c = waiting-moment

@@ -1,5 +1,0 @@
-use Rattle.beep_frame.proofs.MarksLemmas.{marks-ends}
-use Rattle.beep_frame.proofs.laws.end_marks_are_the_complete_frames.Goals as goal
-
-pub returns : goal.returns
-returns c = marks-ends

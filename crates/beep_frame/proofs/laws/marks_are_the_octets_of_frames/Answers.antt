@@ -1,5 +1,0 @@
-use Rattle.beep_frame.proofs.MarksLemmas.{marks-octets}
-use Rattle.beep_frame.proofs.laws.marks_are_the_octets_of_frames.Goals as goal
-
-pub returns : goal.returns
-returns c = marks-octets

@@ -1,5 +1,0 @@
-use Rattle.beep_frame.proofs.RulesLemmas.{octets-between}
-use Rattle.beep_frame.proofs.laws.the_rules_on_octets_stand_before_those_on_limits.Goals as goal
-
-pub returns : goal.returns
-returns c = octets-between

@@ -1,0 +1,5 @@
+pub mod LivesLemmas
+pub mod LifeLemmas
+pub mod OctetLemmas
+pub mod ShownLemmas
+pub mod PiecesLemmas

@@ -1,0 +1,21 @@
+-- The life of the number moves one step.
+use Rattle.std.proofs.Common.{◌≡◌, ◌==◌, ℕ, Some, cond, sym, refl, arith}
+use Rattle.std.proofs.lemmas.Grind.{common_steps}
+use Rattle.std.specs.Ordering.{nat_cmp}
+use Rattle.std.specs.BTreeMap.{get}
+use Rattle.beep_judge.proofs.ChannelsLemmas.{at-one, above-one, not-zero}
+use Rattle.beep_judge.proofs.channels.Channels.obey.Goals as goal
+
+pub returns-in-Some-clause-some : goal.returns-in-Some-clause-some
+returns-in-Some-clause-some c some =
+    let at : (q : ℕ) → get nat_cmp (c.get_mut.follows.lender c.obey-in-Some.new.self) q
+    ≡ cond (c.args.seq.now.channel == q) (Some c.obey-in-Some.new.self) (get nat_cmp c.args.self.now.lives q) = λ q. grind (arith, common_steps) in
+    record {
+      before = c.in-Some.life.now;
+      was = above-one c.args.self.now c.args.seq.now.channel c.in-Some.life.now (not-zero _ c.if-seq-eq0.false) (sym c.in-Some.ensures.value);
+      after = c.obey-in-Some.new.self;
+      step = record { stands = c.obey-in-Some.ensures.stands; received = c.obey-in-Some.ensures.received; sent = c.obey-in-Some.ensures.sent; stamp = c.obey-in-Some.ensures.stamp };
+      at = at-one c.args.self.now (record { alloc = c.args.self.now.alloc; zero = c.args.self.now.zero; lives = c.get_mut.follows.lender c.obey-in-Some.new.self; stamps = c.args.self.now.stamps; released = c.args.self.now.released }) c.args.seq.now.channel c.obey-in-Some.new.self (not-zero _ c.if-seq-eq0.false) refl at;
+      stamps = refl;
+      released = refl;
+    }

@@ -1,7 +1,0 @@
-use Rattle.std.proofs.Common.{ap, ◌∙◌}
-use Rattle.std.specs.Prelude.{bytes_eq}
-use Rattle.beep_mgmt.proofs.WordLemmas.{chars-name}
-use Rattle.beep_mgmt.proofs.word.is_word.Goals as goal
-
-pub returns : goal.returns
-returns c = c.is.ensures ∙ ap (bytes_eq c.args.text.now) (chars-name c.args.word.now c.requires)

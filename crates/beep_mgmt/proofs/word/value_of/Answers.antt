@@ -1,7 +1,0 @@
-use Rattle.std.proofs.Common.{ap, ◌∙◌}
-use Rattle.beep_text.specs.Lawful.{value_named}
-use Rattle.beep_mgmt.proofs.WordLemmas.{chars-name}
-use Rattle.beep_mgmt.proofs.word.value_of.Goals as goal
-
-pub returns : goal.returns
-returns c = c.attr.ensures ∙ ap (λ name. value_named name c.args.element.now.attrs) (chars-name c.args.name.now c.requires)

@@ -1,0 +1,11 @@
+pub mod AliveLemmas
+pub mod FollowLemmas
+pub mod LawLemmas
+pub mod LogLemmas
+pub mod OctetLemmas
+pub mod ReachedLemmas
+pub mod ReadLemmas
+pub mod ReplayLemmas
+pub mod RunLemmas
+pub mod StepLemmas
+pub mod WrittenLemmas

@@ -1,0 +1,69 @@
+//! How an octet is written in a record, and which octets may follow in the text of one.
+ghost use Rattle.std.specs.Prelude.{◌≡◌, ◌<◌, ◌++◌, OnOk};
+ghost use Rattle.beep_record.specs.Record.{is_plain, hex_digit, octet_text};
+ghost use Rattle.beep_record.specs.Machine.{is_hex, digit_of, is_hexed, is_high};
+
+use beep_octets::{NoMemory, Octets};
+
+/// Whether the octet stands for itself.
+pub(crate) fn is_plain(octet: u8) -> bool
+    ensures { result ≡ is_plain octet }
+{
+    32 <= octet && octet <= 126 && octet != b'\\'
+}
+
+/// Whether the octet is a hexadecimal digit in lower case.
+pub(crate) fn is_hex(octet: u8) -> bool
+    ensures { result ≡ is_hex octet }
+{
+    (b'0' <= octet && octet <= b'9') || (b'a' <= octet && octet <= b'f')
+}
+
+/// What a hexadecimal digit stands for.
+pub(crate) fn digit_of(octet: u8) -> u8
+    ensures { result ≡ digit_of octet }
+{
+    if octet <= b'9' {
+        octet.saturating_sub(b'0')
+    } else {
+        octet.saturating_sub(87)
+    }
+}
+
+/// Whether an octet is written by two digits.
+pub(crate) fn is_hexed(octet: u8) -> bool
+    ensures { result ≡ is_hexed octet }
+{
+    (octet < 32 && octet != b'\n' && octet != b'\r') || 126 < octet
+}
+
+/// Whether this is the first digit of such an octet.
+pub(crate) fn is_high(digit: u8) -> bool
+    ensures { result ≡ is_high digit }
+{
+    digit < 2 || 7 <= digit
+}
+
+/// The digit of a number below 16.
+fn hex_digit(n: u8) -> u8
+    requires { n < 16 }
+    ensures { result ≡ hex_digit n }
+{
+    if n < 10 { b'0' + n } else { 87 + n }
+}
+
+/// Appends an octet as it is written.
+#[tactic(auto, unfolding(crate::specs::Record::octet_text))]
+pub(crate) fn put_octet(octet: u8, out: &mut Octets) -> Result<(), NoMemory>
+    ensures { OnOk result (out.new.octets ≡ out.old.octets ++ octet_text octet) }
+{
+    if is_plain(octet) {
+        return out.extend(&[octet]);
+    }
+    match octet {
+        b'\r' => out.extend(b"\\r"),
+        b'\n' => out.extend(b"\\n"),
+        b'\\' => out.extend(b"\\\\"),
+        _ => out.extend(&[b'\\', hex_digit(octet / 16), hex_digit(octet % 16)]),
+    }
+}

@@ -1,0 +1,282 @@
+//! The reader of records, one octet at a time.
+ghost use Rattle.std.specs.Prelude.{◌≡◌, ◌<◌, true, length, Some, IfOk, OnOk};
+ghost use Rattle.beep_journal.specs.Log.{quiet, ended};
+ghost use Rattle.beep_record.specs.Machine.{first_step, start_step, fresh_step, slash_step, high_step, piece_step, line_step, alone_step, status_step, code_step, digits_step, kept, with_entry, after_first, step, start};
+ghost use Rattle.beep_record.specs.Logged.{entry_of};
+ghost use Rattle.beep_record.specs.Record.{first_line, piece_of};
+ghost use Rattle.beep_record.specs.Reading.{state_of, Steps, IsNumbered};
+
+use crate::limits::MAX_PIECE;
+use crate::log::{Entry, LogEntries};
+use crate::mode::{Mode, Part};
+use crate::octet::{digit_of, is_hex, is_hexed, is_high, is_plain};
+use beep_history::Side;
+use beep_journal::Role;
+use beep_octets::{NoMemory, Octets};
+use std::alloc::Global;
+
+/// Where in a record a reader stands, and what it has read.
+#[derive(Drop)]
+pub(crate) struct Reader {
+    pub(crate) mode: Mode,
+    pub(crate) role: Role,
+    /// Whether the end of the peer's octets came.
+    pub(crate) over: bool,
+    pub(crate) entries: LogEntries,
+    /// The piece that is under way.
+    pub(crate) piece: Octets,
+}
+
+/// The first line of a record.
+pub(crate) fn first_line(role: Role) -> &'static [u8]
+    ensures { result.now ≡ first_line role }
+{
+    match role {
+        Role::Initiator => b"beep-record 1 initiator\n",
+        Role::Listener => b"beep-record 1 listener\n",
+    }
+}
+
+impl Reader {
+    /// A reader before any octet.
+    pub(crate) fn new(alloc: Global) -> Reader
+        ensures { state_of result ≡ start }
+    {
+        Reader {
+            mode: Mode::First(Role::Initiator, 0),
+            role: Role::Initiator,
+            over: false,
+            entries: LogEntries::new(alloc),
+            piece: Octets::new(alloc),
+        }
+    }
+
+    fn first(&mut self, role: Role, count: u8, octet: u8) -> bool
+        requires { count < length (first_line role) }
+        ensures { Steps (first_step (state_of self.old) role count octet) result
+            (state_of self.new) }
+    {
+        let line = first_line(role);
+        let at = count as usize;
+        if octet == line[at] {
+            self.after_first(role, count + 1);
+            return true;
+        }
+        if count == 14 && octet == b'l' {
+            self.mode = Mode::First(Role::Listener, 15);
+            return true;
+        }
+        false
+    }
+
+    fn after_first(&mut self, role: Role, count: u8)
+        ensures { state_of self.new ≡ after_first (state_of self.old) role count }
+    {
+        if count as usize == first_line(role).len() {
+            self.role = role;
+            self.mode = Mode::Start;
+        } else {
+            self.mode = Mode::First(role, count);
+        }
+    }
+
+    fn start(&mut self, octet: u8) -> bool
+        ensures { Steps (start_step (state_of self.old) octet) result (state_of self.new) }
+    {
+        let mode = match octet {
+            b'W' => Mode::Line(Side::Sent),
+            b'S' => Mode::Status,
+            _ if self.over => return false,
+            b'R' => Mode::Line(Side::Received),
+            b'Q' => Mode::Quiet,
+            b'E' => Mode::Ended,
+            _ => return false,
+        };
+        self.mode = mode;
+        true
+    }
+
+    fn line(&mut self, side: Side, octet: u8) -> bool
+        ensures { Steps (line_step (state_of self.old) side octet) result (state_of self.new) }
+    {
+        if octet != b' ' {
+            return false;
+        }
+        self.mode = Mode::Piece(side, Part::Fresh);
+        self.piece.clear();
+        true
+    }
+
+    fn fresh(&mut self, side: Side, octet: u8) -> Result<bool, NoMemory>
+        ensures { IfOk result (λ went.
+            Steps (fresh_step (state_of self.old) side octet) went (state_of self.new)) }
+    {
+        if octet == b'\n' {
+            if self.piece.is_empty() {
+                return Ok(false);
+            }
+            self.end_piece(side)?;
+            return Ok(true);
+        }
+        if MAX_PIECE <= self.piece.len() {
+            return Ok(false);
+        }
+        if octet == b'\\' {
+            self.mode = Mode::Piece(side, Part::Slash);
+            return Ok(true);
+        }
+        if is_plain(octet) {
+            self.keep(side, octet)?;
+            return Ok(true);
+        }
+        Ok(false)
+    }
+
+    fn slash(&mut self, side: Side, octet: u8) -> Result<bool, NoMemory>
+        ensures { IfOk result (λ went.
+            Steps (slash_step (state_of self.old) side octet) went (state_of self.new)) }
+    {
+        match octet {
+            b'r' => self.keep(side, b'\r')?,
+            b'n' => self.keep(side, b'\n')?,
+            b'\\' => self.keep(side, b'\\')?,
+            _ => {
+                let digit = digit_of(octet);
+                if !(is_hex(octet) && is_high(digit)) {
+                    return Ok(false);
+                }
+                self.mode = Mode::Piece(side, Part::High(digit));
+            }
+        }
+        Ok(true)
+    }
+
+    fn high(&mut self, side: Side, digit: u8, octet: u8) -> Result<bool, NoMemory>
+        requires { digit < 16 }
+        ensures { IfOk result (λ went.
+            Steps (high_step (state_of self.old) side digit octet) went (state_of self.new)) }
+    {
+        if !is_hex(octet) {
+            return Ok(false);
+        }
+        let whole = 16 * digit + digit_of(octet);
+        if !is_hexed(whole) {
+            return Ok(false);
+        }
+        self.keep(side, whole)?;
+        Ok(true)
+    }
+
+    /// Keeps one more octet of a piece.
+    fn keep(&mut self, side: Side, octet: u8) -> Result<(), NoMemory>
+        ensures { OnOk result (kept (state_of self.old) side octet ≡ Some (state_of self.new)) }
+    {
+        self.mode = Mode::Piece(side, Part::Fresh);
+        self.piece.extend(&[octet])
+    }
+
+    /// Ends the line of a piece.
+    fn end_piece(&mut self, side: Side) -> Result<(), NoMemory>
+        ensures { OnOk result (state_of self.new
+            ≡ with_entry (state_of self.old) (piece_of side self.old.piece.octets) self.old.over) }
+    {
+        let mut piece = Octets::new(self.piece.alloc());
+        piece.extend(self.piece.as_slice())?;
+        self.end_line(match side {
+            Side::Received => Entry::Read(piece),
+            Side::Sent => Entry::Wrote(piece),
+        })
+    }
+
+    /// Ends a line.
+    fn end_line(&mut self, entry: Entry) -> Result<(), NoMemory>
+        ensures { OnOk result (state_of self.new
+            ≡ with_entry (state_of self.old) (entry_of entry) self.old.over) }
+    {
+        self.mode = Mode::Start;
+        self.piece.clear();
+        self.entries.push(entry)
+    }
+
+    fn quiet(&mut self, octet: u8) -> Result<bool, NoMemory>
+        ensures { IfOk result (λ went.
+            Steps (alone_step (state_of self.old) quiet self.old.over octet) went
+            (state_of self.new)) }
+    {
+        if octet != b'\n' {
+            return Ok(false);
+        }
+        self.end_line(Entry::Quiet)?;
+        Ok(true)
+    }
+
+    fn ended(&mut self, octet: u8) -> Result<bool, NoMemory>
+        ensures { IfOk result (λ went.
+            Steps (alone_step (state_of self.old) ended true octet) went (state_of self.new)) }
+    {
+        if octet != b'\n' {
+            return Ok(false);
+        }
+        self.over = true;
+        self.end_line(Entry::Ended)?;
+        Ok(true)
+    }
+
+    fn status(&mut self, octet: u8) -> bool
+        ensures { Steps (status_step (state_of self.old) octet) result (state_of self.new) }
+    {
+        if octet != b' ' {
+            return false;
+        }
+        self.mode = Mode::Code;
+        true
+    }
+
+    fn code(&mut self, octet: u8) -> bool
+        ensures { Steps (code_step (state_of self.old) octet) result (state_of self.new) }
+    {
+        if !(b'0' <= octet && octet <= b'9') {
+            return false;
+        }
+        self.mode = Mode::Digits(octet - b'0');
+        true
+    }
+
+    fn digits(&mut self, code: u8, octet: u8) -> bool
+        ensures { Steps (digits_step (state_of self.old) code octet) result (state_of self.new) }
+    {
+        if octet == b'\n' {
+            self.mode = Mode::Over(code);
+        } else if code == 1 && octet == b'0' {
+            self.mode = Mode::Digits(10);
+        } else if code == 1 && octet == b'1' {
+            self.mode = Mode::Digits(11);
+        } else {
+            return false;
+        }
+        true
+    }
+
+    /// Takes one octet, where one can follow.
+    #[tactic(auto, unfolding(crate::specs::Machine::step))]
+    pub(crate) fn take(&mut self, octet: u8) -> Result<bool, NoMemory>
+        requires { IsNumbered self.old.mode }
+        ensures { IfOk result (λ went.
+            Steps (step (state_of self.old) octet) went (state_of self.new)) }
+    {
+        match self.mode {
+            Mode::First(role, count) => Ok(self.first(role, count, octet)),
+            Mode::Start => Ok(self.start(octet)),
+            Mode::Line(side) => Ok(self.line(side, octet)),
+            Mode::Piece(side, Part::Fresh) => self.fresh(side, octet),
+            Mode::Piece(side, Part::Slash) => self.slash(side, octet),
+            Mode::Piece(side, Part::High(digit)) => self.high(side, digit, octet),
+            Mode::Quiet => self.quiet(octet),
+            Mode::Ended => self.ended(octet),
+            Mode::Status => Ok(self.status(octet)),
+            Mode::Code => Ok(self.code(octet)),
+            Mode::Digits(code) => Ok(self.digits(code, octet)),
+            Mode::Over(_) => Ok(false),
+        }
+    }
+}

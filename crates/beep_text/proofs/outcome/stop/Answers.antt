@@ -1,5 +1,0 @@
-use Rattle.beep_text.proofs.OutcomeLemmas.{empty_alive}
-use Rattle.beep_text.proofs.outcome.stop.Goals as goal
-
-pub loop-at-init : goal.loop-at-init
-loop-at-init c = empty_alive

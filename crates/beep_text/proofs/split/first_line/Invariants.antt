@@ -1,6 +1,0 @@
-use Rattle.std.proofs.Common.{◌≡◌, [], take, drop}
-use Rattle.beep_text.specs.Split.{lines_after}
-use Rattle.beep_text.proofs.split.first_line.Given as goal
-
-abbrev pub invariant-loop-i : goal.invariant-loop-i
-invariant-loop-i l = lines_after [] l.bytes ≡ lines_after (take l.i l.bytes) (drop l.i l.bytes)
