@@ -79,7 +79,7 @@ read_first octets read None after e c = let two : None ≡ Some octets = e in ab
 read_first octets read (Some xs) None e c = absurd c
 read_first octets read (Some xs) (Some ys) e c = let same : xs ≡ octets = cc in (ys, sym same ∙ c, refl)
 
--- behind the end nothing is left
+-- after the end nothing is left
 pub at_end : (after : Option (List ℕ)) (others : List ℕ) → after ≡ Some others → IsAtEnd after → others ≡ []
 at_end None others e end = let two : None ≡ Some others = e in absurd (cc)
 at_end (Some ys) others e end = let same : ys ≡ others = cc in sym same ∙ end

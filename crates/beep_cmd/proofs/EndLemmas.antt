@@ -66,7 +66,7 @@ record Reports (settings : Settings) (ending : Ending) (frames left : ℕ) (from
 abbrev pub LeftIs : Bool → Lister → ℕ → Type 0
 LeftIs elements l left = (fed : Fed) → Holds elements l fed → left ≡ modulo_2_64 (length fed.rest)
 
--- the stream breaks a rule behind the lines of these frames
+-- the stream breaks a rule after the lines of these frames
 breaks : (settings : Settings) (octets : List ℕ) (frames : List Frame) (lines : List ℕ) (rule : Rule) (place : ℕ) → settings.octets < 2 ^ 32 → length octets ≤ settings.octets → AreLines settings.elements (gathered []) frames lines → BreaksIn octets frames rule place → IsBroken settings octets (lines ++ broken_line rule place)
 breaks settings octets frames lines rule place small few w b =
     let size : length b.before ≤ settings.octets = omega (arith, ap length b.octets_are, length-append b.before (b.octet ∷ b.others)) in
@@ -194,7 +194,7 @@ clear_at settings Ending.WriteFault l from to before after x y w = absurd (x ref
 clear_at settings Ending.NoMemory l from to before after x y w = absurd (y refl)
 clear_at settings (Ending.Broken rule place) l from to before after x y w = w.clear
 
--- no other ending has the status of want of memory
+-- no other ending has the status of a run out of memory
 pub status_of-memory : (ending : Ending) (left : ℕ) → status_of ending left ≡ 7 → ending ≡ Ending.NoMemory
 status_of-memory (Ending.Ended n) left e = absurd (by_test (left == 0) e)
   where

@@ -32,7 +32,7 @@ pub prefix_after : (s t u : Option (List ℕ)) (first second : List ℕ) → App
 prefix_after s t u first second a p =
     (first ++ p.0, p.1, ap (λ x. first ++ x) p.2 ∙ sym (append_assoc first p.0 p.1), Appends-trans s t u first p.0 a p.3)
 
--- lines behind those of other frames
+-- lines after those of other frames
 lines_on : (elements : Bool) (frames more : List Frame) (t u : List ℕ) → AreLines elements (gathered []) frames t → AreLines elements (gathered frames) more u → AreLines elements (gathered []) (frames ++ more) (t ++ u)
 lines_on elements frames more t u a b = lines_append elements [] frames more t u a b
 

@@ -12,7 +12,7 @@ status_of Ending.WriteFault left = 5
 status_of Ending.NoMemory left = 7
 status_of (Ending.Broken rule place) left = 3
 
--- the line, behind so many frames
+-- the line, after so many frames
 abbrev pub last_line : Ending → ℕ → ℕ → List ℕ
 last_line (Ending.Ended octets) frames left = if left == 0 then totals_line frames octets else cut_line left
 last_line (Ending.Spent octets) frames left = spent_line octets

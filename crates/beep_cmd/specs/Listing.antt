@@ -83,7 +83,7 @@ abbrev pub HasRoom : Option Zero → Lister → Lister → Type 0
 HasRoom None old new = (new.out ≡ old.out) × (new.element.octets ≡ [])
 HasRoom (Some zero) old new = length new.element.octets + OUT_ROOM ≤ new.out.spare
 
--- what channel zero says with a data frame, behind these payloads of channel zero
+-- what channel zero says with a data frame, after these payloads of channel zero
 pub record SaysWith (f : Frame) (before : List ℕ) (old new : Lister) : Type 0 where
   pub zero : HasMessage new.zero (gathers before f)
   pub is_beside : IsBeside (lists_elements old.zero && ends_message f) (message_with before f) new.element.octets
@@ -101,7 +101,7 @@ pub record ListsMessage (old new : Lister) : Type 0 where
   pub says : (fed : List ℕ) (frames : List Frame) (head : Head) (payload before : List ℕ)
       → WasFed old.decoder (fed_of fed (frames ++ framed head payload ∷ []) [] None) → HasMessage old.zero before → SaysWith (framed head payload) before old new
 
--- one line more, and what stands beside it, of a data frame behind these payloads of channel zero
+-- one line more, and what stands beside it, of a data frame after these payloads of channel zero
 pub record EndsWith (f : Frame) (before : List ℕ) (old new : Lister) : Type 0 where
   pub zero : HasMessage new.zero (gathers before f)
   pub beside : List ℕ
@@ -141,7 +141,7 @@ pub record Holds (elements : Bool) (l : Lister) (fed : Fed) : Type 0 where
   pub elements_are : lists_elements l.zero ≡ elements
   pub message : HasMessage l.zero (gathered fed.frames)
 
--- these frames came behind those, and their lines were added
+-- these frames came after those, and their lines were added
 pub record Adds (elements : Bool) (frames more : List Frame) (old new : List ℕ) : Type 0 where
   pub text : List ℕ
   pub lines : AreLines elements (gathered frames) more text

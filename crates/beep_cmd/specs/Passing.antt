@@ -18,7 +18,7 @@ use Rattle.beep_cmd.specs.Show.{IsRead, HasEnded}
 use Rattle.beep_cmd.specs.Listing.{Reads, IsClear, gathered}
 use Rattle.beep_frame.specs.Fed.{fed_of}
 
--- an octet of these breaks the rule, behind these frames
+-- an octet of these breaks the rule, after these frames
 pub record BreaksIn (octets : List ℕ) (frames : List Frame) (rule : Rule) (place : ℕ) : Type 0 where
   pub before : List ℕ
   pub rest : List ℕ
@@ -42,7 +42,7 @@ pub record FirstOf (octets : List ℕ) (frames : List Frame) : Type 0 where
   pub octets_are : octets ≡ first ++ others
   pub read : IsRead first frames rest
 
--- the lines of these frames, behind those, were written
+-- the lines of these frames, after those, were written
 pub record Writes (elements : Bool) (frames more : List Frame) (old new : Option (List ℕ)) : Type 0 where
   pub text : List ℕ
   pub lines : AreLines elements (gathered frames) more text

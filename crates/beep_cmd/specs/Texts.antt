@@ -35,7 +35,7 @@ pub record IsElementLine (message line : List ℕ) : Type 0 where
   pub is_text : IsMessageText message text
   pub line_is : line ≡ indented text
 
--- the payload of a data frame of channel zero, behind those that came before it
+-- the payload of a data frame of channel zero, after those that came before it
 abbrev pub message_with : List ℕ → Frame → List ℕ
 message_with before (framed head payload) = if head.channel == 0 then before ++ payload else before
 message_with before (seq_frame seq) = before
@@ -56,7 +56,7 @@ pub data IsEntry (elements : Bool) (before : List ℕ) (f : Frame) (text : List 
   alone : (elements && ends_message f) ≡ false → text ≡ frame_line f → IsEntry elements before f text
   with_element : (elements && ends_message f) ≡ true → (line : List ℕ) → IsElementLine (message_with before f) line → text ≡ frame_line f ++ line → IsEntry elements before f text
 
--- the lines of frames, one after another, behind payloads of channel zero
+-- the lines of frames, one after another, after payloads of channel zero
 abbrev pub AreLines : Bool → List ℕ → List Frame → List ℕ → Type 0
 AreLines elements before [] text = text ≡ []
 AreLines elements before (f ∷ frames) text =
@@ -80,11 +80,11 @@ usage_line = codes "! usage\n"
 abbrev pub read_fault_line : List ℕ
 read_fault_line = codes "! read fault\n"
 
--- an input that ended behind so many octets of a frame
+-- an input that ended after so many octets of a frame
 abbrev pub cut_line : ℕ → List ℕ
 cut_line n = codes "! cut " ++ decimal n ++ 10 ∷ []
 
--- an input that goes on behind as many octets as are read
+-- an input that goes on after as many octets as are read
 abbrev pub spent_line : ℕ → List ℕ
 spent_line n = codes "! spent " ++ decimal n ++ 10 ∷ []
 

@@ -9,7 +9,7 @@ use beep_octets::Octets;
 /// What ended the reading.
 #[derive(Clone, Copy, Debug, PartialEq, Eq)]
 pub(crate) enum Ending {
-    /// The input ended behind so many octets.
+    /// The input ended after so many octets.
     Ended(u64),
     /// As many octets came as are read at most.
     Spent(u32),

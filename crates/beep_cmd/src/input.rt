@@ -49,7 +49,7 @@ pub(crate) fn read_input<I: Source>(alloc: Global, input: &mut I) -> Result<Vec<
     Err(Unread::TooLong)
 }
 
-/// Reads behind the octets that came, with room made where none is left.
+/// Reads to the end of the octets that came, with room made where none is left.
 fn read_piece<I: Source>(input: &mut I, octets: &mut Vec<u8>, count: usize) -> Result<usize, Unread>
     requires going { (I.state input.old).ended ≡ false }
     requires within { count ≤ vec_len octets.old }
@@ -74,7 +74,7 @@ fn read_piece<I: Source>(input: &mut I, octets: &mut Vec<u8>, count: usize) -> R
     read_at(input, octets.as_mut_slice(), count)
 }
 
-/// Makes room behind the octets that came, where none is left.
+/// Makes room after the octets that came, where none is left.
 fn make_room(octets: &mut Vec<u8>, count: usize) -> Result<(), NoMemory>
     requires within { count ≤ vec_len octets.old }
     requires most { vec_len octets.old ≤ MAX_INPUT + 1 }

@@ -13,7 +13,7 @@ use crate::words::{Command, command_of};
 use beep_wires::{Failed, Sink, Source, write_all};
 use std::alloc::Global;
 
-/// Runs the command that `words` name, the words behind the program's name, and answers the exit
+/// Runs the command that `words` name, the words after the program's name, and answers the exit
 /// status (docs/COMMANDS.md). It reads `input` and writes `output`, and nothing else.
 pub fn beep_run<I: Source, O: Sink>(
     alloc: Global,

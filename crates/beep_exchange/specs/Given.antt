@@ -8,6 +8,7 @@ use Rattle.std.specs.Option.{option_map_or}
 use Rattle.beep_frame.specs.declared.kind.Kind.{Kind}
 use Rattle.beep_frame.specs.declared.tag.Tag.{Tag}
 use Rattle.beep_history.specs.declared.limits.TheConstants.{MAX_REQUESTS}
+use Rattle.beep_frame.specs.Modulo.{modulo_2_64}
 use Rattle.beep_frame.specs.Frame.{is_msg, is_ans, is_reply}
 use Rattle.beep_history.specs.Marks.{without}
 use Rattle.beep_exchange.specs.declared.given.Given.{Given}
@@ -30,6 +31,11 @@ least (n ∷ ns) = Some (option_map_or (λ m. min n m) (least ns) n)
 abbrev pub without_least : List ℕ → List ℕ
 without_least ns = option_map_or (λ n. without n ns) (least ns) ns
 
+-- the number that a count of messages has on the wire: those of a header go up to 2147483647 (RFC
+-- 3080, section 2.2.1.1)
+abbrev pub message_number : ℕ → ℕ
+message_number count = count % 2 ^ 31
+
 -- ---- own requests
 
 -- the own requests that were given
@@ -48,9 +54,9 @@ asked_of (gave kind ∷ calls) =
 asked_of (took tag ∷ calls) =
     if ends_reply tag.kind then without tag.request (asked_of calls) else asked_of calls
 
--- the number of the oldest of these: its position modulo 2^31
+-- the number of the oldest of these
 abbrev pub first_asked_of : List Call → Option ℕ
-first_asked_of calls = option_map (λ position. position % 2 ^ 31) (least (asked_of calls))
+first_asked_of calls = option_map message_number (least (asked_of calls))
 
 -- ---- received requests
 
@@ -72,7 +78,7 @@ owed_of (took tag ∷ calls) = if is_msg tag.kind then tag.request ∷ owed_of c
 
 -- the least of these, as a call tells it
 abbrev pub first_owed_of : List Call → Option ℕ
-first_owed_of calls = option_map (λ position. position % 2 ^ 64) (least (owed_of calls))
+first_owed_of calls = option_map modulo_2_64 (least (owed_of calls))
 
 -- the answers given to it: those since the last whole reply
 abbrev pub answers_given : List Call → ℕ
@@ -82,10 +88,10 @@ answers_given (gave kind ∷ calls) =
     else (if is_msg kind then answers_given calls else 0)
 answers_given (took tag ∷ calls) = answers_given calls
 
--- the number of answers given to it, modulo 2^31
+-- the number of answers given to it, as a number of messages
 abbrev pub begun_answers_of : List Call → Option ℕ
 begun_answers_of calls =
-    if nat_lt 0 (answers_given calls) then Some (answers_given calls % 2 ^ 31) else None
+    if nat_lt 0 (answers_given calls) then Some (message_number (answers_given calls)) else None
 
 -- ---- channel zero
 
@@ -127,7 +133,7 @@ MayGive given Kind.Nul = 0 < given.owed
 -- the end of a message of this kind, which names the request at this position, may be taken
 abbrev pub MayTakeOf : Given → Kind → ℕ → Type 0
 MayTakeOf given Kind.Msg position =
-    (position ≡ (given.first_owed + given.owed) % 2 ^ 64) × (given.owed < MAX_REQUESTS)
+    (position ≡ modulo_2_64 (given.first_owed + given.owed)) × (given.owed < MAX_REQUESTS)
 MayTakeOf given Kind.Rpy position = (0 < given.asked) × (position ≡ given.first_asked)
 MayTakeOf given Kind.Err position = (0 < given.asked) × (position ≡ given.first_asked)
 MayTakeOf given Kind.Ans position = (0 < given.asked) × (position ≡ given.first_asked)
@@ -150,17 +156,17 @@ new_given is_zero = record {
 -- once a whole reply is given
 abbrev pub after_reply : Given → Given
 after_reply given =
-    record given { owed = given.owed - 1; first_owed = (given.first_owed + 1) % 2 ^ 64; answers = None }
+    record given { owed = given.owed - 1; first_owed = modulo_2_64 (given.first_owed + 1); answers = None }
 
 -- once a wholly taken reply has ended an own request
 abbrev pub after_end : Given → Given
 after_end given =
-    record given { asked = given.asked - 1; first_asked = (given.first_asked + 1) % 2 ^ 64 }
+    record given { asked = given.asked - 1; first_asked = modulo_2_64 (given.first_asked + 1) }
 
 -- the number of answers after one more
 abbrev pub next_answer : Option ℕ → ℕ
 next_answer None = 1
-next_answer (Some n) = (n + 1) % 2 ^ 31
+next_answer (Some n) = message_number (n + 1)
 
 -- once a message of this kind is given
 abbrev pub after_given : Given → Kind → Given
@@ -180,11 +186,11 @@ after_taken given Kind.Nul = after_end given
 
 -- the number of the oldest own request without a wholly taken reply
 abbrev pub first_asked_now : Given → Option ℕ
-first_asked_now given = if given.asked == 0 then None else Some (given.first_asked % 2 ^ 31)
+first_asked_now given = if given.asked == 0 then None else Some (message_number given.first_asked)
 
 -- the position that the next own request has, as a call tells it
 abbrev pub next_asked_now : Given → ℕ
-next_asked_now given = (given.first_asked + given.asked) % 2 ^ 64
+next_asked_now given = modulo_2_64 (given.first_asked + given.asked)
 
 -- the position of the oldest received request, wholly taken, without a whole reply given
 abbrev pub first_owed_now : Given → Option ℕ
@@ -202,9 +208,9 @@ pub record Counts (given : Given) (calls : List Call) : Type 0 where
   pub oldest_asked : ℕ
   pub asked : asked_of calls ≡ run oldest_asked given.asked
   pub requested : oldest_asked + given.asked ≡ requests_given calls
-  pub first_asked : given.first_asked ≡ oldest_asked % 2 ^ 64
+  pub first_asked : given.first_asked ≡ modulo_2_64 oldest_asked
   pub oldest_owed : ℕ
   pub owed : owed_of calls ≡ run oldest_owed given.owed
   pub taken : (position : ℕ) → is_taken position calls ≡ nat_lt position (oldest_owed + given.owed)
-  pub first_owed : given.first_owed ≡ oldest_owed % 2 ^ 64
+  pub first_owed : given.first_owed ≡ modulo_2_64 oldest_owed
   pub answers : given.answers ≡ begun_answers_of calls

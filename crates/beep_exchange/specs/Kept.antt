@@ -1,7 +1,7 @@
 -- What an exchange keeps of one direction, and each rule as a test of that alone.
 -- What a rule means is said over the whole history, in beep_history; here stands what a bounded
 -- memory can tell.
-use Rattle.std.specs.Prelude.{ℕ, ◌+◌, ◌-◌, ◌%◌, ◌==◌, ◌^◌, min, nat_lt, nat_le, Bool, false, not, ◌&&◌, ◌||◌, if◌then◌else◌, List, [], ◌∷◌, ◌++◌, length, take, drop, map, filter, find, option_map, Option, None, Some, slice_index}
+use Rattle.std.specs.Prelude.{ℕ, ◌+◌, ◌-◌, ◌==◌, ◌^◌, min, nat_lt, nat_le, Bool, false, not, ◌&&◌, ◌||◌, if◌then◌else◌, List, [], ◌∷◌, ◌++◌, length, take, drop, map, filter, find, option_map, Option, None, Some, slice_index}
 use Rattle.std.specs.List.{list_any}
 use Rattle.std.specs.Option.{option_map_or}
 use Rattle.beep_frame.specs.declared.head.Head.{Head}
@@ -9,17 +9,24 @@ use Rattle.beep_frame.specs.declared.kind.Kind.{Kind}
 use Rattle.beep_frame.specs.declared.rule.Rule.{Rule}
 use Rattle.beep_frame.specs.declared.tag.Tag.{Tag}
 use Rattle.beep_history.specs.declared.limits.TheConstants.{MAX_MESSAGE, MAX_REQUESTS, MAX_ANSWERS}
+use Rattle.beep_frame.specs.Modulo.{modulo_2_64}
 use Rattle.beep_frame.specs.Frame.{is_msg, is_ans, is_nul, is_reply, same_kind}
 use Rattle.beep_history.specs.Marks.{first, goes_on, ends_reply}
 use Rattle.beep_history.specs.Broken.{breaks_nul_shape, first_of}
 use Rattle.beep_exchange.specs.declared.answer.Answer.{Answer}
 
+-- octets as they are counted: no further than to the greatest number of 32 bits
+abbrev pub capped : ℕ → ℕ
+capped octets = min octets (2 ^ 32 - 1)
+
+-- the count that stands so many before one that is kept modulo 2^64
+abbrev pub count_back : ℕ → ℕ → ℕ
+count_back many count = modulo_2_64 (count + 2 ^ 64 - many)
+
 -- of one direction: the frame under way, the one that passed last, the octets so far of the message
--- of that one up to
--- 2^32 - 1, the numbers of the last requests, the latest first, how many requests began, modulo
--- 2^64, how many of the
--- newest wait for their reply, and of the reply to the oldest of these its kind and its unfinished
--- answers
+-- of that one, the numbers of the last requests, the latest first, how many requests began, modulo
+-- 2^64, how many of the newest wait for their reply, and of the reply to the oldest of these its
+-- kind and its unfinished answers
 pub record Kept : Type 0 where
   pub under_way : Option Head
   pub before : Option Head
@@ -165,7 +172,7 @@ judged mine theirs head = first_of (shape_tests mine theirs head ++ limit_tests 
 
 -- octets with those of one more frame, up to the greatest count
 abbrev pub added : ℕ → ℕ → ℕ
-added octets size = min (octets + size) (2 ^ 32 - 1)
+added octets size = capped (octets + size)
 
 -- the octets so far of the message that a frame goes on, where it is no ANS
 abbrev pub begun_in : Kept → Head → ℕ
@@ -192,8 +199,8 @@ breaks_long mine theirs head =
 -- that waits
 abbrev pub position_in : Kept → Kept → Head → ℕ
 position_in mine theirs head =
-    if is_msg head.kind then (mine.count + 2 ^ 64 - 1) % 2 ^ 64
-    else (theirs.count + 2 ^ 64 - theirs.waiting) % 2 ^ 64
+    if is_msg head.kind then count_back 1 mine.count
+    else count_back theirs.waiting theirs.count
 
 -- what its octets are marked with
 abbrev pub tag_in : Kept → Kept → Head → Tag
@@ -230,7 +237,7 @@ began_kept kept head = record kept {
   under_way = Some head;
   numbers =
       if begins kept head then take MAX_REQUESTS (head.msgno ∷ kept.numbers) else kept.numbers;
-  count = if begins kept head then (kept.count + 1) % 2 ^ 64 else kept.count;
+  count = if begins kept head then modulo_2_64 (kept.count + 1) else kept.count;
   waiting = if begins kept head then kept.waiting + 1 else kept.waiting;
 }
 
@@ -246,7 +253,7 @@ passed_kept kept = record kept {
 abbrev pub grown : ℕ → ℕ → Answer → Answer
 grown number size answer =
     if answer.number == number
-    then record answer { octets = min (answer.octets + size) (2 ^ 32 - 1) } else answer
+    then record answer { octets = capped (answer.octets + size) } else answer
 
 -- the unfinished answers after a frame that goes on, with so many octets
 abbrev pub continued : ℕ → ℕ → List Answer → List Answer
@@ -254,7 +261,7 @@ continued number size answers =
     if has_answer number answers
     then map (grown number size) answers
     else (if nat_lt (length answers) MAX_ANSWERS then answers
-    ++ record { number = number; octets = min size (2 ^ 32 - 1) } ∷ [] else answers)
+    ++ record { number = number; octets = capped size } ∷ [] else answers)
 
 -- the unfinished answers after a complete one
 abbrev pub completed : ℕ → List Answer → List Answer

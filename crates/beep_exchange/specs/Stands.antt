@@ -1,16 +1,17 @@
 -- What a history leaves of one direction, and when an exchange stands for a history (RFC 3080,
 -- section 2.1).
 -- The code keeps what stands on the right; that it is so is proved call by call.
-use Rattle.std.specs.Prelude.{◌≡◌, ℕ, ◌+◌, ◌-◌, ◌^◌, ◌%◌, min, List, [], ◌∷◌, length, take, map, option_map}
+use Rattle.std.specs.Prelude.{◌≡◌, ℕ, ◌+◌, ◌-◌, List, [], ◌∷◌, length, take, map, option_map}
 use Rattle.beep_frame.specs.declared.head.Head.{Head}
 use Rattle.beep_history.specs.declared.journal.Side.{Side}
+use Rattle.beep_frame.specs.Modulo.{modulo_2_64}
 use Rattle.beep_history.specs.declared.limits.TheConstants.{MAX_REQUESTS}
 use Rattle.beep_history.specs.Journal.{Item}
 use Rattle.beep_history.specs.Marks.{first, frames, begun_octets, previous, requests, waiting, reply, unfinished, answer_octets}
 use Rattle.beep_history.specs.Broken.{under_way, KeepsExchangeRules}
 use Rattle.beep_exchange.specs.declared.answer.Answer.{Answer}
 use Rattle.beep_exchange.specs.declared.given.Given.{Given}
-use Rattle.beep_exchange.specs.Kept.{Kept}
+use Rattle.beep_exchange.specs.Kept.{Kept, capped}
 
 -- the frames so far of the reply to the oldest request of a side that waits
 abbrev pub current : Side → List Item → List Head
@@ -19,7 +20,7 @@ current side past = reply side (length (requests side past) - length (waiting si
 -- an unfinished answer, by the frames of its reply
 abbrev pub answer_of : List Head → ℕ → Answer
 answer_of frames number =
-    record { number = number; octets = min (answer_octets number frames) (2 ^ 32 - 1) }
+    record { number = number; octets = capped (answer_octets number frames) }
 
 -- the octets so far of the message of the latest of some frames
 abbrev pub octets_so_far : List Head → ℕ
@@ -31,9 +32,9 @@ abbrev pub kept_of : Side → List Item → Kept
 kept_of side past = record {
   under_way = under_way side past;
   before = previous side past;
-  octets = min (octets_so_far (frames side past)) (2 ^ 32 - 1);
+  octets = capped (octets_so_far (frames side past));
   numbers = take MAX_REQUESTS (map (λ request. request.number) (requests side past));
-  count = length (requests side past) % 2 ^ 64;
+  count = modulo_2_64 (length (requests side past));
   waiting = length (waiting side past);
   kind = option_map (λ frame. frame.kind) (first (current side past));
   answers = map (answer_of (current side past)) (unfinished (current side past));

@@ -5,8 +5,11 @@ ghost use Rattle.beep_frame.specs.declared.tag.Tag.{Tag as TagValue};
 ghost use Rattle.beep_history.specs.Marks.{modulo_2_64};
 ghost use Rattle.beep_exchange.specs.Given.{Call, next_answer, first_asked_now, first_owed_now, next_asked_now};
 
-use beep_frame::{Kind, Tag};
+use beep_frame::{Kind, MAX_NUMBER, Tag};
 use beep_history::MAX_REQUESTS;
+
+/// How many numbers a header can give to a message (RFC 3080, section 2.2.1.1).
+const MESSAGE_NUMBERS: u64 = MAX_NUMBER as u64 + 1;
 
 /// The own requests that wait and the received ones that are owed a reply, each by the oldest and
 /// how many.
@@ -100,7 +103,7 @@ impl Given {
         if self.asked == 0 {
             return None;
         }
-        Some((self.first_asked % 2147483648) as u32)
+        Some((self.first_asked % MESSAGE_NUMBERS) as u32)
     }
 
     /// The position that the next own request has, modulo 2^64.
@@ -131,6 +134,6 @@ fn next_answer(answers: Option<u32>) -> u32
 {
     match answers {
         None => 1,
-        Some(n) => n.wrapping_add(1) % 2147483648,
+        Some(n) => n.wrapping_add(1) % MESSAGE_NUMBERS as u32,
     }
 }

@@ -14,7 +14,7 @@ abbrev pub moved : TrackerState → Place → Line → ℕ → TrackerState
 moved d place line count =
     record d { place = place; line = line; left = modulo_2_64 (d.left + count); used = modulo_2_64 (d.used + count) }
 
--- where the next octet stands behind a header
+-- where the next octet stands after a header
 abbrev pub behind_header : ℕ → Place
 behind_header size = if size == 0 then Place.Trailer 0 else Place.Payload size
 

@@ -16,13 +16,13 @@ is_place Place.Line = true
 is_place (Place.Payload left) = nat_lt 0 left
 is_place (Place.Trailer count) = nat_lt count 5
 
--- the octet can't stand behind these octets of a line
+-- the octet can't stand after these octets of a line
 pub record DiesInLine (before : List ℕ) (octet : ℕ) : Type 0 where
   pub line : Line
   pub inside : run (at_line line_start) before ≡ at_line line
   pub dies : line_turn line octet ≡ dead
 
--- the octet can't stand behind these octets, which end in a trailer's place
+-- the octet can't stand after these octets, which end in a trailer's place
 pub record DiesInTrailer (before : List ℕ) (octet : ℕ) : Type 0 where
   pub head : Head
   pub payload : List ℕ
@@ -56,7 +56,7 @@ pub record EndsInTrailer (rest : List ℕ) (known : Option Head) (taken : List �
   pub dies : DiesInTrailer (rest ++ before) octet
   pub known_is : known ≡ Some dies.head
 
--- what was found in the first of these octets, as many as were used, behind the rest of the stream
+-- what was found in the first of these octets, as many as were used, after the rest of the stream
 abbrev pub Finds : Found → Place → Line → List ℕ → Option Head → List ℕ → ℕ → Type 0
 Finds Found.More place line rest known octets used =
     (used ≡ length octets) × At place line (rest ++ octets) known

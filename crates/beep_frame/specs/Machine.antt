@@ -10,15 +10,15 @@ use Rattle.beep_frame.specs.declared.line.PartTurn.{PartTurn}
 
 -- ---- the parts of each line
 
--- a channel, a message number or a size, and the space behind it
+-- a channel, a message number or a size, and the space after it
 abbrev pub number : Part
 number = Part.Number MAX_NUMBER 32
 
--- a number of 32 bits, and the space behind it
+-- a number of 32 bits, and the space after it
 abbrev pub any : Part
 any = Part.Number (2 ^ 32 - 1) 32
 
--- the last number of a line, and the CR behind it
+-- the last number of a line, and the CR after it
 abbrev pub last : Part
 last = Part.Number MAX_NUMBER 13
 
@@ -50,13 +50,13 @@ keyword_by c =
 
 -- ---- one octet
 
--- a digit behind the digits of n, of a number of at most max
+-- a digit after the digits of n, of a number of at most max
 abbrev pub digit_turn_of : ℕ → ℕ → ℕ → PartTurn
 digit_turn_of max n c =
     if (nat_le 48 c && nat_le c 57) && nat_le (n * 10 + (c - 48)) max
     then PartTurn.Digit (n * 10 + (c - 48)) else PartTurn.Dead
 
--- an octet behind the digits so far: the one that ends the number, or a digit that follows no
+-- an octet after the digits so far: the one that ends the number, or a digit that follows no
 -- leading zero
 abbrev pub number_turn_of : ℕ → ℕ → Option ℕ → ℕ → PartTurn
 number_turn_of max end None c = digit_turn_of max 0 c

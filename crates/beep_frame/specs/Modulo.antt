@@ -1,4 +1,4 @@
--- A number of octets as a word of 64 bits holds it. Definitions count in whole numbers.
+-- A count as a word of 64 bits holds it. Definitions count in whole numbers.
 -- The code adds with wrap.
 use Rattle.std.specs.Prelude.{ℕ, ◌^◌, ◌%◌}
 

@@ -73,7 +73,7 @@ abbrev pub IsWithin : ℕ → Frame → Type 0
 IsWithin max (framed head payload) = head.size ≤ max
 IsWithin max (seq_frame seq) = Unit {0}
 
--- what an octet behind these octets breaks: the stream is dead there, outside a trailer's place or
+-- what an octet after these octets breaks: the stream is dead there, outside a trailer's place or
 -- in one; or it ends a header whose size is above the limit
 abbrev pub BreaksBy : Rule → ℕ → List ℕ → List Frame → ℕ → Type 0
 BreaksBy rule max before frames octet =

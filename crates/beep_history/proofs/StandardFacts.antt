@@ -5,9 +5,9 @@ use Rattle.beep_frame.specs.declared.tag.Tag.{Tag}
 use Rattle.beep_frame.specs.Frame.{head_of}
 use Rattle.beep_history.specs.declared.journal.Side.{Side}
 use Rattle.beep_history.specs.Journal.{Item, began, passed, told, opening}
-use Rattle.beep_history.specs.Marks.{marks}
+use Rattle.beep_history.specs.Marks.{marks, octet, end}
 use Rattle.beep_history.specs.Windows.{window_edge}
-use Rattle.beep_history.specs.Messages.{messages, gathered}
+use Rattle.beep_history.specs.Messages.{messages, gathered, cut_from}
 
 -- a request of number 7, and two answers to it whose frames stand between one another
 interleaved : List Item
@@ -52,3 +52,9 @@ shrunk by to =
 edges_differ : (window_edge Side.Received (shrunk Side.Received Side.Sent) ≡ 4096) × (window_edge Side.Sent (shrunk Side.Sent Side.Received) ≡ 100)
 unfolding shrunk
 edges_differ = (refl, refl)
+
+-- all octets first, and then all ends, make other messages than two of one octet each
+ends_stand_after_their_octets : cut_from [] (tagged 0) (octet (tagged 0) 11 ∷ octet (tagged 0) 12 ∷ end (tagged 0) ∷ end (tagged 0) ∷ [])
+    ≡ (11 ∷ []) ∷ (12 ∷ []) ∷ [] → ⊥
+unfolding tagged
+ends_stand_after_their_octets same = cc

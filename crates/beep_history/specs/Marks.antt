@@ -2,12 +2,13 @@
 -- and 2.2.1.1).
 -- The code keeps a few counts of one life; here each word looks back over the whole history, the
 -- latest item first.
-use Rattle.std.specs.Prelude.{ℕ, ◌+◌, ◌-◌, ◌%◌, ◌^◌, ◌==◌, Bool, false, not, ◌&&◌, ◌||◌, if◌then◌else◌, List, [], ◌∷◌, ◌++◌, length, map, filter, find, Option, None, Some}
+use Rattle.std.specs.Prelude.{ℕ, ◌+◌, ◌-◌, ◌==◌, Bool, false, not, ◌&&◌, ◌||◌, if◌then◌else◌, List, [], ◌∷◌, ◌++◌, length, map, filter, find, Option, None, Some}
 use Rattle.std.specs.List.{list_any}
 use Rattle.std.specs.Option.{option_map_or}
 use Rattle.beep_frame.specs.declared.head.Head.{Head}
 use Rattle.beep_frame.specs.declared.tag.Tag.{Tag}
 use Rattle.beep_history.specs.declared.journal.Side.{Side}
+use Rattle.beep_frame.specs.Modulo.{modulo_2_64 as count_modulo_2_64}
 use Rattle.beep_frame.specs.Frame.{is_msg, is_ans, is_reply, same_kind}
 use Rattle.beep_history.specs.Journal.{Item, began, passed, told, same_side, other}
 
@@ -133,7 +134,7 @@ reply_so_far side past head =
 abbrev pub without : ℕ → List ℕ → List ℕ
 without number numbers = filter (λ n. not (n == number)) numbers
 
--- with one number, behind the others where it is new
+-- with one number, after the others where it is new
 abbrev pub with_number : ℕ → List ℕ → List ℕ
 with_number number numbers =
     if list_any (λ n. n == number) numbers then numbers else numbers ++ number ∷ []
@@ -223,7 +224,7 @@ marks side (told by seq ∷ past) = marks side past
 
 -- a tag as a call tells it: its position modulo 2^64
 abbrev pub modulo_2_64 : Tag → Tag
-modulo_2_64 tag = record tag { request = tag.request % 2 ^ 64 }
+modulo_2_64 tag = record tag { request = count_modulo_2_64 tag.request }
 
 -- a mark as a call tells it
 abbrev pub mark_modulo_2_64 : Mark → Mark

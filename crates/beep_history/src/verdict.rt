@@ -16,6 +16,7 @@ use crate::journal::{JournalItem, Side};
 use crate::limits::{MAX_ANSWERS, MAX_MESSAGE, MAX_REQUESTS};
 use crate::windows::{edge_of_window, octets_passed};
 use beep_frame::{Head, Rule};
+use beep_seq::wire_number;
 
 /// The first rule of one life that a header of this side breaks.
 #[tactic(auto, unfolding(crate::specs::Broken::broken_rule))]
@@ -287,7 +288,7 @@ fn open_answers(side: Side, past: &[JournalItem], head: &Head) -> usize
 fn breaks_sequence(side: Side, past: &[JournalItem], head: &Head) -> bool
     ensures { result ≡ breaks_sequence side (history_of past.now) head.now }
 {
-    u128::from(head.seqno) != octets_passed(side, past) % 4294967296
+    head.seqno != wire_number(octets_passed(side, past))
 }
 
 /// The octets of the message of this header, its own included.

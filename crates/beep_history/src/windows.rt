@@ -9,7 +9,7 @@ ghost use Rattle.beep_history.specs.Marks.{passed_octets};
 ghost use Rattle.beep_history.specs.Windows.{acked_octets, last_window, greatest_edge, window_edge};
 
 use crate::journal::{JournalItem, Side};
-use beep_seq::INITIAL_WINDOW;
+use beep_seq::{INITIAL_WINDOW, count_from};
 
 /// The octets of the frames of this side that have passed.
 pub fn octets_passed(side: Side, past: &[JournalItem]) -> u128
@@ -64,7 +64,7 @@ pub fn octets_acked(side: Side, past: &[JournalItem]) -> u128
         [JournalItem::Told(by, seq), before @ ..] => {
             let acked = octets_acked(side, before);
             if by.is_same(side.other()) {
-                acked + (u128::from(seq.ackno) + 4294967296 - acked % 4294967296) % 4294967296
+                count_from(acked, seq.ackno)
             } else {
                 acked
             }

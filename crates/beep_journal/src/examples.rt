@@ -610,7 +610,7 @@ pub static ANSWERS: [SessionExample; 22] = [
 ];
 
 /// Lives that end and begin anew.
-pub static LIVES: [SessionExample; 10] = [
+pub static LIVES: [SessionExample; 11] = [
     SessionExample {
         name: "crossing closes and the late ok",
         past: "started; R MSG 0 2 . close1; S MSG 0 1 . close1; S RPY 0 2 . ok; R RPY 0 1 . ok",
@@ -621,6 +621,13 @@ pub static LIVES: [SessionExample; 10] = [
     SessionExample {
         name: "a number starts anew before the late ok",
         past: "started; R MSG 0 2 . close1; S MSG 0 1 . close1; S RPY 0 2 . ok; R MSG 0 3 . start1; S RPY 0 3 . chosen; R RPY 0 1 . ok",
+        next: "R MSG 1 0 . 2",
+        breaks: None,
+        tunes: false,
+    },
+    SessionExample {
+        name: "a number starts anew before the close is refused",
+        past: "started; R MSG 0 2 . close1; S MSG 0 1 . close1; S RPY 0 2 . ok; R MSG 0 3 . start1; S RPY 0 3 . chosen; R ERR 0 1 . error",
         next: "R MSG 1 0 . 2",
         breaks: None,
         tunes: false,
@@ -668,7 +675,7 @@ pub static LIVES: [SessionExample; 10] = [
         tunes: false,
     },
     SessionExample {
-        name: "a request that waits behind a close",
+        name: "a request that waits for a close",
         past: "started; R MSG 0 2 . close1; R MSG 0 3 . start3",
         next: "S RPY 0 3 . chosen",
         breaks: Some((Rule::OutOfTurn, 175)),

@@ -18,6 +18,7 @@ use beep_history::{
     octets_acked, octets_passed, request_count,
 };
 use beep_octets::{NoMemory, Octets};
+use beep_seq::count_from;
 use std::alloc::Global;
 
 /// The side and the position of a start.
@@ -167,7 +168,7 @@ fn is_bad_ack(side: Side, past: &[JournalItem], seq: &Seq) -> bool
     ensures { result ≡ is_bad_ack side (history_of past.now) seq.now }
 {
     let acked = octets_acked(side.other(), past);
-    let count = acked + (u128::from(seq.ackno) + 4294967296 - acked % 4294967296) % 4294967296;
+    let count = count_from(acked, seq.ackno);
     octets_passed(side.other(), past) < count
 }
 

@@ -5,6 +5,7 @@ ghost use Rattle.beep_history.specs.Journal.{Item, began, passed, told, other, o
 ghost use Rattle.beep_history.specs.Marks.{passed_octets};
 ghost use Rattle.beep_history.specs.Broken.{first_of, octet_rules, exchange_rule, broken_rule, breaks_long, is_limit, KeepsShape};
 ghost use Rattle.beep_history.specs.Windows.{window_edge, is_bad_ack};
+ghost use Rattle.beep_seq.specs.Wire.{wire_number};
 ghost use Rattle.beep_judge.specs.Kept.{under, judged_of, unacked_of, is_bad_seq};
 ghost use Rattle.beep_judge.specs.Lived.{IsLife};
 
@@ -98,7 +99,7 @@ impl Life {
     /// Whether this is the number of the next octet of a side.
     fn is_next(&self, side: Side, seqno: u32) -> bool
         ensures { (past : List Item) → IsLife self.now past
-            → result ≡ (seqno == passed_octets side past % 2 ^ 32) }
+            → result ≡ (seqno == wire_number (passed_octets side past)) }
     {
         match side {
             Side::Received => self.read.is_next(seqno),

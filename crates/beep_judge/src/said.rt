@@ -35,7 +35,7 @@ fn message_said(alloc: Global, message: &[u8]) -> Result<Option<Mgmt>, NoMemory>
     }
 }
 
-/// Whether it is want of memory.
+/// Whether memory ran out.
 fn is_memory(error: MgmtError) -> bool
     ensures { result ≡ false → error ≢ MgmtError.NoMemory }
 {

@@ -1,4 +1,4 @@
--- What a list of octets with room behind it is to a contract: the octets and the room, two numbers
+-- What a list of octets with room after it is to a contract: the octets and the room, two numbers
 -- apart from how they lie in memory.
 use Rattle.std.specs.Prelude.{ℕ, ◌+◌, ◌≤◌, List, length}
 

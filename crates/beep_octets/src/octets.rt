@@ -1,4 +1,4 @@
-//! A list of octets with room behind it.
+//! A list of octets with room after it.
 ghost use Rattle.std.specs.Prelude.{◌≡◌, ◌==◌, ◌+◌, ◌<◌, ◌≤◌, [], ◌∷◌, ◌++◌, length, OnOk, OnErr, IsOk};
 
 use std::alloc::{AllocError, Global};

@@ -10,9 +10,11 @@ mod limits;
 mod recv_window;
 mod send_window;
 mod seq_no;
+mod wire;
 
 pub use laws::{bad_ack_is_no_count_between, count_from_is_the_first, edge_never_moves_left};
 pub use limits::{INITIAL_WINDOW, MAX_WINDOW, MIN_WINDOW};
 pub use recv_window::RecvWindow;
 pub use send_window::{BadAck, SendWindow};
 pub use seq_no::SeqNo;
+pub use wire::{SEQ_NUMBERS, count_from, wire_number};

@@ -1,4 +1,4 @@
--- What a transfer that failed on its way left behind.
+-- What a transfer that failed on its way has written.
 -- The code goes on from a place in the piece; here it is a beginning of the piece.
 use Rattle.std.specs.Prelude.{◌≡◌, ℕ, ◌++◌, Option, List}
 use Rattle.std.specs.Io.KnownBytes.{Appends}

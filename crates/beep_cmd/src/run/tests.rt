@@ -27,7 +27,7 @@ struct Plan {
     failing_write: Option<u64>,
 }
 
-/// A source of which each read gives one piece, and the read behind the last of them the end.
+/// A source of which each read gives one piece, and the read after the last of them the end.
 #[derive(Drop)]
 struct Pieces<'a> {
     pieces: &'a [&'a [u8]],
@@ -274,7 +274,7 @@ fn long_message(alloc: Global, extra: &[u8]) -> Result<Octets, Fail> {
     Ok(input)
 }
 
-// A message of 65,536 octets is read, one of an octet more isn't, and the one behind it is.
+// A message of 65,536 octets is read, one of an octet more isn't, and the one after it is.
 #[test]
 fn a_message_above_65536_octets_is_too_long(rt: HostRuntime) -> Result<(), Fail> {
     let rows: [(&[u8], &str); 2] = [
@@ -361,8 +361,8 @@ fn a_frame_may_be_cut_anywhere(rt: HostRuntime) -> Result<(), Fail> {
 }
 
 // A run ends with the write that fails, so its reads show when that write was made: the line of the
-// first frame behind the second read, those of three frames by one write behind the third, and the
-// last line behind the fifth, which is the end.
+// first frame after the second read, those of three frames by one write after the third, and the
+// last line after the fifth, which is the end.
 #[test]
 fn lines_are_written_once_their_frames_are_read(rt: HostRuntime) -> Result<(), Fail> {
     let pieces: [&[u8]; 4] = [

@@ -16,7 +16,7 @@ fn word(kind: Kind) -> &'static str {
     }
 }
 
-/// A frame as a row has it: its line, and behind `|` the payload.
+/// A frame as a row has it: its line, and after `|` the payload.
 fn text(alloc: Global, frame: &PlainFrame) -> Result<String, NoMemory> {
     match frame {
         PlainFrame::Seq(seq) => {
@@ -205,7 +205,7 @@ static BAD_TRAILERS: [(&str, u64); 8] = [
     ("MSG 1 0 . 0 0\r\nEND\r\r", 19),
 ];
 
-// Octets that die behind whole frames, those frames, the octets after them, and where it dies.
+// Octets that die after whole frames, those frames, the octets after them, and where it dies.
 static BEHIND: [(&str, &str, u64, Rule, u64); 3] = [
     ("SEQ 1 2 3\r\nEND", "SEQ 1 2 3\n", 1, Rule::Header, 12),
     (

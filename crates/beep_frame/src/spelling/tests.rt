@@ -215,11 +215,11 @@ fn each_frame_is_decoded_whatever_follows(rt: HostRuntime) -> Result<(), NoMemor
         let octets = out.as_slice();
         let (count, step) = decoder.feed(octets);
         assert_eq!(rt; step, Step::Head(row.head), "row {at}");
-        let behind = &octets[count..];
+        let rest = &octets[count..];
         let ending = row.payload.len() + 5;
-        let (count, step) = decoder.feed(behind);
+        let (count, step) = decoder.feed(rest);
         assert_eq!(rt; (count, step), (ending, Step::Frame), "row {at}");
-        let others = &behind[count..];
+        let others = &rest[count..];
         assert_eq!(rt; decoder.feed(others), (5, Step::More), "row {at}");
     }
     Ok(())
@@ -235,8 +235,8 @@ fn each_seq_is_decoded_whatever_follows(rt: HostRuntime) -> Result<(), NoMemory>
         let octets = out.as_slice();
         let (count, step) = decoder.feed(octets);
         assert_eq!(rt; (count, step), (size, Step::Seq(row.seq)), "row {at}");
-        let behind = &octets[count..];
-        assert_eq!(rt; decoder.feed(behind), (5, Step::More), "row {at}");
+        let rest = &octets[count..];
+        assert_eq!(rt; decoder.feed(rest), (5, Step::More), "row {at}");
     }
     Ok(())
 }
