@@ -2,4 +2,5 @@ pub mod LivesLemmas
 pub mod LifeLemmas
 pub mod OctetLemmas
 pub mod ShownLemmas
+pub mod UnbrokenLemmas
 pub mod PiecesLemmas

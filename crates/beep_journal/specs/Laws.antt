@@ -1,16 +1,36 @@
 -- What the definitions of a session mean, in words that need less of them.
-use Rattle.std.specs.Prelude.{◌≡◌, ℕ, ◌<◌, ◌≤◌, ◌==◌, ◌&&◌, not, false, if◌then◌else◌, List, [], ◌∷◌, ◌++◌}
+use Rattle.std.specs.Prelude.{◌≡◌, ℕ, ◌<◌, ◌≤◌, ◌==◌, ◌&&◌, not, false, if◌then◌else◌, List, [], ◌∷◌, ◌++◌, None}
 use Rattle.beep_history.specs.Marks.{Mark, octet, end}
 use Rattle.beep_history.specs.declared.journal.Side.{Side}
 use Rattle.beep_history.specs.Journal.{Item, began, passed, told, same_side}
 use Rattle.beep_journal.specs.Lives.{Event, lives, has_ended}
 use Rattle.beep_journal.specs.Zero.{channel_of, zero_history, gathered}
+use Rattle.beep_journal.specs.Broken.{Tuning, broken_head, broken_seq, broken_content}
 
 -- this life of a number has begun and not ended
 pub record IsLiveLife (number count : ℕ) (events : List Event) : Type 0 where
   pub first : 0 < count
   pub begun : count ≤ lives number events
   pub goes_on : has_ended number count events ≡ false
+
+-- ---- no rule is broken
+
+-- each item broke no rule as it came: no header, no SEQ and no content
+abbrev pub IsUnbroken : Tuning → List Item → Type 0
+IsUnbroken tunes [] = Unit {0}
+IsUnbroken tunes (began by head ∷ journal) =
+    (broken_head tunes by journal head ≡ None) × IsUnbroken tunes journal
+IsUnbroken tunes (passed by head payload ∷ journal) =
+    (broken_content by journal head payload ≡ None) × IsUnbroken tunes journal
+IsUnbroken tunes (told by seq ∷ journal) =
+    (broken_seq by journal seq ≡ None) × IsUnbroken tunes journal
+
+-- the same, but for the content of the frame that passed last
+abbrev pub IsUnbrokenBefore : Tuning → List Item → Type 0
+IsUnbrokenBefore tunes [] = Unit {0}
+IsUnbrokenBefore tunes (began by head ∷ journal) = IsUnbroken tunes (began by head ∷ journal)
+IsUnbrokenBefore tunes (passed by head payload ∷ journal) = IsUnbroken tunes journal
+IsUnbrokenBefore tunes (told by seq ∷ journal) = IsUnbroken tunes (told by seq ∷ journal)
 
 -- ---- messages of channel zero
 

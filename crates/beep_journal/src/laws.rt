@@ -1,7 +1,7 @@
 //! What the definitions mean, as facts that hold of every journal: each function does nothing, and
 //! its contract
 //! is the fact.
-ghost use Rattle.std.specs.Prelude.{◌≡◌, ◌<◌, ℕ, List, [], ◌∷◌, Some, true, false};
+ghost use Rattle.std.specs.Prelude.{◌≡◌, ◌<◌, ℕ, List, [], ◌∷◌, Some, None, true, false};
 ghost use Rattle.beep_frame.specs.declared.head.Head.{Head};
 ghost use Rattle.beep_frame.specs.declared.seq.Seq.{Seq};
 ghost use Rattle.beep_history.specs.declared.journal.Side.{Side};
@@ -11,7 +11,7 @@ ghost use Rattle.beep_history.specs.Broken.{KeepsExchangeRules};
 ghost use Rattle.beep_journal.specs.Lives.{Event, lives, has_ended};
 ghost use Rattle.beep_journal.specs.Zero.{zero_history, gathered, events};
 ghost use Rattle.beep_journal.specs.Life.{life_now, is_of_life, life};
-ghost use Rattle.beep_journal.specs.Laws.{IsLiveLife, contents, pieces_from, rest_from};
+ghost use Rattle.beep_journal.specs.Laws.{IsLiveLife, IsUnbroken, IsUnbrokenBefore, contents, pieces_from, rest_from};
 ghost use Rattle.beep_journal.specs.Broken.{Tuning};
 ghost use Rattle.beep_journal.specs.Log.{Moment};
 ghost use Rattle.beep_journal.specs.Journal.{Past, Fault, Shows};
@@ -60,6 +60,15 @@ pub fn a_log_shows_one_session()
 pub fn the_first_fault_stays()
     ensures { (tunes : Tuning) (moment : Moment) (log : List Moment) (before past : Past) (fault : Fault)
         → Shows tunes log before → before.fault ≡ Some fault → Shows tunes (moment ∷ log) past → past ≡ before }
+{}
+
+/// No rule is broken before the first fault: each header, SEQ and reply of the journal broke none as it
+/// came, but for the frame whose content is the fault.
+pub fn no_rule_is_broken_before_the_first_fault()
+    ensures whole { (tunes : Tuning) (log : List Moment) (past : Past) → Shows tunes log past
+        → past.fault ≡ None → IsUnbroken tunes past.journal }
+    ensures before { (tunes : Tuning) (log : List Moment) (past : Past) → Shows tunes log past
+        → IsUnbrokenBefore tunes past.journal }
 {}
 
 /// Where channel zero keeps the rules of the exchange, the marks of a side of it, cut at their ends, are its

@@ -22,7 +22,8 @@ pub use event::LifeEvent;
 pub use examples::{
     ANSWERS, CHANNELS, FIRST_FRAMES, LIVES, OCTETS, REQUESTS, SEQS, SessionExample,
 };
-pub use of_life::{history, is_released, is_there, life};
+pub use of_life::{history, is_released, is_there, life, life_now};
+pub use of_lives::{has_ended, is_live, life_named, lives};
 pub use role::Role;
 pub use verdict::{StartPlace, broken_content, broken_head, broken_seq};
-pub use zero::{events, zero_history};
+pub use zero::{asked, completed, completes_form, events, said_at, zero_history};
