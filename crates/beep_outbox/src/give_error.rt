@@ -1,0 +1,23 @@
+//! Why a message was not given.
+
+use beep_octets::NoMemory;
+
+/// Why a message was not given. The messages before it stay.
+#[derive(Clone, Copy, Debug, PartialEq, Eq)]
+pub enum GiveError {
+    /// With its octets there would be more than the limit. It may find room after a cut.
+    Full {
+        /// The unsent octets.
+        queued: u32,
+        /// How many there may be.
+        limit: u32,
+    },
+    /// Out of memory; a later call may succeed.
+    NoMemory,
+}
+
+impl From<NoMemory> for GiveError {
+    fn from(_error: NoMemory) -> GiveError {
+        GiveError::NoMemory
+    }
+}
