@@ -1,0 +1,5 @@
+pub mod Fits
+pub mod Sums
+pub mod Held
+pub mod Stands
+pub mod Drained
