@@ -8,7 +8,8 @@ use Rattle.beep_history.specs.Journal.{Item}
 use Rattle.beep_history.specs.Marks.{Mark, marks, mark_modulo_2_64, waiting}
 use Rattle.beep_history.specs.Broken.{under_way}
 
--- all marks that were given are sent, all that arrived are taken, no frame of the peer is under way,
+-- all marks that were given are sent, all that arrived are taken, no frame of the peer is under
+-- way,
 -- and no request of either side waits for its reply
 pub record IsDrained (past : List Item) (given taken : List Mark) : Type 0 where
   pub sent : map mark_modulo_2_64 (marks Side.Sent past) ≡ given

@@ -152,7 +152,8 @@ abbrev pub ask_error : GiveError → AskError
 ask_error (GiveError.Full queued limit) = AskError.Full queued limit
 ask_error GiveError.NoMemory = AskError.NoMemory
 
--- why a reply of so many octets is refused: with it there would be more unsent octets than the limit
+-- why a reply of so many octets is refused: with it there would be more unsent octets than the
+-- limit
 abbrev pub reply_refusal : Held → ℕ → Option GiveError
 reply_refusal c size = give_refusal
     (record { messages = c.queue; limit = limit_of c.number; spare = 0; places = 0 }) size

@@ -76,7 +76,8 @@ pub record HeldStands (size : ℕ) (c : Held) (past : List Item) : Type 0 where
 abbrev pub ends_of : (Kind → Bool) → List Mark → ℕ
 ends_of test [] = 0
 ends_of test (octet tag value ∷ marks) = ends_of test marks
-ends_of test (end tag ∷ marks) = if test tag.kind then ends_of test marks + 1 else ends_of test marks
+ends_of test (end tag ∷ marks) = if test tag.kind then ends_of test marks + 1
+    else ends_of test marks
 
 -- each mark names its place, from the position of the next own request and that of the next reply
 -- on: a reply names the request that it answers, in the order of the requests

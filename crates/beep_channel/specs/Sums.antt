@@ -87,7 +87,8 @@ pub record Sums (given : Given) (queue : List Message) (runs : List Run) (mine t
 abbrev pub arriving_tag : Given → List Run → Head → Tag
 arriving_tag given runs head = record {
   kind = head.kind;
-  request = if is_msg head.kind then count_modulo_2_64 (given.first_owed + given.owed + ended_of is_msg runs)
+  request = if is_msg head.kind then count_modulo_2_64
+      (given.first_owed + given.owed + ended_of is_msg runs)
       else count_modulo_2_64 (given.first_asked + ended_of ends_reply runs);
   ansno = head.ansno;
 }

@@ -14,13 +14,15 @@ default_settings = record { elements = false; octets = OCTETS }
 
 -- `yes` or `no`
 abbrev pub choice_in : List ℕ → Option Bool
-choice_in value = if bytes_eq value (codes "yes") then Some true else (if bytes_eq value (codes "no") then Some false else None)
+choice_in value = if bytes_eq value (codes "yes") then Some true
+    else (if bytes_eq value (codes "no") then Some false else None)
 
 -- the number whose decimal text this is
 abbrev pub number_in : List ℕ → Option ℕ
 number_in value =
     let n = digits_value 10 value in
-    if bytes_eq value (decimal n) && nat_le MIN_OCTETS n && nat_le n MAX_OCTETS then Some n else None
+    if bytes_eq value (decimal n) && nat_le MIN_OCTETS n && nat_le n MAX_OCTETS then Some n
+    else None
 
 -- ---- options
 
@@ -36,7 +38,8 @@ with_octets settings (Some n) = Some (record settings { octets = n })
 abbrev pub with_option : Settings → List ℕ → List ℕ → Option Settings
 with_option settings option value =
     if bytes_eq option (codes "--elements") then with_elements settings (choice_in value)
-    else (if bytes_eq option (codes "--octets") then with_octets settings (number_in value) else None)
+    else (if bytes_eq option (codes "--octets") then with_octets settings (number_in value)
+    else None)
 
 -- the option is one of those among these words
 abbrev pub is_among : List ℕ → List (List ℕ) → Bool
@@ -57,7 +60,8 @@ chosen_from (Some settings) (option ∷ value ∷ words) =
 -- the settings of `show`, where these words are that command
 abbrev pub settings_in : List (List ℕ) → Option Settings
 settings_in [] = None
-settings_in (word ∷ words) = if bytes_eq word (codes "show") then chosen_from (Some default_settings) words else None
+settings_in (word ∷ words) = if bytes_eq word (codes "show")
+    then chosen_from (Some default_settings) words else None
 
 -- the words are `replay`
 abbrev pub is_replay : List (List ℕ) → Bool

@@ -1,4 +1,5 @@
--- The words that the program takes: a command, then options with their values, in any order, each once at most.
+-- The words that the program takes: a command, then options with their values, in any order, each
+-- once at most.
 -- Here the words are the texts of what is chosen; the code goes over the words that it is given.
 use Rattle.std.specs.Prelude.{◌≡◌, ℕ, ◌≤◌, ◌⊎◌, Bool, true, false, List, [], ◌∷◌, codes, bytes_eq, if◌then◌else◌}
 use Rattle.std.specs.Fmt.{decimal}
@@ -52,7 +53,8 @@ words_of chosen = chosen.name ∷ word_of chosen.value ∷ []
 -- one of these options has this name, and a value of its form
 abbrev pub IsTaken : List OptionRow → Chosen → Type 0
 IsTaken [] chosen = ⊥
-IsTaken (row ∷ rows) chosen = ((chosen.name ≡ row.name) × IsOf row.form chosen.value) ⊎ IsTaken rows chosen
+IsTaken (row ∷ rows) chosen = ((chosen.name ≡ row.name) × IsOf row.form chosen.value)
+    ⊎ IsTaken rows chosen
 
 -- the option of this name is set
 abbrev pub IsSet : List ℕ → List Chosen → Type 0
@@ -67,7 +69,8 @@ AreDistinct (chosen ∷ others) = (IsSet chosen.name others → ⊥) × AreDisti
 -- the value that an option is set to, and otherwise its own
 abbrev pub value_in : List ℕ → Value → List Chosen → Value
 value_in name default [] = default
-value_in name default (chosen ∷ others) = if bytes_eq chosen.name name then chosen.value else value_in name default others
+value_in name default (chosen ∷ others) = if bytes_eq chosen.name name then chosen.value
+    else value_in name default others
 
 abbrev pub value_of : OptionRow → List Chosen → Value
 value_of row chosen = value_in row.name row.default chosen
@@ -75,7 +78,8 @@ value_of row chosen = value_in row.name row.default chosen
 -- ---- commands
 
 -- the words are a command's with these of its options set
-pub record AreWords (command : List ℕ) (rows : List OptionRow) (chosen : List Chosen) (words : List (List ℕ)) : Type 0 where
+pub record AreWords (command : List ℕ) (rows : List OptionRow) (chosen : List Chosen)
+    (words : List (List ℕ)) : Type 0 where
   pub each : AllByRecursion (IsTaken rows) chosen
   pub distinct : AreDistinct chosen
   pub words_are : words ≡ command ∷ flat_map words_of chosen
@@ -86,7 +90,12 @@ elements_option = record { name = codes "--elements"; form = yes_or_no; default 
 
 -- how many octets are read at most
 abbrev pub octets_option : OptionRow
-octets_option = record { name = codes "--octets"; form = from_to MIN_OCTETS MAX_OCTETS; default = number OCTETS }
+octets_option = record {
+  name = codes "--octets";
+  form = from_to MIN_OCTETS MAX_OCTETS;
+  default =
+      number OCTETS;
+}
 
 -- the options of `show`
 abbrev pub show_options : List OptionRow

@@ -14,7 +14,8 @@ status_of (Ending.Broken rule place) left = 3
 
 -- the line, after so many frames
 abbrev pub last_line : Ending → ℕ → ℕ → List ℕ
-last_line (Ending.Ended octets) frames left = if left == 0 then totals_line frames octets else cut_line left
+last_line (Ending.Ended octets) frames left = if left == 0 then totals_line frames octets
+    else cut_line left
 last_line (Ending.Spent octets) frames left = spent_line octets
 last_line Ending.ReadFault frames left = read_fault_line
 last_line Ending.WriteFault frames left = []

@@ -78,7 +78,8 @@ pub record EndsFrame (line : Held) (old new : Lister) : Type 0 where
   pub zero : new.zero ≡ old.zero
   pub element : new.element ≡ old.element
 
--- there is room for the line of a message, the line of a frame and the next piece, where elements are listed
+-- there is room for the line of a message, the line of a frame and the next piece, where elements
+-- are listed
 abbrev pub HasRoom : Option Zero → Lister → Lister → Type 0
 HasRoom None old new = (new.out ≡ old.out) × (new.element.octets ≡ [])
 HasRoom (Some zero) old new = length new.element.octets + OUT_ROOM ≤ new.out.spare
@@ -86,7 +87,8 @@ HasRoom (Some zero) old new = length new.element.octets + OUT_ROOM ≤ new.out.s
 -- what channel zero says with a data frame, after these payloads of channel zero
 pub record SaysWith (f : Frame) (before : List ℕ) (old new : Lister) : Type 0 where
   pub zero : HasMessage new.zero (gathers before f)
-  pub is_beside : IsBeside (lists_elements old.zero && ends_message f) (message_with before f) new.element.octets
+  pub is_beside : IsBeside (lists_elements old.zero && ends_message f) (message_with before f)
+      new.element.octets
 
 -- the line of a message was made, if a data frame completes one that is listed
 pub record ListsMessage (old new : Lister) : Type 0 where
@@ -99,15 +101,19 @@ pub record ListsMessage (old new : Lister) : Type 0 where
   pub room : HasRoom old.zero old new
   pub spare : old.out.spare ≤ new.out.spare
   pub says : (fed : List ℕ) (frames : List Frame) (head : Head) (payload before : List ℕ)
-      → WasFed old.decoder (fed_of fed (frames ++ framed head payload ∷ []) [] None) → HasMessage old.zero before → SaysWith (framed head payload) before old new
+      → WasFed old.decoder (fed_of fed (frames ++ framed head payload ∷ []) [] None)
+      → HasMessage old.zero before → SaysWith (framed head payload) before old new
 
 -- one line more, and what stands beside it, of a data frame after these payloads of channel zero
 pub record EndsWith (f : Frame) (before : List ℕ) (old new : Lister) : Type 0 where
   pub zero : HasMessage new.zero (gathers before f)
   pub beside : List ℕ
-  pub is_beside : IsBeside (lists_elements old.zero && ends_message f) (message_with before f) beside
-  pub written : length old.line.octets ≤ LINE_ROOM → length old.line.octets ≤ old.out.spare → 0 < old.out.spare
-      → new.out.octets ≡ ((old.out.octets ++ take (length old.line.octets - 2) old.line.octets) ++ 10 ∷ []) ++ beside
+  pub is_beside : IsBeside (lists_elements old.zero && ends_message f) (message_with before f)
+      beside
+  pub written : length old.line.octets ≤ LINE_ROOM → length old.line.octets ≤ old.out.spare
+      → 0 < old.out.spare
+      → new.out.octets ≡ ((old.out.octets ++ take (length old.line.octets - 2) old.line.octets)
+      ++ 10 ∷ []) ++ beside
 
 -- a data frame has ended
 pub record EndsData (old new : Lister) : Type 0 where
@@ -117,16 +123,21 @@ pub record EndsData (old new : Lister) : Type 0 where
   pub elements : lists_elements new.zero ≡ lists_elements old.zero
   pub cleared : new.line.octets ≡ []
   pub line_room : KeepsRoom old.line new.line
-  pub fits : (k : ℕ) → k ≤ PIECE → length old.line.octets ≤ LINE_ROOM → 2 ≤ length old.line.octets → length old.line.octets + k ≤ old.out.spare → k ≤ new.out.spare
+  pub fits : (k : ℕ) → k ≤ PIECE → length old.line.octets ≤ LINE_ROOM → 2 ≤ length old.line.octets
+      → length old.line.octets + k ≤ old.out.spare → k ≤ new.out.spare
   pub ends : (fed : List ℕ) (frames : List Frame) (head : Head) (payload before : List ℕ)
-      → WasFed old.decoder (fed_of fed (frames ++ framed head payload ∷ []) [] None) → HasMessage old.zero before → EndsWith (framed head payload) before old new
+      → WasFed old.decoder (fed_of fed (frames ++ framed head payload ∷ []) [] None)
+      → HasMessage old.zero before → EndsWith (framed head payload) before old new
 
 -- what a step does to a lister
 abbrev pub Follows : Step → Lister → Lister → List ℕ → Type 0
-Follows Step.More old new taken = SameLines old new × (new.has_head ≡ old.has_head) × Gathered old.line new.line old.has_head taken
-Follows (Step.Head head) old new taken = SameLines old new × (new.has_head ≡ true) × Gathered old.line new.line old.has_head taken
+Follows Step.More old new taken = SameLines old new × (new.has_head ≡ old.has_head)
+    × Gathered old.line new.line old.has_head taken
+Follows (Step.Head head) old new taken = SameLines old new × (new.has_head ≡ true)
+    × Gathered old.line new.line old.has_head taken
 Follows Step.Frame old new taken = EndsData old new
-Follows (Step.Seq seq) old new taken = (line : Held) × Gathered old.line line old.has_head taken × EndsFrame line old new
+Follows (Step.Seq seq) old new taken = (line : Held) × Gathered old.line line old.has_head taken
+    × EndsFrame line old new
 Follows (Step.Broken rule place) old new taken = new ≡ old
 
 -- ---- over a piece
@@ -148,7 +159,8 @@ pub record Adds (elements : Bool) (frames more : List Frame) (old new : List ℕ
   pub written : new ≡ old ++ text
 
 -- all of a piece was listed
-pub record Lists (elements : Bool) (old new : Lister) (fed : List ℕ) (frames : List Frame) (piece : List ℕ) : Type 0 where
+pub record Lists (elements : Bool) (old new : Lister) (fed : List ℕ) (frames : List Frame)
+    (piece : List ℕ) : Type 0 where
   pub more : List Frame
   pub rest : List ℕ
   pub known : Option Head
@@ -156,7 +168,8 @@ pub record Lists (elements : Bool) (old new : Lister) (fed : List ℕ) (frames :
   pub adds : Adds elements frames more old.out.octets new.out.octets
 
 -- a piece was listed up to an octet at which the stream breaks a rule
-pub record ListsTo (rule : Rule) (place : ℕ) (elements : Bool) (old new : Lister) (fed : List ℕ) (frames : List Frame) (piece : List ℕ) : Type 0 where
+pub record ListsTo (rule : Rule) (place : ℕ) (elements : Bool) (old new : Lister) (fed : List ℕ)
+    (frames : List Frame) (piece : List ℕ) : Type 0 where
   pub more : List Frame
   pub rest : List ℕ
   pub before : List ℕ
@@ -169,7 +182,8 @@ pub record ListsTo (rule : Rule) (place : ℕ) (elements : Bool) (old new : List
   pub adds : Adds elements frames more old.out.octets new.out.octets
 
 -- the first octets of a piece were listed
-pub record ListsFirst (elements : Bool) (old new : Lister) (fed : List ℕ) (frames : List Frame) (piece : List ℕ) : Type 0 where
+pub record ListsFirst (elements : Bool) (old new : Lister) (fed : List ℕ) (frames : List Frame)
+    (piece : List ℕ) : Type 0 where
   pub asked : elements ≡ true
   pub more : List Frame
   pub rest : List ℕ
@@ -182,11 +196,14 @@ pub record ListsFirst (elements : Bool) (old new : Lister) (fed : List ℕ) (fra
 -- what became of a piece
 abbrev pub ListsAs : Listed → Bool → Lister → Lister → List ℕ → List Frame → List ℕ → Type 0
 ListsAs Listed.Whole elements old new fed frames piece = Lists elements old new fed frames piece
-ListsAs (Listed.Broken rule place) elements old new fed frames piece = ListsTo rule place elements old new fed frames piece
-ListsAs Listed.NoMemory elements old new fed frames piece = ListsFirst elements old new fed frames piece
+ListsAs (Listed.Broken rule place) elements old new fed frames piece = ListsTo rule place elements
+    old new fed frames piece
+ListsAs Listed.NoMemory elements old new fed frames piece = ListsFirst elements old new fed frames
+    piece
 
 -- so much of a piece was listed so far, and the rest of it finds room
-pub record ListsSoFar (elements : Bool) (old now : Lister) (fed : List ℕ) (frames : List Frame) (piece : List ℕ) (at : ℕ) : Type 0 where
+pub record ListsSoFar (elements : Bool) (old now : Lister) (fed : List ℕ) (frames : List Frame)
+    (piece : List ℕ) (at : ℕ) : Type 0 where
   pub lists : Lists elements old now fed frames (take at piece)
   pub fits : length now.line.octets + (length piece - at) ≤ now.out.spare
 

@@ -47,7 +47,8 @@ pub record IsOwnFault (octets text : List ℕ) : Type 0 where
   pub side : fault.side ≡ Side.Sent
   pub text_is : text ≡ report past ++ written_line fault.rule fault.place
 
--- status 2: no record has the octets up to the one whose number is printed, or the input ends there too soon
+-- status 2: no record has the octets up to the one whose number is printed, or the input ends there
+-- too soon
 pub record IsBad (octets text : List ℕ) : Type 0 where
   pub within : length octets ≤ MAX_INPUT
   pub place : ℕ

@@ -13,7 +13,8 @@ use Rattle.beep_wires.specs.Transfer.{AppendsPrefix}
 use Rattle.beep_cmd.specs.declared.words.Settings.{Settings}
 use Rattle.beep_cmd.specs.Texts.{AreLines, totals, usage_line, read_fault_line, cut_line, spent_line, broken_line}
 
--- the octets are these frames and this rest, and no header that is whole says a size above the limit
+-- the octets are these frames and this rest, and no header that is whole says a size above the
+-- limit
 pub record IsRead (octets : List ℕ) (frames : List Frame) (rest : List ℕ) : Type 0 where
   pub stream : Stream octets frames rest
   pub within : AllByRecursion (IsWithin MAX_PAYLOAD) frames
@@ -76,12 +77,17 @@ abbrev pub HasEnded : SourceState → Type 0
 HasEnded source = (source.ended ≡ true) × IsAtEnd source.left
 
 -- a report, its status and its cause, of a source before the run and after it
-pub data IsReport (settings : Settings) (old new : SourceState) (octets text : List ℕ) (status : ℕ) : Type 0 where
-  whole : status ≡ 0 → HasEnded new → IsWhole settings octets text → IsReport settings old new octets text status
+pub data IsReport (settings : Settings) (old new : SourceState) (octets text : List ℕ) (status : ℕ)
+    : Type 0 where
+  whole : status ≡ 0 → HasEnded new → IsWhole settings octets text
+      → IsReport settings old new octets text status
   broken : status ≡ 3 → IsBroken settings octets text → IsReport settings old new octets text status
-  read_fault : status ≡ 4 → Rose old.faults new.faults → IsFault settings octets text → IsReport settings old new octets text status
-  cut : status ≡ 9 → HasEnded new → IsCut settings octets text → IsReport settings old new octets text status
-  spent : status ≡ 11 → new.ended ≡ false → IsSpent settings octets text → IsReport settings old new octets text status
+  read_fault : status ≡ 4 → Rose old.faults new.faults → IsFault settings octets text
+      → IsReport settings old new octets text status
+  cut : status ≡ 9 → HasEnded new → IsCut settings octets text
+      → IsReport settings old new octets text status
+  spent : status ≡ 11 → new.ended ≡ false → IsSpent settings octets text
+      → IsReport settings old new octets text status
 
 -- the text begins the lines of the frames that are whole with the first of these octets
 pub record BeginsLines (settings : Settings) (octets text : List ℕ) : Type 0 where
@@ -98,7 +104,9 @@ pub record BeginsLines (settings : Settings) (octets text : List ℕ) : Type 0 w
 -- the text begins those lines, or the report of a status whose cause holds
 pub data IsShort (settings : Settings) (old new : SourceState) (octets text : List ℕ) : Type 0 where
   in_lines : BeginsLines settings octets text → IsShort settings old new octets text
-  in_report : (status : ℕ) (after : List ℕ) → IsReport settings old new octets (text ++ after) status → IsShort settings old new octets text
+  in_report : (status : ℕ) (after : List ℕ)
+      → IsReport settings old new octets (text ++ after) status
+      → IsShort settings old new octets text
 
 -- ---- a run
 
@@ -121,20 +129,26 @@ pub record Saw (P : List ℕ → List ℕ → Type 0) (run : Run) : Type 0 where
   pub appended : Appends run.sink.written run.sink_after.written text
   pub holds : P octets text
 
--- what a run of `show` that ended so reports: a status with its report; 5, where a write failed; 7, where it was out of memory
+-- what a run of `show` that ended so reports: a status with its report; 5, where a write failed; 7,
+-- where it was out of memory
 pub data Shown (settings : Settings) (status : ℕ) (run : Run) : Type 0 where
-  report : Saw (λ octets text. IsReport settings run.source run.source_after octets text status) run → Shown settings status run
-  write_fault : status ≡ 5 → Rose run.sink.faults run.sink_after.faults → Saw (IsShort settings run.source run.source_after) run → Shown settings status run
+  report : Saw (λ octets text. IsReport settings run.source run.source_after octets text status) run
+      → Shown settings status run
+  write_fault : status ≡ 5 → Rose run.sink.faults run.sink_after.faults
+      → Saw (IsShort settings run.source run.source_after) run → Shown settings status run
   no_memory : status ≡ 7 → Saw (BeginsLines settings) run → Shown settings status run
 
 -- words that the program doesn't take: it says so, or the write of that line failed
 pub data Refused (status : ℕ) (run : Run) : Type 0 where
-  usage : status ≡ 1 → Appends run.sink.written run.sink_after.written usage_line → Refused status run
-  write_fault : status ≡ 5 → Rose run.sink.faults run.sink_after.faults → AppendsPrefix run.sink.written run.sink_after.written usage_line → Refused status run
+  usage : status ≡ 1 → Appends run.sink.written run.sink_after.written usage_line
+      → Refused status run
+  write_fault : status ≡ 5 → Rose run.sink.faults run.sink_after.faults
+      → AppendsPrefix run.sink.written run.sink_after.written usage_line → Refused status run
 
 -- ---- when all went well
 
--- the input is whole frames of which each payload is within the limit, and fewer octets than are read at most
+-- the input is whole frames of which each payload is within the limit, and fewer octets than are
+-- read at most
 pub record IsPlain (settings : Settings) (octets : List ℕ) : Type 0 where
   pub frames : List Frame
   pub read : IsRead octets frames []

@@ -23,10 +23,13 @@ frame_line (seq_frame seq) = seq_line seq ++ 10 ∷ []
 abbrev pub indented : List ℕ → List ℕ
 indented text = 32 ∷ 32 ∷ text ++ 10 ∷ []
 
--- what is shown of a message of channel zero: the canonical element of what it says, or that it says nothing, or that it is too long
+-- what is shown of a message of channel zero: the canonical element of what it says, or that it
+-- says nothing, or that it is too long
 pub data IsMessageText (message text : List ℕ) : Type 0 where
-  element : (form : Form) → length message ≤ MAX_TEXT → Says message form → text ≡ element_text (element_as form) → IsMessageText message text
-  unreadable : length message ≤ MAX_TEXT → ((form : Form) → Says message form → ⊥) → text ≡ codes "unreadable" → IsMessageText message text
+  element : (form : Form) → length message ≤ MAX_TEXT → Says message form → text
+      ≡ element_text (element_as form) → IsMessageText message text
+  unreadable : length message ≤ MAX_TEXT → ((form : Form) → Says message form → ⊥) → text
+      ≡ codes "unreadable" → IsMessageText message text
   too_long : MAX_TEXT < length message → text ≡ codes "too long" → IsMessageText message text
 
 -- its line
@@ -51,22 +54,28 @@ gathers before f = if ends_message f then [] else message_with before f
 
 -- ---- the lines of frames
 
--- the lines of a frame: its own, and where elements are listed that of the message which it completes
+-- the lines of a frame: its own, and where elements are listed that of the message which it
+-- completes
 pub data IsEntry (elements : Bool) (before : List ℕ) (f : Frame) (text : List ℕ) : Type 0 where
-  alone : (elements && ends_message f) ≡ false → text ≡ frame_line f → IsEntry elements before f text
-  with_element : (elements && ends_message f) ≡ true → (line : List ℕ) → IsElementLine (message_with before f) line → text ≡ frame_line f ++ line → IsEntry elements before f text
+  alone : (elements && ends_message f) ≡ false → text ≡ frame_line f
+      → IsEntry elements before f text
+  with_element : (elements && ends_message f) ≡ true → (line : List ℕ)
+      → IsElementLine (message_with before f) line → text ≡ frame_line f ++ line
+      → IsEntry elements before f text
 
 -- the lines of frames, one after another, after payloads of channel zero
 abbrev pub AreLines : Bool → List ℕ → List Frame → List ℕ → Type 0
 AreLines elements before [] text = text ≡ []
 AreLines elements before (f ∷ frames) text =
-    (entry others : List ℕ) × IsEntry elements before f entry × AreLines elements (gathers before f) frames others × (text ≡ entry ++ others)
+    (entry others : List ℕ) × IsEntry elements before f entry
+    × AreLines elements (gathers before f) frames others × (text ≡ entry ++ others)
 
 -- ---- other lines
 
 -- so many frames of so many octets
 abbrev pub totals_line : ℕ → ℕ → List ℕ
-totals_line frames octets = codes "frames " ++ decimal frames ++ codes " octets " ++ decimal octets ++ 10 ∷ []
+totals_line frames octets = codes "frames " ++ decimal frames ++ codes " octets " ++ decimal octets
+    ++ 10 ∷ []
 
 -- how many frames there were, and how many octets they have
 abbrev pub totals : List Frame → List ℕ

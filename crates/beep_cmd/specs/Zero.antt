@@ -1,4 +1,5 @@
--- What is kept of the message of channel zero under way, and the line that is made of it, for proofs.
+-- What is kept of the message of channel zero under way, and the line that is made of it, for
+-- proofs.
 use Rattle.std.specs.Prelude.{◌≡◌, ℕ, ◌+◌, ◌<◌, ◌≤◌, Bool, true, false, List, ◌++◌, length}
 use Rattle.beep_text.specs.declared.limits.TheConstants.{MAX_TEXT}
 use Rattle.beep_octets.specs.Held.{Held}
