@@ -1,5 +1,5 @@
-//! The program `beep`: it makes the real source and sink, makes one call, hands on its status, and says
-//! on standard error what a status but 0 means.
+//! The program `beep`: it makes the real source and sink, makes one call, hands on its status, and
+//! says on standard error what a status but 0 means.
 #![tactic(auto)]
 
 use beep_cmd::beep_run;
@@ -46,10 +46,10 @@ fn ended(rt: &HostRuntime, status: u8) -> ExitCode {
 /// What a status but 0 means (docs/COMMANDS.md).
 fn meaning_of(status: u8) -> &'static str {
     match status {
-        1 =>
-            "the words are no command; there are: show [--elements yes|no] [--octets 1..4294967295]; replay",
-        2 =>
-            "the input is no record, or what was written breaks a rule, at the place in the last line",
+        1 => "the words are no command; there are: show [--elements yes|no] [--octets \
+              1..4294967295]; replay",
+        2 => "the input is no record, or what was written breaks a rule, at the place in the last \
+              line",
         3 => "what was read breaks a rule of BEEP, at the octet that the last line names",
         4 => "the input couldn't be read",
         5 => "the output couldn't be written",

@@ -1,5 +1,5 @@
-//! A list of the frames of a stream: one line for each, gathered as its header comes, and where that is
-//! asked for one more for what each message of channel zero says.
+//! A list of the frames of a stream: one line for each, gathered as its header comes, and where
+//! that is asked for one more for what each message of channel zero says.
 ghost use Rattle.std.specs.Prelude.{◌≡◌, ◌+◌, ◌≤◌, Bool, true, length, IfOk, OnOk, OnErr};
 ghost use Rattle.beep_octets.specs.Held.{KeepsRoom};
 ghost use Rattle.beep_frame.specs.Fed.{Fed, nothing_fed};
@@ -162,7 +162,8 @@ impl Lister {
     }
 }
 
-/// Adds octets to a line that isn't a whole header. They find room: no line is longer than a header.
+/// Adds octets to a line that isn't a whole header. They find room: no line is longer than a
+/// header.
 fn gather(line: &mut Octets, whole: bool, taken: &[u8])
     ensures { Gathered line.old line.new whole taken.now }
 {

@@ -7,8 +7,8 @@ ghost use Rattle.beep_cmd.specs.declared.words.Command.{Command as command_type}
 
 use itoa::Buffer;
 
-/// How many octets of its input a command reads at most where no option says it, about a gibibyte: a
-/// guard against an input that never ends.
+/// How many octets of its input a command reads at most where no option says it, about a gibibyte:
+/// a guard against an input that never ends.
 pub const OCTETS: u32 = 1073741824;
 
 /// The least number of octets that an option may have a command read at most.

@@ -156,7 +156,11 @@ new_given is_zero = record {
 -- once a whole reply is given
 abbrev pub after_reply : Given → Given
 after_reply given =
-    record given { owed = given.owed - 1; first_owed = modulo_2_64 (given.first_owed + 1); answers = None }
+    record given {
+      owed = given.owed - 1;
+      first_owed = modulo_2_64 (given.first_owed + 1);
+      answers = None;
+    }
 
 -- once a wholly taken reply has ended an own request
 abbrev pub after_end : Given → Given

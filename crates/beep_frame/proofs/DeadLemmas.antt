@@ -11,7 +11,7 @@ use Rattle.beep_frame.specs.Finding.{DiesInLine, DiesInTrailer}
 use Rattle.beep_frame.proofs.RunLemmas.{run-append, run-dead}
 use Rattle.beep_frame.proofs.StreamLemmas.{Overlap, overlap, line_of, tail_of, line_runs, no_more, not_dead, not_line, SameLine, same_line, same_length, same_frame, parted}
 
--- no frame's text, whatever follows it, goes on with this octet behind these
+-- no frame's text, whatever follows it, goes on with this octet after these
 abbrev pub NoFrame : List ℕ → ℕ → Type 0
 NoFrame r c = (g : Frame) (y z : List ℕ) → IsFrame g → spelling g ++ y ≡ r ++ c ∷ z → ⊥
 
@@ -46,7 +46,7 @@ trailer_at (suc (suc (suc (suc zero)))) c y z h e = cc
 trailer_at (suc (suc (suc (suc (suc n))))) c y z h e = absurd (omega arith)
 
 module _ (r : List ℕ) (c : ℕ) (d : DiesInTrailer r c) (y z : List ℕ) where
-  -- behind the header
+  -- after the header
   behind_header : List ℕ
   behind_header = (d.payload ++ take d.count trailer) ++ c ∷ z
 

@@ -87,7 +87,7 @@ module _ (rest octets : List ℕ) (known : Option Head) (left : ℕ) (head : Hea
       let grown : PayloadOf (rest ++ take left octets) known head ((payload ++ take left octets) ++ []) = subst (λ x. PayloadOf (rest ++ take left octets) known head x) (sym (append-nil (payload ++ take left octets))) (payload_grown left) in
       (head, payload ++ take left octets, grown, omega (arith, length-append payload (take left octets), length-take-le left octets enough), omega arith)
 
--- ---- behind a payload
+-- ---- after a payload
 
 module _ (rest octets tail : List ℕ) (left n : ℕ) (enough : left ≤ length octets) (e : tail ≡ take (length octets - left) (drop left octets)) where
   tail_is : tail ≡ drop left octets
@@ -105,7 +105,7 @@ module _ (rest octets tail : List ℕ) (left n : ℕ) (enough : left ≤ length 
   taken_behind : (before : List ℕ) (octet : ℕ) → take n tail ≡ before ++ octet ∷ [] → take (left + n) octets ≡ (take left octets ++ before) ++ octet ∷ []
   taken_behind before octet h = sym used ∙ ap (λ x. take left octets ++ x) h ∙ sym (append_assoc (take left octets) before (octet ∷ []))
 
-  -- what was found behind a payload's octets was found behind the rest
+  -- what was found after a payload's octets was found after the rest
   pub shifted : (found : Found) (place : Place) (line : Line) (known : Option Head) → Finds found place line (rest ++ take left octets) known tail n → Finds found place line rest known octets (left + n)
   shifted Found.More place line known f =
       (omega (arith, f.0, ap length tail_is, length-drop left octets), subst (λ x. At place line x known) all_behind f.1)

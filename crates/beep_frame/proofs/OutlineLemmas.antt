@@ -21,12 +21,12 @@ use Rattle.beep_frame.specs.Outlining.{Notes, Holds, HasRoom, Adds, Ends, Follow
 use Rattle.beep_frame.proofs.LawLemmas.{read_by}
 use Rattle.beep_frame.specs.Fed.{fed_of}
 
--- a payload lies behind what comes before it
+-- a payload stands after what comes before it
 payload_at : (front payload tail read : List ℕ) (body size : ℕ) → body ≡ length front → length payload ≡ size → read ≡ front ++ (payload ++ tail) → take size (drop body read) ≡ payload
 payload_at front payload tail read body size at long whole =
     ap (λ x. take size (drop body x)) whole ∙ ap (take size) (drop_at front (payload ++ tail) body (sym at)) ∙ ap (λ k. take k (payload ++ tail)) (sym long) ∙ take-append_seam payload tail
 
--- the octets of a data frame behind others
+-- the octets of a data frame after others
 regrouped : (frames head payload tail : List ℕ) → frames ++ (head ++ payload ++ tail) ≡ (frames ++ head) ++ (payload ++ tail)
 regrouped frames head payload tail =
     ap (λ x. frames ++ x) (append_assoc head payload tail) ∙ sym (append_assoc frames head (payload ++ tail))

@@ -41,7 +41,7 @@ take_min w n octets false e =
 
 -- ---- the payload among the octets of a frame
 
--- what stands behind the header
+-- what stands after the header
 behind : (head : Head) (rest octets : List ℕ) → rest ≡ header head ++ octets → payload_in head rest ≡ take head.size octets
 behind head rest octets e =
     ap (λ x. take head.size (drop (length (header head)) x)) e ∙ ap (take head.size) (drop_at (header head) octets (length (header head)) refl)

@@ -12,7 +12,12 @@ use Rattle.beep_frame.specs.Tracks.{TrackerState}
 -- so many octets were used, and led there
 abbrev pub moved : TrackerState → Place → Line → ℕ → TrackerState
 moved d place line count =
-    record d { place = place; line = line; left = modulo_2_64 (d.left + count); used = modulo_2_64 (d.used + count) }
+    record d {
+      place = place;
+      line = line;
+      left = modulo_2_64 (d.left + count);
+      used = modulo_2_64 (d.used + count);
+    }
 
 -- where the next octet stands after a header
 abbrev pub behind_header : ℕ → Place

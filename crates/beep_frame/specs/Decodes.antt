@@ -25,7 +25,8 @@ pub record GivesMore (Stand : Word) (fed : Fed) (octets : List ℕ) (used : ℕ)
   pub stands : Stand (fed_more fed octets)
 
 -- the last octet used is this header's LF
-pub record GivesHead (head : Head) (Stand : Word) (max : ℕ) (fed : Fed) (taken : List ℕ) : Type 0 where
+pub record GivesHead (head : Head) (Stand : Word) (max : ℕ) (fed : Fed) (taken : List ℕ)
+    : Type 0 where
   pub first : fed.head ≡ None
   pub is_head : IsHead head
   pub within : head.size ≤ max

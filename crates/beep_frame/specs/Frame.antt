@@ -10,7 +10,15 @@ use Rattle.beep_frame.specs.declared.head.TheConstants.{MAX_NUMBER}
 -- the header with these parts
 abbrev pub head_of : Kind → ℕ → ℕ → Bool → ℕ → ℕ → ℕ → Head
 head_of kind channel msgno more seqno size ansno =
-    record { kind = kind; channel = channel; msgno = msgno; more = more; seqno = seqno; size = size; ansno = ansno }
+    record {
+      kind = kind;
+      channel = channel;
+      msgno = msgno;
+      more = more;
+      seqno = seqno;
+      size = size;
+      ansno = ansno;
+    }
 
 -- the greatest answer number that a frame of this kind may have: only an ANS has one
 abbrev pub max_ansno_of : Kind → ℕ

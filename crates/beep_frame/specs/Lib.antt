@@ -8,7 +8,8 @@ pub mod Decoding
 pub mod Decodes
 pub mod Outline
 pub mod Laws
--- What proofs alone need: the decoder as a machine, its state in the code, and how an outline grows.
+-- What proofs alone need: the decoder as a machine, its state in the code, and how an outline
+-- grows.
 pub mod Machine
 pub mod Line
 pub mod Reading

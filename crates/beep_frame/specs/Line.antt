@@ -49,7 +49,8 @@ ansno_of_line Kind.Nul values = 0
 -- the header with a whole line's values
 abbrev pub head_of_line : Kind → List ℕ → Head
 head_of_line kind v =
-    head_of kind (slice_index v 4) (slice_index v 5) (slice_index v 6 == 42) (slice_index v 8) (slice_index v 9) (ansno_of_line kind v)
+    head_of kind (slice_index v 4) (slice_index v 5) (slice_index v 6 == 42) (slice_index v 8)
+    (slice_index v 9) (ansno_of_line kind v)
 
 -- the SEQ with a whole line's values
 abbrev pub seq_of_line : List ℕ → Seq
@@ -77,7 +78,9 @@ after_part PartTurn.Dead line count = dead
 abbrev pub parts_turn : List Part → Line → ℕ → Turn
 parts_turn parts line c =
     if nat_lt line.at (length parts)
-    then after_part (part_turn (slice_index_or parts line.at (Part.Octet 0)) line.number c) line (length parts) else dead
+    then after_part (part_turn (slice_index_or parts line.at (Part.Octet 0)) line.number c) line
+    (length parts)
+    else dead
 
 -- the next octet
 unfoldable pub line_turn : Line → ℕ → Turn

@@ -31,7 +31,8 @@ pub record IsWhole (octets : List ℕ) (frames : List Frame) (count : ℕ) : Typ
 
 -- the stream is dead at the octet of this number, by this rule, after these frames and so many
 -- octets more
-pub record IsDead (rule : Rule) (place : ℕ) (octets : List ℕ) (frames : List Frame) (count : ℕ) : Type 0 where
+pub record IsDead (rule : Rule) (place : ℕ) (octets : List ℕ) (frames : List Frame) (count : ℕ)
+    : Type 0 where
   pub before : List ℕ
   pub octet : ℕ
   pub more : List ℕ

@@ -21,7 +21,8 @@ run t [] = t
 run t (c ∷ cs) = run (turn t c) cs
 
 -- a whole header came, and this of its payload
-pub record PayloadOf (rest : List ℕ) (known : Option Head) (head : Head) (payload : List ℕ) : Type 0 where
+pub record PayloadOf (rest : List ℕ) (known : Option Head) (head : Head) (payload : List ℕ)
+    : Type 0 where
   pub known_is : known ≡ Some head
   pub is_head : IsHead head
   pub rest_is : rest ≡ header head ++ payload

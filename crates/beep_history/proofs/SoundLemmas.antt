@@ -25,7 +25,7 @@ abbrev pub IsUniform : List Head → Type 0
 IsUniform [] = Unit {0}
 IsUniform (frame ∷ frames) = IsAlike frame.kind frames
 
--- each of the first numbers is apart from those behind it among them
+-- each of the first numbers is apart from those after it among them
 abbrev pub IsApartFirst : ℕ → List ℕ → Type 0
 IsApartFirst zero numbers = Unit {0}
 IsApartFirst (suc w) [] = Unit {0}

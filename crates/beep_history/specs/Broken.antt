@@ -43,7 +43,8 @@ goes_on_request side past head =
 abbrev pub changes_reply : Side → List Item → Head → Bool
 changes_reply side past head = option_map_or
     (λ request. not (is_answered (other side) request.position past)
-    && list_any (λ frame. not (same_kind frame.kind head.kind)) (reply (other side) request.position past))
+    && list_any (λ frame. not (same_kind frame.kind head.kind))
+    (reply (other side) request.position past))
     (named side past head) false
 
 -- KindChanged: a message goes on as another kind, a NUL comes within a request, or a reply goes on
@@ -71,7 +72,9 @@ breaks_number_in_use side past head =
 abbrev pub breaks_never_asked : Side → List Item → Head → Bool
 breaks_never_asked side past head =
     is_reply head.kind
-    && is_none (find (λ request. request.number == head.msgno) (take MAX_REQUESTS (requests (other side) past)))
+    && is_none
+    (find (λ request. request.number == head.msgno)
+    (take MAX_REQUESTS (requests (other side) past)))
 
 -- EarlyReply: the last frame of the request that a reply names has not passed (RFC 3080, section
 -- 2.1).
@@ -79,13 +82,15 @@ breaks_never_asked side past head =
 abbrev pub breaks_early_reply : Side → List Item → Head → Bool
 breaks_early_reply side past head =
     is_reply head.kind
-    && option_map_or (λ request. not (is_whole (other side) request.position past)) (named side past head) false
+    && option_map_or (λ request. not (is_whole (other side) request.position past))
+    (named side past head) false
 
 -- AlreadyAnswered: the request that a reply names is answered (RFC 3080, section 2.2.1)
 abbrev pub breaks_already_answered : Side → List Item → Head → Bool
 breaks_already_answered side past head =
     is_reply head.kind
-    && option_map_or (λ request. is_answered (other side) request.position past) (named side past head) false
+    && option_map_or (λ request. is_answered (other side) request.position past)
+    (named side past head) false
 
 -- OutOfTurn: a request before the one that a reply names is not answered (RFC 3080, section 2.6.1).
 -- Choice: such a reply ends the session (docs/DECISIONS.md, "Replies out of turn")
@@ -93,7 +98,8 @@ abbrev pub breaks_out_of_turn : Side → List Item → Head → Bool
 breaks_out_of_turn side past head =
     is_reply head.kind
     && option_map_or
-    (λ request. list_any (λ earlier. nat_lt earlier.position request.position) (waiting (other side) past))
+    (λ request. list_any (λ earlier. nat_lt earlier.position request.position)
+    (waiting (other side) past))
     (named side past head) false
 
 -- NulNotAfterAns: the reply that a NUL ends has a frame, and its last frame is no ANS (RFC 3080,
@@ -101,7 +107,8 @@ breaks_out_of_turn side past head =
 abbrev pub breaks_nul_not_after_ans : Side → List Item → Head → Bool
 breaks_nul_not_after_ans side past head =
     is_nul head.kind
-    && option_map_or (λ before. not (is_ans before.kind)) (first (reply_so_far side past head)) false
+    && option_map_or (λ before. not (is_ans before.kind)) (first (reply_so_far side past head))
+    false
 
 -- NulTooSoon: an answer of the reply that a NUL ends is not complete (RFC 3080, section 2.2.1)
 abbrev pub breaks_nul_too_soon : Side → List Item → Head → Bool

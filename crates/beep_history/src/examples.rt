@@ -1,8 +1,10 @@
-//! Small histories of one life as text, and the rule that the next header breaks: what a table in a test runs.
+//! Small histories of one life as text, and the rule that the next header breaks: what a table in a
+//! test runs.
 //!
-//! The values are worked out by hand from docs/RULES.md. A frame is written as its side, `R` for received or `S` for
-//! sent, its keyword, number, `*` or `.`, size, and for an ANS its answer number; a SEQ as its side, keyword, ackno and
-//! window. Frames have the channel 1 and the sequence number that comes next.
+//! The values are worked out by hand from docs/RULES.md. A frame is written as its side, `R` for
+//! received or `S` for sent, its keyword, number, `*` or `.`, size, and for an ANS its answer
+//! number; a SEQ as its side, keyword, ackno and window. Frames have the channel 1 and the sequence
+//! number that comes next.
 
 use crate::journal::Side;
 use beep_frame::{Head, Kind, Rule, Seq};
@@ -29,8 +31,8 @@ pub struct Example {
     pub breaks: Option<Rule>,
 }
 
-/// A header after many requests of the sent side, of numbers from 0, unfinished answers to the first of them, and a
-/// history.
+/// A header after many requests of the sent side, of numbers from 0, unfinished answers to the
+/// first of them, and a history.
 #[derive(Clone, Copy, Debug)]
 pub struct LimitExample {
     /// What happens, in a few words.
@@ -47,8 +49,8 @@ pub struct LimitExample {
     pub breaks: Option<Rule>,
 }
 
-/// A header of the received side after a history, and the rule of windows that it breaks as it is, and with the sides
-/// exchanged.
+/// A header of the received side after a history, and the rule of windows that it breaks as it is,
+/// and with the sides exchanged.
 #[derive(Clone, Copy, Debug)]
 pub struct WindowExample {
     /// What happens, in a few words.
@@ -63,7 +65,8 @@ pub struct WindowExample {
     pub sent: Option<Rule>,
 }
 
-/// The examples on requests and replies, in the order of the rules. Each holds with the sides exchanged too.
+/// The examples on requests and replies, in the order of the rules. Each holds with the sides
+/// exchanged too.
 pub static EXAMPLES: [Example; 51] = [
     Example {
         name: "a NUL with more to come",
@@ -373,8 +376,8 @@ pub static EXAMPLES: [Example; 51] = [
     },
 ];
 
-/// The examples on windows (RFC 3081, section 3.1). The peer may rely on each edge that this end ever advertised; this
-/// end keeps within what the last SEQ left open.
+/// The examples on windows (RFC 3081, section 3.1). The peer may rely on each edge that this end
+/// ever advertised; this end keeps within what the last SEQ left open.
 pub static WINDOW_EXAMPLES: [WindowExample; 14] = [
     WindowExample {
         name: "the first 4,096 octets may go",
@@ -476,8 +479,8 @@ pub static WINDOW_EXAMPLES: [WindowExample; 14] = [
     },
 ];
 
-/// The examples at the limits of one life (docs/DECISIONS.md, "Limits of one life"). Each holds with the sides
-/// exchanged too.
+/// The examples at the limits of one life (docs/DECISIONS.md, "Limits of one life"). Each holds
+/// with the sides exchanged too.
 pub static LIMIT_EXAMPLES: [LimitExample; 9] = [
     LimitExample {
         name: "a request beside 1,023 that wait",

@@ -95,7 +95,8 @@ has_form Kind.Nul position request reply = false
 -- the reply that a passing frame completes has the form that its request asks for
 abbrev pub completes_form : Side → Head → List ℕ → List Item → Bool
 completes_form by head payload zero =
-    has_form head.kind (position_of by zero head) (said_to by head zero) (message_said (gathered by zero ++ payload))
+    has_form head.kind (position_of by zero head) (said_to by head zero)
+    (message_said (gathered by zero ++ payload))
 
 -- ---- moments
 

@@ -1,12 +1,14 @@
-//! Short sessions as text, and the rule that what comes next is the first to break, with its octet: what a table in a
-//! test runs.
+//! Short sessions as text, and the rule that what comes next is the first to break, with its octet:
+//! what a table in a test runs.
 //!
-//! The values are worked out by hand from docs/RULES.md and the octets of the frames. A frame is written as its side,
-//! `R` for received or `S` for sent, its keyword, channel, number, `*` or `.`, what it holds, and for an ANS its answer
-//! number; a SEQ as its side, keyword, channel, ackno and window. What a frame holds is a number of octets, or the name
-//! of a message of channel zero. `R begins ..` is a header alone, and `R ends` the rest of its frame. Frames have the
-//! sequence number that comes next, or the one after `@`. `greetings` stands for both greetings, `started` for these
-//! and a start of channel 1 that was granted. Each row holds with the sides exchanged too.
+//! The values are worked out by hand from docs/RULES.md and the octets of the frames. A frame is
+//! written as its side, `R` for received or `S` for sent, its keyword, channel, number, `*` or `.`,
+//! what it holds, and for an ANS its answer number; a SEQ as its side, keyword, channel, ackno and
+//! window. What a frame holds is a number of octets, or the name of a message of channel zero.
+//! `R begins ..` is a header alone, and `R ends` the rest of its frame. Frames have the sequence
+//! number that comes next, or the one after `@`. `greetings` stands for both greetings, `started`
+//! for these and a start of channel 1 that was granted. Each row holds with the sides exchanged
+//! too.
 
 use beep_frame::Rule;
 
@@ -187,7 +189,8 @@ pub static CHANNELS: [SessionExample; 16] = [
     },
     SessionExample {
         name: "a close that came before its number began",
-        past: "greetings; R MSG 0 1 . close1; R MSG 0 2 . start1; S RPY 0 1 . ok; S RPY 0 2 . chosen",
+        past: "greetings; R MSG 0 1 . close1; R MSG 0 2 . start1; S RPY 0 1 . ok; \
+          S RPY 0 2 . chosen",
         next: "R MSG 1 0 . 5",
         breaks: None,
         tunes: false,
@@ -215,7 +218,8 @@ pub static CHANNELS: [SessionExample; 16] = [
     },
     SessionExample {
         name: "a number whose start was refused, started again",
-        past: "greetings; R MSG 0 1 . start1; S ERR 0 1 . error; R MSG 0 2 . start1; S RPY 0 2 . chosen",
+        past: "greetings; R MSG 0 1 . start1; S ERR 0 1 . error; R MSG 0 2 . start1; \
+          S RPY 0 2 . chosen",
         next: "R MSG 1 0 . 5",
         breaks: None,
         tunes: false,
@@ -356,7 +360,8 @@ pub static OCTETS: [SessionExample; 9] = [
     },
     SessionExample {
         name: "a NUL after two answers",
-        past: "started; S MSG 1 0 . 9; R ANS 1 0 * 3 0; R ANS 1 0 * 3 1; R ANS 1 0 . 1 0; R ANS 1 0 . 1 1",
+        past: "started; S MSG 1 0 . 9; R ANS 1 0 * 3 0; R ANS 1 0 * 3 1; R ANS 1 0 . 1 0; \
+          R ANS 1 0 . 1 1",
         next: "R NUL 1 0 . 0",
         breaks: None,
         tunes: false,
@@ -620,42 +625,48 @@ pub static LIVES: [SessionExample; 11] = [
     },
     SessionExample {
         name: "a number starts anew before the late ok",
-        past: "started; R MSG 0 2 . close1; S MSG 0 1 . close1; S RPY 0 2 . ok; R MSG 0 3 . start1; S RPY 0 3 . chosen; R RPY 0 1 . ok",
+        past: "started; R MSG 0 2 . close1; S MSG 0 1 . close1; S RPY 0 2 . ok; \
+          R MSG 0 3 . start1; S RPY 0 3 . chosen; R RPY 0 1 . ok",
         next: "R MSG 1 0 . 2",
         breaks: None,
         tunes: false,
     },
     SessionExample {
         name: "a number starts anew before the close is refused",
-        past: "started; R MSG 0 2 . close1; S MSG 0 1 . close1; S RPY 0 2 . ok; R MSG 0 3 . start1; S RPY 0 3 . chosen; R ERR 0 1 . error",
+        past: "started; R MSG 0 2 . close1; S MSG 0 1 . close1; S RPY 0 2 . ok; \
+          R MSG 0 3 . start1; S RPY 0 3 . chosen; R ERR 0 1 . error",
         next: "R MSG 1 0 . 2",
         breaks: None,
         tunes: false,
     },
     SessionExample {
         name: "the window of a new life",
-        past: "started; R MSG 0 2 . close1; S MSG 0 1 . close1; S RPY 0 2 . ok; R MSG 0 3 . start1; S RPY 0 3 . chosen; R RPY 0 1 . ok",
+        past: "started; R MSG 0 2 . close1; S MSG 0 1 . close1; S RPY 0 2 . ok; \
+          R MSG 0 3 . start1; S RPY 0 3 . chosen; R RPY 0 1 . ok",
         next: "R MSG 1 0 . 4097",
         breaks: Some((Rule::Window, 476)),
         tunes: false,
     },
     SessionExample {
         name: "the window of the life before is gone",
-        past: "started; S SEQ 1 0 65536; R MSG 0 2 . close1; S RPY 0 2 . ok; R MSG 0 3 . start1; S RPY 0 3 . chosen",
+        past: "started; S SEQ 1 0 65536; R MSG 0 2 . close1; S RPY 0 2 . ok; R MSG 0 3 . start1; \
+          S RPY 0 3 . chosen",
         next: "R MSG 1 0 . 4097",
         breaks: Some((Rule::Window, 407)),
         tunes: false,
     },
     SessionExample {
         name: "a frame that ends after its life stays out of the next",
-        past: "started; R MSG 0 2 . close1; R begins MSG 1 0 . 5; S RPY 0 2 . ok; R ends; R MSG 0 3 . start1; S RPY 0 3 . chosen",
+        past: "started; R MSG 0 2 . close1; R begins MSG 1 0 . 5; S RPY 0 2 . ok; R ends; \
+          R MSG 0 3 . start1; S RPY 0 3 . chosen",
         next: "R MSG 1 0 . 5 @0",
         breaks: None,
         tunes: false,
     },
     SessionExample {
         name: "its octets don't count in the next life",
-        past: "started; R MSG 0 2 . close1; R begins MSG 1 0 . 5; S RPY 0 2 . ok; R ends; R MSG 0 3 . start1; S RPY 0 3 . chosen",
+        past: "started; R MSG 0 2 . close1; R begins MSG 1 0 . 5; S RPY 0 2 . ok; R ends; \
+          R MSG 0 3 . start1; S RPY 0 3 . chosen",
         next: "R MSG 1 0 . 5 @5",
         breaks: Some((Rule::Sequence, 429)),
         tunes: false,

@@ -58,12 +58,13 @@ pub fn a_log_shows_one_session()
 
 /// The first fault stays: what comes after it changes nothing.
 pub fn the_first_fault_stays()
-    ensures { (tunes : Tuning) (moment : Moment) (log : List Moment) (before past : Past) (fault : Fault)
-        → Shows tunes log before → before.fault ≡ Some fault → Shows tunes (moment ∷ log) past → past ≡ before }
+    ensures { (tunes : Tuning) (moment : Moment) (log : List Moment) (before past : Past)
+        (fault : Fault) → Shows tunes log before → before.fault ≡ Some fault
+        → Shows tunes (moment ∷ log) past → past ≡ before }
 {}
 
-/// No rule is broken before the first fault: each header, SEQ and reply of the journal broke none as it
-/// came, but for the frame whose content is the fault.
+/// No rule is broken before the first fault: each header, SEQ and reply of the journal broke none
+/// as it came, but for the frame whose content is the fault.
 pub fn no_rule_is_broken_before_the_first_fault()
     ensures whole { (tunes : Tuning) (log : List Moment) (past : Past) → Shows tunes log past
         → past.fault ≡ None → IsUnbroken tunes past.journal }
@@ -71,11 +72,14 @@ pub fn no_rule_is_broken_before_the_first_fault()
         → IsUnbrokenBefore tunes past.journal }
 {}
 
-/// Where channel zero keeps the rules of the exchange, the marks of a side of it, cut at their ends, are its
-/// messages, and what is left after the last end is what its message under way has so far.
+/// Where channel zero keeps the rules of the exchange, the marks of a side of it, cut at their
+/// ends, are its messages, and what is left after the last end is what its message under way has so
+/// far.
 pub fn the_messages_of_channel_zero_are_its_marks_cut_at_their_ends()
-    ensures contents { (side : Side) (journal : List Item) → KeepsExchangeRules (zero_history journal)
+    ensures contents { (side : Side) (journal : List Item)
+        → KeepsExchangeRules (zero_history journal)
         → pieces_from [] (marks side (zero_history journal)) ≡ contents side journal }
-    ensures left { (side : Side) (journal : List Item) → KeepsExchangeRules (zero_history journal)
+    ensures left { (side : Side) (journal : List Item)
+        → KeepsExchangeRules (zero_history journal)
         → rest_from [] (marks side (zero_history journal)) ≡ gathered side (zero_history journal) }
 {}

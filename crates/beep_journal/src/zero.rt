@@ -145,7 +145,8 @@ fn is_choice_of(listed: &Profiles, profile: &Profile) -> bool
 /// Whether a positive reply to the request at a position says what grants it.
 fn is_grant(position: usize, request: Option<&Mgmt>, reply: Option<&Mgmt>) -> bool
     ensures { result
-        ≡ is_grant position (form_in (option_copied request.entry)) (form_in (option_copied reply.entry)) }
+        ≡ is_grant position (form_in (option_copied request.entry))
+        (form_in (option_copied reply.entry)) }
 {
     let Some(reply) = reply else { return false };
     match request {
@@ -185,7 +186,8 @@ fn is_refusal(reply: Option<&Mgmt>) -> bool
 /// Whether a whole reply of this kind has the form that its request asks for.
 fn has_form(kind: Kind, position: usize, request: Option<&Mgmt>, reply: Option<&Mgmt>) -> bool
     ensures { result
-        ≡ has_form kind position (form_in (option_copied request.entry)) (form_in (option_copied reply.entry)) }
+        ≡ has_form kind position (form_in (option_copied request.entry))
+        (form_in (option_copied reply.entry)) }
 {
     match kind {
         Kind::Rpy => is_grant(position, request, reply),

@@ -26,7 +26,10 @@ impl Model for Octets {
 
     ghost Value = { Held };
 
-    ghost view = { λ o. record { octets = o.bytes.items; spare = vec_capacity o.bytes - vec_len o.bytes } };
+    ghost view = { λ o. record {
+      octets = o.bytes.items;
+      spare = vec_capacity o.bytes - vec_len o.bytes;
+    } };
 }
 
 impl Octets {

@@ -59,8 +59,8 @@ fn an_ackno_of_what_was_not_sent_is_bad(rt: HostRuntime) -> Result<(), Fail> {
 /// A message: its kind, the request that it is or answers, its answer number, and its octets.
 type Message = (Kind, u64, u32, &'static str);
 
-// What the ends give in turn. All of a turn are given before the first frame goes, and the other end
-// takes them whole and in this order (RFC 3080, section 2.1).
+// What the ends give in turn. All of a turn are given before the first frame goes, and the other
+// end takes them whole and in this order (RFC 3080, section 2.1).
 const ASKED: [Message; 5] = [
     (Kind::Msg, 0, 0, "hello, world"),
     (Kind::Msg, 1, 0, ""),

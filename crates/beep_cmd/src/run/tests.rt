@@ -227,16 +227,21 @@ fn no_more_is_read_than_is_asked_for(rt: HostRuntime) -> Result<(), Fail> {
 fn messages_of_channel_zero_have_a_line(rt: HostRuntime) -> Result<(), Fail> {
     let rows: [(&[u8], &str); 7] = [
         (
-            b"RPY 0 0 . 0 110\r\nContent-Type: application/beep+xml\r\n\r\n<greeting>\r\n   <profile uri='http://iana.org/beep/TLS' />\r\n</greeting>\r\nEND\r\n",
-            "RPY 0 0 . 0 110\n  <greeting><profile uri='http://iana.org/beep/TLS' /></greeting>\nframes 1 octets 132\n",
+            b"RPY 0 0 . 0 110\r\nContent-Type: application/beep+xml\r\n\r\n\
+              <greeting>\r\n   <profile uri='http://iana.org/beep/TLS' />\r\n</greeting>\r\n\
+              END\r\n",
+            "RPY 0 0 . 0 110\n  <greeting><profile uri='http://iana.org/beep/TLS' /></greeting>\n\
+              frames 1 octets 132\n",
         ),
         (
             b"RPY 0 0 . 0 2\r\n\r\nEND\r\n",
             "RPY 0 0 . 0 2\n  unreadable\nframes 1 octets 22\n",
         ),
         (
-            b"RPY 0 0 * 0 6\r\n\r\n<ok END\r\nSEQ 0 6 4096\r\nMSG 1 0 . 0 2\r\n<aEND\r\nRPY 0 0 . 6 2\r\n/>END\r\n",
-            "RPY 0 0 * 0 6\nSEQ 0 6 4096\nMSG 1 0 . 0 2\nRPY 0 0 . 6 2\n  <ok />\nframes 4 octets 84\n",
+            b"RPY 0 0 * 0 6\r\n\r\n<ok END\r\nSEQ 0 6 4096\r\nMSG 1 0 . 0 2\r\n<aEND\r\n\
+              RPY 0 0 . 6 2\r\n/>END\r\n",
+            "RPY 0 0 * 0 6\nSEQ 0 6 4096\nMSG 1 0 . 0 2\nRPY 0 0 . 6 2\n  <ok />\n\
+              frames 4 octets 84\n",
         ),
         (
             b"MSG 0 1 . 0 31\r\n<close number='1' code='200' />END\r\n",
@@ -247,8 +252,10 @@ fn messages_of_channel_zero_have_a_line(rt: HostRuntime) -> Result<(), Fail> {
             "ANS 0 0 . 0 5 0\n  <ok />\nframes 1 octets 27\n",
         ),
         (
-            b"ERR 0 2 . 0 34\r\n<error code='550'>a&#13;b</error >END\r\nRPY 0 3 . 34 5\r\n<ok/>END\r\n",
-            "ERR 0 2 . 0 34\n  <error code='550'>a&#13;b</error>\nRPY 0 3 . 34 5\n  <ok />\nframes 2 octets 81\n",
+            b"ERR 0 2 . 0 34\r\n<error code='550'>a&#13;b</error >END\r\nRPY 0 3 . 34 5\r\n\
+              <ok/>END\r\n",
+            "ERR 0 2 . 0 34\n  <error code='550'>a&#13;b</error>\nRPY 0 3 . 34 5\n  <ok />\n\
+              frames 2 octets 81\n",
         ),
         (
             b"MSG 0 1 * 0 1\r\nxEND\r\n",
@@ -280,11 +287,13 @@ fn a_message_above_65536_octets_is_too_long(rt: HostRuntime) -> Result<(), Fail>
     let rows: [(&[u8], &str); 2] = [
         (
             b"MSG 0 1 . 65535 1\r\nxEND\r\n",
-            "MSG 0 1 * 0 65535\nMSG 0 1 . 65535 1\n  unreadable\nMSG 0 2 . 9 5\n  <ok />\nframes 3 octets 65609\n",
+            "MSG 0 1 * 0 65535\nMSG 0 1 . 65535 1\n  unreadable\nMSG 0 2 . 9 5\n  <ok />\n\
+              frames 3 octets 65609\n",
         ),
         (
             b"MSG 0 1 . 65535 2\r\nxxEND\r\n",
-            "MSG 0 1 * 0 65535\nMSG 0 1 . 65535 2\n  too long\nMSG 0 2 . 9 5\n  <ok />\nframes 3 octets 65610\n",
+            "MSG 0 1 * 0 65535\nMSG 0 1 . 65535 2\n  too long\nMSG 0 2 . 9 5\n  <ok />\n\
+              frames 3 octets 65610\n",
         ),
     ];
     for (extra, output) in rows {

@@ -151,8 +151,8 @@ fn answers_are_counted_until_the_nul(rt: HostRuntime) -> Result<(), Fail> {
     Ok(())
 }
 
-// Positions count from 0 on each side. A reply is given to the oldest request that is owed one, and taken of the
-// oldest own request that waits.
+// Positions count from 0 on each side. A reply is given to the oldest request that is owed one, and
+// taken of the oldest own request that waits.
 #[test]
 fn requests_are_owed_and_asked_by_position(rt: HostRuntime) -> Result<(), Fail> {
     let mut exchange = Exchange::new(rt.alloc(), false)?;

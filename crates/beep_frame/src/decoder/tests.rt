@@ -1,5 +1,5 @@
-//! One stream, cut in every way. The steps and the place are worked out by hand from the grammar (RFC
-//! 3080, section 2.2.1; RFC 3081, section 3.1).
+//! One stream, cut in every way. The steps and the place are worked out by hand from the grammar
+//! (RFC 3080, section 2.2.1; RFC 3081, section 3.1).
 
 use super::*;
 use crate::limits::MAX_PAYLOAD;
@@ -190,7 +190,8 @@ fn lend_all(decoder: &mut Decoder, piece: &[u8], lent: &mut Octets) -> Result<()
 #[test]
 fn each_cut_lends_the_same_payloads(rt: HostRuntime) -> Result<(), NoMemory> {
     let stream: &[u8] =
-        b"RPY 0 1 . 0 0\r\nEND\r\nANS 1 0 * 0 3 7\r\nabcEND\r\nSEQ 1 2 3\r\nMSG 1 0 . 3 5\r\nEND\r\nEND\r\nMSG 1 1 . 8 1\r\nxEND\r\n";
+        b"RPY 0 1 . 0 0\r\nEND\r\nANS 1 0 * 0 3 7\r\nabcEND\r\nSEQ 1 2 3\r\nMSG 1 0 . 3 5\r\n\
+          END\r\nEND\r\nMSG 1 1 . 8 1\r\nxEND\r\n";
     for cut in 0..=stream.len() {
         let mut decoder = Decoder::new(rt.alloc(), MAX_PAYLOAD)?;
         let mut lent = Octets::new(rt.alloc());

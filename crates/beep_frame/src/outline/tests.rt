@@ -1,6 +1,6 @@
-//! What short lists of octets are. The frames, the rests and the places are worked out by hand from the
-//! grammar (RFC 3080, section 2.2.1; RFC 3081, section 3.1): a place is the number, from 0, of the first
-//! octet that nothing in the grammar has there.
+//! What short lists of octets are. The frames, the rests and the places are worked out by hand from
+//! the grammar (RFC 3080, section 2.2.1; RFC 3081, section 3.1): a place is the number, from 0, of
+//! the first octet that nothing in the grammar has there.
 
 use super::*;
 use crate::kind::Kind;

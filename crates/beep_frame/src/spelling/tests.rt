@@ -9,12 +9,14 @@ use crate::step::Step;
 use beep_octets::NoMemory;
 use std::alloc::Global;
 
-// The request that asks for a channel (RFC 3080, section 2.3.1.2), 120 octets, and the shortest greeting, 52.
-static START: &[u8] =
-    b"Content-Type: application/beep+xml\r\n\r\n<start number='1'>\r\n   <profile uri='http://iana.org/beep/SASL/OTP' />\r\n</start>\r\n";
+// The request that asks for a channel (RFC 3080, section 2.3.1.2), 120 octets, and the shortest
+// greeting, 52.
+static START: &[u8] = b"Content-Type: application/beep+xml\r\n\r\n\
+      <start number='1'>\r\n   <profile uri='http://iana.org/beep/SASL/OTP' />\r\n</start>\r\n";
 
-static START_FRAME: &[u8] =
-    b"MSG 0 1 . 52 120\r\nContent-Type: application/beep+xml\r\n\r\n<start number='1'>\r\n   <profile uri='http://iana.org/beep/SASL/OTP' />\r\n</start>\r\nEND\r\n";
+static START_FRAME: &[u8] = b"MSG 0 1 . 52 120\r\nContent-Type: application/beep+xml\r\n\r\n\
+      <start number='1'>\r\n   <profile uri='http://iana.org/beep/SASL/OTP' />\r\n</start>\r\n\
+      END\r\n";
 
 static GREETING: &[u8] = b"Content-Type: application/beep+xml\r\n\r\n<greeting />\r\n";
 

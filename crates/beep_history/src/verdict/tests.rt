@@ -8,7 +8,8 @@ use beep_octets::Octets;
 use std::alloc::Global;
 use std::test::Fail;
 
-/// A history under way: its items, the earliest first, the octets of each side, and whether its sides are exchanged.
+/// A history under way: its items, the earliest first, the octets of each side, and whether its
+/// sides are exchanged.
 #[derive(Drop)]
 struct Story {
     items: Vec<JournalItem>,
@@ -124,7 +125,8 @@ fn an_octet_past_the_edge_breaks_window(rt: HostRuntime) -> Result<(), Fail> {
     Ok(())
 }
 
-/// A story of requests of the side that is answered, of numbers from 0, and of unfinished answers to the first.
+/// A story of requests of the side that is answered, of numbers from 0, and of unfinished answers
+/// to the first.
 fn asked(alloc: Global, exchanged: bool, requests: u32, answers: u32) -> Result<Story, Fail> {
     let mut story = Story::new(alloc, exchanged);
     for number in 0..requests {
@@ -161,7 +163,8 @@ fn a_reply_to_a_request_under_way_breaks_early_reply(rt: HostRuntime) -> Result<
     Ok(())
 }
 
-/// The rule that a header of channel zero breaks after 2^32 octets of one request, in a wide window.
+/// The rule that a header of channel zero breaks after 2^32 octets of one request, in a wide
+/// window.
 fn broken_after_wrap(alloc: Global, exchanged: bool, seqno: u32) -> Result<Option<Rule>, Fail> {
     let mut story = Story::new(alloc, exchanged);
     story.play("R MSG 0 * 2147483647; R MSG 0 * 2147483647; R MSG 0 * 2")?;
@@ -191,7 +194,8 @@ fn a_number_that_is_not_the_next_breaks_sequence(rt: HostRuntime) -> Result<(), 
     Ok(())
 }
 
-/// The rule that a header with so many octets breaks after 1,048,576 octets of its message, in a wide window.
+/// The rule that a header with so many octets breaks after 1,048,576 octets of its message, in a
+/// wide window.
 fn broken_after_long(
     alloc: Global,
     exchanged: bool,

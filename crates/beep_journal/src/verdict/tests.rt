@@ -184,7 +184,8 @@ impl Story {
         }
     }
 
-    /// The frame that these words write: keyword, channel, number, flag, what it holds, and a number or a place.
+    /// The frame that these words write: keyword, channel, number, flag, what it holds, and a
+    /// number or a place.
     fn frame(&self, side: Side, text: &str) -> Result<Frame, Fail> {
         let mut words = text.split_whitespace();
         let kind = words.next().and_then(kind_of).ok_or("a keyword")?;

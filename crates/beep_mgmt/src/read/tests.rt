@@ -16,8 +16,10 @@ static READ: [(&[u8], &[u8]); 15] = [
         b"<greeting><profile uri='a' /><profile uri='b' /></greeting>",
     ),
     (
-        b"<start serverName='blockmaster.example' number='4294967295'>\t<profile uri='a'>b</profile>\t</start>",
-        b"<start number='4294967295' serverName='blockmaster.example'><profile uri='a'>b</profile></start>",
+        b"<start serverName='blockmaster.example' number='4294967295'>\t<profile uri='a'>\
+          b</profile>\t</start>",
+        b"<start number='4294967295' serverName='blockmaster.example'><profile uri='a'>b</profile>\
+          </start>",
     ),
     (
         b"<start number='0'><profile uri=''/></start>",

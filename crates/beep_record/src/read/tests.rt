@@ -38,8 +38,10 @@ fn a_record_is_written_as_it_was_read(rt: HostRuntime) -> Result<(), Fail> {
 static OPENING: &[u8] = b"beep-record 1 listener\n\
 W RPY 0 0 . 0 52\\r\\nContent-Type: application/beep+xml\\r\\n\\r\\n<greeting />\\r\\nEND\\r\\n\n\
 R RPY 0 0 . 0 52\\r\\nContent-Type: application/beep+xml\\r\\n\\r\\n<greeting />\\r\\nEND\\r\\n\n\
-R MSG 0 1 . 52 89\\r\\nContent-Type: application/beep+xml\\r\\n\\r\\n<start number='1'><profile uri='urn:x' /></start>\\r\\nEND\\r\\n\n\
-W RPY 0 1 . 52 63\\r\\nContent-Type: application/beep+xml\\r\\n\\r\\n<profile uri='urn:x' />\\r\\nEND\\r\\n\n";
+R MSG 0 1 . 52 89\\r\\nContent-Type: application/beep+xml\\r\\n\\r\\n\
+<start number='1'><profile uri='urn:x' /></start>\\r\\nEND\\r\\n\n\
+W RPY 0 1 . 52 63\\r\\nContent-Type: application/beep+xml\\r\\n\\r\\n<profile uri='urn:x' />\\r\\n\
+END\\r\\n\n";
 
 #[test]
 fn the_opening_is_written_as_it_was_read(rt: HostRuntime) -> Result<(), Fail> {

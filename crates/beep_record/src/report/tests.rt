@@ -10,8 +10,10 @@ use std::test::Fail;
 static OPENING: &[u8] = b"beep-record 1 listener\n\
 W RPY 0 0 . 0 52\\r\\nContent-Type: application/beep+xml\\r\\n\\r\\n<greeting />\\r\\nEND\\r\\n\n\
 R RPY 0 0 . 0 52\\r\\nContent-Type: application/beep+xml\\r\\n\\r\\n<greeting />\\r\\nEND\\r\\n\n\
-R MSG 0 1 . 52 89\\r\\nContent-Type: application/beep+xml\\r\\n\\r\\n<start number='1'><profile uri='urn:x' /></start>\\r\\nEND\\r\\n\n\
-W RPY 0 1 . 52 63\\r\\nContent-Type: application/beep+xml\\r\\n\\r\\n<profile uri='urn:x' />\\r\\nEND\\r\\n\n";
+R MSG 0 1 . 52 89\\r\\nContent-Type: application/beep+xml\\r\\n\\r\\n\
+<start number='1'><profile uri='urn:x' /></start>\\r\\nEND\\r\\n\n\
+W RPY 0 1 . 52 63\\r\\nContent-Type: application/beep+xml\\r\\n\\r\\n<profile uri='urn:x' />\\r\\n\
+END\\r\\n\n";
 
 static OPENED: &[u8] =
     b"> RPY 0 0 . 0 52\n< RPY 0 0 . 0 52\n< MSG 0 1 . 52 89\n> RPY 0 1 . 52 63\n";
@@ -63,13 +65,19 @@ fn each_session_has_its_report_and_verdict(rt: HostRuntime) -> Result<(), Fail> 
             Verdict::Fine,
         ),
         (
-            b"W MSG 1 0 . 0 9\\r\\n\\r\\nready\\r\\nEND\\r\\n\nR ANS 1 0 * 0 3 0\\r\\n\\r\\naEND\\r\\n\nR ANS 1 0 * 3 3 1\\r\\n\\r\\nbEND\\r\\nNUL 1 0 . 6 0\\r\\n\n",
+            b"W MSG 1 0 . 0 9\\r\\n\\r\\nready\\r\\nEND\\r\\n\n\
+              R ANS 1 0 * 0 3 0\\r\\n\\r\\naEND\\r\\n\n\
+              R ANS 1 0 * 3 3 1\\r\\n\\r\\nbEND\\r\\nNUL 1 0 . 6 0\\r\\n\n",
             b"> MSG 1 0 . 0 9\n< ANS 1 0 * 0 3 0\n< ANS 1 0 * 3 3 1\n",
             Verdict::Broken(Rule::NulTooSoon, 248),
         ),
         (
-            b"W MSG 1 0 . 0 9\\r\\n\\r\\nready\\r\\nEND\\r\\n\nR ANS 1 0 * 0 3 0\\r\\n\\r\\naEND\\r\\nANS 1 0 * 3 3 1\\r\\n\\r\\nbEND\\r\\n\nR ANS 1 0 . 6 1 0\\r\\ncEND\\r\\nANS 1 0 . 7 1 1\\r\\ndEND\\r\\nNUL 1 0 . 8 0\\r\\nEND\\r\\n\n",
-            b"> MSG 1 0 . 0 9\n< ANS 1 0 * 0 3 0\n< ANS 1 0 * 3 3 1\n< ANS 1 0 . 6 1 0\n< ANS 1 0 . 7 1 1\n< NUL 1 0 . 8 0\nframes 7 3 left 0\n",
+            b"W MSG 1 0 . 0 9\\r\\n\\r\\nready\\r\\nEND\\r\\n\n\
+              R ANS 1 0 * 0 3 0\\r\\n\\r\\naEND\\r\\nANS 1 0 * 3 3 1\\r\\n\\r\\nbEND\\r\\n\n\
+              R ANS 1 0 . 6 1 0\\r\\ncEND\\r\\nANS 1 0 . 7 1 1\\r\\ndEND\\r\\nNUL 1 0 . 8 0\\r\\n\
+              END\\r\\n\n",
+            b"> MSG 1 0 . 0 9\n< ANS 1 0 * 0 3 0\n< ANS 1 0 * 3 3 1\n< ANS 1 0 . 6 1 0\n\
+              < ANS 1 0 . 7 1 1\n< NUL 1 0 . 8 0\nframes 7 3 left 0\n",
             Verdict::Fine,
         ),
         (
@@ -78,12 +86,16 @@ fn each_session_has_its_report_and_verdict(rt: HostRuntime) -> Result<(), Fail> 
             Verdict::Broken(Rule::NumberInUse, 220),
         ),
         (
-            b"R MSG 1 0 . 0 2\\r\\n\\r\\nEND\\r\\n\nW RPY 1 0 . 0 2\\r\\n\\r\\nEND\\r\\n\nQ\nR MSG 1 0 . 2 2\\r\\n\\r\\nEND\\r\\n\nE\n",
+            b"R MSG 1 0 . 0 2\\r\\n\\r\\nEND\\r\\n\nW RPY 1 0 . 0 2\\r\\n\\r\\nEND\\r\\n\nQ\n\
+              R MSG 1 0 . 2 2\\r\\n\\r\\nEND\\r\\n\nE\n",
             b"< MSG 1 0 . 0 2\n> RPY 1 0 . 0 2\n< MSG 1 0 . 2 2\nframes 4 3 left 0\n",
             Verdict::Fine,
         ),
         (
-            b"R MSG 0 2 . 141 71\\r\\nContent-Type: application/beep+xml\\r\\n\\r\\n<close number='0' code='200' />\\r\\nEND\\r\\n\nW RPY 0 2 . 115 46\\r\\nContent-Type: application/beep+xml\\r\\n\\r\\n<ok />\\r\\nEND\\r\\n\nR not BEEP\n",
+            b"R MSG 0 2 . 141 71\\r\\nContent-Type: application/beep+xml\\r\\n\\r\\n\
+              <close number='0' code='200' />\\r\\nEND\\r\\n\n\
+              W RPY 0 2 . 115 46\\r\\nContent-Type: application/beep+xml\\r\\n\\r\\n<ok />\\r\\n\
+              END\\r\\n\nR not BEEP\n",
             b"< MSG 0 2 . 141 71\n> RPY 0 2 . 115 46\nframes 3 3 left 0\n",
             Verdict::Fine,
         ),

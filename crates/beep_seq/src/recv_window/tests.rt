@@ -15,9 +15,9 @@ fn window_after(size: u32, arrived: u32, taken: u32) -> RecvWindow
     receiver
 }
 
-// Each row: the window, the octets that arrived, those that were taken, the SEQ that is due then, and
-// the full SEQ. A SEQ is due where it opens half a window or more, which at a window from 8192 on it
-// does at once, since each channel begins with 4096 octets.
+// Each row: the window, the octets that arrived, those that were taken, the SEQ that is due then,
+// and the full SEQ. A SEQ is due where it opens half a window or more, which at a window from 8192
+// on it does at once, since each channel begins with 4096 octets.
 #[test]
 fn a_seq_is_due_from_half_a_window_on(rt: HostRuntime) {
     let rows: [(u32, u32, u32, Option<(u32, u32)>, (u32, u32)); 8] = [

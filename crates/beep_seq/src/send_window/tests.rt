@@ -1,9 +1,9 @@
 //! Runs of a sender's window.
 use super::*;
 
-// Each row: the octets sent at once, the ackno and the window, whether it is refused, the room after.
-// The first SEQ of a channel finds 4096 octets open; an ackno may be the last one, and no more than
-// what was sent (RFC 3081, section 3.1).
+// Each row: the octets sent at once, the ackno and the window, whether it is refused, the room
+// after. The first SEQ of a channel finds 4096 octets open; an ackno may be the last one, and no
+// more than what was sent (RFC 3081, section 3.1).
 #[test]
 fn an_ackno_outside_of_what_waits_breaks_bad_ack(rt: HostRuntime) {
     let rows: [(u32, u32, u32, bool, u32); 7] = [

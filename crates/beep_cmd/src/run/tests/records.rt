@@ -1,16 +1,18 @@
-//! Runs of `replay`. Places and lines are worked out by hand from the octets that docs/FORMATS.md gives frames
-//! and records, and from docs/RULES.md.
+//! Runs of `replay`. Places and lines are worked out by hand from the octets that docs/FORMATS.md
+//! gives frames and records, and from docs/RULES.md.
 ghost use Rattle.std.specs.Prelude.{None};
 
 use super::*;
 
-/// How a session begins that a listener recorded: both greetings, a start of channel 1, and its reply.
-/// 184 octets were read, and 158 written.
+/// How a session begins that a listener recorded: both greetings, a start of channel 1, and its
+/// reply. 184 octets were read, and 158 written.
 const OPENING: &str = "beep-record 1 listener
 W RPY 0 0 . 0 52\\r\\nContent-Type: application/beep+xml\\r\\n\\r\\n<greeting />\\r\\nEND\\r\\n
 R RPY 0 0 . 0 52\\r\\nContent-Type: application/beep+xml\\r\\n\\r\\n<greeting />\\r\\nEND\\r\\n
-R MSG 0 1 . 52 89\\r\\nContent-Type: application/beep+xml\\r\\n\\r\\n<start number='1'><profile uri='urn:x' /></start>\\r\\nEND\\r\\n
-W RPY 0 1 . 52 63\\r\\nContent-Type: application/beep+xml\\r\\n\\r\\n<profile uri='urn:x' />\\r\\nEND\\r\\n
+R MSG 0 1 . 52 89\\r\\nContent-Type: application/beep+xml\\r\\n\\r\\n\
+<start number='1'><profile uri='urn:x' /></start>\\r\\nEND\\r\\n
+W RPY 0 1 . 52 63\\r\\nContent-Type: application/beep+xml\\r\\n\\r\\n\
+<profile uri='urn:x' />\\r\\nEND\\r\\n
 ";
 
 const OPENING_LINES: &str = "> RPY 0 0 . 0 52
@@ -46,8 +48,8 @@ fn joined(alloc: Global, first: &str, second: &str) -> Result<Octets, Fail> {
     Ok(text)
 }
 
-/// Runs `replay` of the opening with these lines after it, with reads and writes of each size. It wants the
-/// lines of the opening, then this text, and this status.
+/// Runs `replay` of the opening with these lines after it, with reads and writes of each size. It
+/// wants the lines of the opening, then this text, and this status.
 fn replays<R: Abort + Alloc<A = Global>>(
     rt: &R,
     more: &str,
@@ -84,13 +86,19 @@ fn a_record_is_judged_at_its_first_broken_rule(rt: HostRuntime) -> Result<(), Fa
             0,
         ),
         (
-            "W MSG 1 0 . 0 9\\r\\n\\r\\nready\\r\\nEND\\r\\n\nR ANS 1 0 * 0 3 0\\r\\n\\r\\naEND\\r\\n\nR ANS 1 0 * 3 3 1\\r\\n\\r\\nbEND\\r\\n\nR NUL 1 0 . 6 0\\r\\n\n",
+            "W MSG 1 0 . 0 9\\r\\n\\r\\nready\\r\\nEND\\r\\n\n\
+              R ANS 1 0 * 0 3 0\\r\\n\\r\\naEND\\r\\n\nR ANS 1 0 * 3 3 1\\r\\n\\r\\nbEND\\r\\n\n\
+              R NUL 1 0 . 6 0\\r\\n\n",
             "> MSG 1 0 . 0 9\n< ANS 1 0 * 0 3 0\n< ANS 1 0 * 3 3 1\n! broken NulTooSoon 248\n",
             3,
         ),
         (
-            "W MSG 1 0 . 0 9\\r\\n\\r\\nready\\r\\nEND\\r\\n\nR ANS 1 0 * 0 3 0\\r\\n\\r\\naEND\\r\\nANS 1 0 * 3 3 1\\r\\n\\r\\nbEND\\r\\nANS 1 0 . 6 1 0\\r\\ncEND\\r\\nANS 1 0 . 7 1 1\\r\\ndEND\\r\\nNUL 1 0 . 8 0\\r\\nEND\\r\\n\n",
-            "> MSG 1 0 . 0 9\n< ANS 1 0 * 0 3 0\n< ANS 1 0 * 3 3 1\n< ANS 1 0 . 6 1 0\n< ANS 1 0 . 7 1 1\n< NUL 1 0 . 8 0\nframes 7 3 left 0\n",
+            "W MSG 1 0 . 0 9\\r\\n\\r\\nready\\r\\nEND\\r\\n\n\
+              R ANS 1 0 * 0 3 0\\r\\n\\r\\naEND\\r\\nANS 1 0 * 3 3 1\\r\\n\\r\\nbEND\\r\\n\
+              ANS 1 0 . 6 1 0\\r\\ncEND\\r\\nANS 1 0 . 7 1 1\\r\\ndEND\\r\\nNUL 1 0 . 8 0\\r\\n\
+              END\\r\\n\n",
+            "> MSG 1 0 . 0 9\n< ANS 1 0 * 0 3 0\n< ANS 1 0 * 3 3 1\n< ANS 1 0 . 6 1 0\n\
+              < ANS 1 0 . 7 1 1\n< NUL 1 0 . 8 0\nframes 7 3 left 0\n",
             0,
         ),
         (
@@ -99,7 +107,8 @@ fn a_record_is_judged_at_its_first_broken_rule(rt: HostRuntime) -> Result<(), Fa
             3,
         ),
         (
-            "R MSG 1 0 . 0 2\\r\\n\\r\\nEND\\r\\n\nW RPY 1 0 . 0 2\\r\\n\\r\\nEND\\r\\n\nR MSG 1 0 . 2 2\\r\\n\\r\\nEND\\r\\n\n",
+            "R MSG 1 0 . 0 2\\r\\n\\r\\nEND\\r\\n\nW RPY 1 0 . 0 2\\r\\n\\r\\nEND\\r\\n\n\
+              R MSG 1 0 . 2 2\\r\\n\\r\\nEND\\r\\n\n",
             "< MSG 1 0 . 0 2\n> RPY 1 0 . 0 2\n< MSG 1 0 . 2 2\nframes 4 3 left 0\n",
             0,
         ),
@@ -173,7 +182,8 @@ fn an_input_above_16777216_octets_is_too_long(rt: HostRuntime) -> Result<(), Fai
     Ok(())
 }
 
-// The pieces of reads and writes, the read and the write that fail, what is written, and the status.
+// The pieces of reads and writes, the read and the write that fail, what is written, and the
+// status.
 #[test]
 fn a_fault_ends_a_replay(rt: HostRuntime) -> Result<(), Fail> {
     let rows = [
