@@ -4,3 +4,5 @@ pub mod OctetLemmas
 pub mod ShownLemmas
 pub mod UnbrokenLemmas
 pub mod PiecesLemmas
+pub mod MomentLemmas
+pub mod JournalLemmas

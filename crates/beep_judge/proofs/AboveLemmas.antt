@@ -22,8 +22,8 @@ use Rattle.beep_judge.specs.Kept.{under, life_at, is_current, under_of}
 use Rattle.beep_judge.specs.Lived.{IsLife}
 use Rattle.beep_judge.specs.Edits.{Passes, Edits}
 use Rattle.beep_judge.specs.Judges.{Names, IsQueue, IsOfZero, IsSince, IsHalf, IsKept}
-use Rattle.beep_judge.proofs.MovesLemmas.{same-number, equal-number}
-use Rattle.beep_judge.proofs.JournalLemmas.{above-zero, above-events, above-there, above-released, above-history, above-others}
+use Rattle.beep_journal.proofs.MomentLemmas.{same-number, equal-number}
+use Rattle.beep_journal.proofs.JournalLemmas.{above-zero, above-events, above-there, above-released, above-history, above-others}
 use Rattle.beep_judge.proofs.KeptLemmas.{edited-at, edited-was, edited-some, edited-current, edited-names, queue-stays, since-stays}
 
 pub heard-mine : (side : Side) (head : Head) (payload : List ℕ) (journal : List Item) → is_some (previous side (passed side head payload ∷ journal)) ≡ true

@@ -18,8 +18,8 @@ use Rattle.beep_judge.specs.Kept.{under, life_at, is_current, under_of}
 use Rattle.beep_judge.specs.Lived.{IsLife}
 use Rattle.beep_judge.specs.Edits.{Begins, Edits}
 use Rattle.beep_judge.specs.Judges.{Names, IsChannels, IsQueue, IsOfZero, IsSince, IsHalf, IsKept}
-use Rattle.beep_judge.proofs.MovesLemmas.{same-number, equal-number}
-use Rattle.beep_judge.proofs.JournalLemmas.{began-events, began-there, began-released, began-history, began-others}
+use Rattle.beep_journal.proofs.MomentLemmas.{same-number, equal-number}
+use Rattle.beep_journal.proofs.JournalLemmas.{began-events, began-there, began-released, began-history, began-others}
 use Rattle.beep_judge.proofs.KeptLemmas.{edited-at, edited-was, edited-some, edited-current, edited-names, queue-stays, since-stays}
 use Rattle.beep_judge.proofs.HeadLemmas.{Lawful}
 

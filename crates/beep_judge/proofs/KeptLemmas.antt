@@ -15,7 +15,7 @@ use Rattle.beep_judge.specs.declared.channels.Channels.{Channels}
 use Rattle.beep_judge.specs.Kept.{life_at, is_current}
 use Rattle.beep_judge.specs.Edits.{Edits}
 use Rattle.beep_judge.specs.Judges.{Names, IsAsked, AreAsked, IsQueue, IsSince}
-use Rattle.beep_judge.proofs.MovesLemmas.{equal-number}
+use Rattle.beep_journal.proofs.MomentLemmas.{equal-number}
 
 -- ---- one step of one life
 

@@ -4,12 +4,10 @@ pub mod FormLemmas
 pub mod MovesLemmas
 pub mod FlowLemmas
 pub mod HeadLemmas
-pub mod JournalLemmas
 pub mod KeptLemmas
 pub mod BeginLemmas
 pub mod SeqLemmas
 pub mod AboveLemmas
-pub mod LivesLemmas
 pub mod QueueLemmas
 pub mod ZeroLemmas
 pub mod PartLemmas

@@ -19,7 +19,7 @@ use Rattle.beep_judge.specs.declared.channels.Channels.{Channels}
 use Rattle.beep_judge.specs.Kept.{under, life_at}
 use Rattle.beep_judge.specs.Lived.{IsLife}
 use Rattle.beep_judge.specs.Judges.{IsChannels, IsAsked, IsQueue, IsUnder, IsHalf, IsKept}
-use Rattle.beep_judge.proofs.MovesLemmas.{equal-number}
+use Rattle.beep_journal.proofs.MomentLemmas.{equal-number}
 
 -- the implied request says nothing
 says-nothing : message_said [] ≡ None

@@ -21,7 +21,7 @@ use Rattle.beep_journal.specs.Zero.{zero_events, gathered, asked, said_at, said_
 use Rattle.beep_judge.specs.declared.half.Request as kept
 use Rattle.beep_judge.specs.declared.channels.Channels.{Channels}
 use Rattle.beep_judge.specs.Judges.{Names, IsAsked, AreAsked, IsQueue}
-use Rattle.beep_judge.proofs.MovesLemmas.{same-number, apart-more}
+use Rattle.beep_journal.proofs.MomentLemmas.{same-number, apart-more}
 use Rattle.beep_judge.proofs.KeptLemmas.{asked-stays}
 
 module _ (head : Head) (payload : List ℕ) (zero : List Item) where

@@ -22,7 +22,8 @@ use Rattle.beep_judge.specs.Kept.{life_at}
 use Rattle.beep_judge.specs.Grants.{stamp_at, stamp_of}
 use Rattle.beep_judge.specs.Edits.{Passes, Edits}
 use Rattle.beep_judge.specs.Judges.{Names, IsQueue, IsKept}
-use Rattle.beep_judge.proofs.MovesLemmas.{same-number, apart-more, Moves, moves-coming}
+use Rattle.beep_journal.proofs.MomentLemmas.{same-number, apart-more}
+use Rattle.beep_judge.proofs.MovesLemmas.{Moves, moves-coming}
 use Rattle.beep_judge.proofs.PartLemmas.{live-kept}
 use Rattle.beep_judge.proofs.QueueLemmas.{gathered-mine, gathered-theirs, queue-new, queue-theirs-on}
 use Rattle.beep_judge.proofs.ZeroLemmas.{names, passes-zero, IsZeroBegun, zero-begun}

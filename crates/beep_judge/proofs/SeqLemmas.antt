@@ -19,8 +19,9 @@ use Rattle.beep_judge.specs.Kept.{under, life_at, is_current, under_of}
 use Rattle.beep_judge.specs.Lived.{IsLife}
 use Rattle.beep_judge.specs.Edits.{Obeys, SameChannels, Edits}
 use Rattle.beep_judge.specs.Judges.{Names, IsChannels, IsQueue, IsHalf, IsKept}
-use Rattle.beep_judge.proofs.MovesLemmas.{equal-number, current-same}
-use Rattle.beep_judge.proofs.JournalLemmas.{told-events, told-there, told-released, told-history, told-others}
+use Rattle.beep_journal.proofs.MomentLemmas.{equal-number}
+use Rattle.beep_judge.proofs.MovesLemmas.{current-same}
+use Rattle.beep_journal.proofs.JournalLemmas.{told-events, told-there, told-released, told-history, told-others}
 use Rattle.beep_judge.proofs.KeptLemmas.{edited-at, edited-was, edited-some, edited-current, queue-stays, since-stays}
 
 queue-told : (b : Bool) (by : Side) (seq : Seq) (channels : Channels) (side : Side) (zero : List Item) (requests : List Request)

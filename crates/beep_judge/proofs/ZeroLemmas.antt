@@ -21,10 +21,11 @@ use Rattle.beep_judge.specs.Kept.{under, life_at, under_of}
 use Rattle.beep_judge.specs.Lived.{IsLife}
 use Rattle.beep_judge.specs.Edits.{Passes, Edits}
 use Rattle.beep_judge.specs.Judges.{Names, IsChannels, IsQueue, IsOfZero, IsSince, IsUnder, IsKept}
-use Rattle.beep_judge.proofs.MovesLemmas.{equal-number, apart-zero, apart-less, IsOld, IsNew, Moves}
+use Rattle.beep_journal.proofs.MomentLemmas.{equal-number, apart-zero, apart-less}
+use Rattle.beep_judge.proofs.MovesLemmas.{IsOld, IsNew, Moves}
 use Rattle.beep_judge.proofs.KeptLemmas.{edited-at, edited-current, edited-names, since-stays}
 use Rattle.beep_judge.proofs.AboveLemmas.{heard-mine, heard-theirs, now-live}
-use Rattle.beep_judge.proofs.LivesLemmas.{no-items}
+use Rattle.beep_journal.proofs.LifeLemmas.{nothing-before}
 
 -- a number above 0 is there where it is live
 pub there-by : (z live : Bool) → z ≡ false → (z || live) ≡ live
@@ -103,7 +104,7 @@ module _ (side : Side) (journal : List Item) (frame : Frame) (payload : List ℕ
       history-above n later above
       ∙ ap (λ (k : ℕ). life n k later) (now-later n live ∙ count)
       ∙ life-skips n (lives n (events journal) + 1) above
-      ∙ no-items n (lives n (events journal) + 1) journal (omega arith)
+      ∙ nothing-before n (lives n (events journal) + 1) journal (omega arith)
 
   live-later : (n : ℕ) (life : Life) → (n == 0) ≡ false → life_at n mid ≡ Some life → is_live n (zero_events after) ≡ true
   live-later n life above at = moves.live n above ∙ ap (λ (o : Option Life). is_some o) at

@@ -8,7 +8,7 @@ use Rattle.beep_history.specs.Journal.{Item, began, passed, told}
 use Rattle.beep_journal.specs.Lives.{Event, is_live, live_life, has_release}
 use Rattle.beep_journal.specs.Zero.{zero_history, zero_events, events}
 use Rattle.beep_journal.specs.Life.{life_now, life_under_way, life, is_there, history, is_released}
-use Rattle.beep_judge.proofs.MovesLemmas.{same-number}
+use Rattle.beep_journal.proofs.MomentLemmas.{same-number}
 
 number-zero : (c n : ℕ) → (c == n) ≡ false → (n == 0) ≡ true → (c == 0) ≡ false
 number-zero c n e z = grind (arith, nat_tests)
