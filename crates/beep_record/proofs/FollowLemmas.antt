@@ -1,23 +1,20 @@
--- What each step of a decoder makes of a session.
-use Rattle.std.proofs.Common.{◌≡◌, ℕ, ◌+◌, ◌<◌, inl, inr, true, nat_lt, List, [], ◌∷◌, ◌++◌, length, Option, None, Some, Result, Ok, Err, OnOk, IfOk, refl, sym, ap, subst, subst₂, ◌∙◌, append_assoc, append-nil, arith, length-append, lt-ltb}
+-- What the step of a decoder makes of a session.
+use Rattle.std.proofs.Common.{◌≡◌, ◌⊎◌, ℕ, ◌+◌, ◌-◌, ◌^◌, ◌<◌, inl, inr, true, false, IsTrue, nat_lt, List, [], ◌∷◌, ◌++◌, length, take, Option, None, Some, ◌≤◌, refl, sym, ap, subst, subst₂, ◌∙◌, append_assoc, append-nil, arith, length-append, lt-ltb}
 use Rattle.std.specs.List.{flat_map}
-use Rattle.std.proofs.lemmas.List.{append_cancel_left}
+use Rattle.std.proofs.lemmas.List.{append_cancel_left, length-take-le}
 use Rattle.beep_frame.specs.declared.head.Head.{Head}
 use Rattle.beep_frame.specs.declared.rule.Rule.{Rule}
 use Rattle.beep_frame.specs.declared.seq.Seq.{Seq}
 use Rattle.beep_frame.specs.declared.limits.TheConstants.{MAX_PAYLOAD}
 use Rattle.beep_frame.specs.Frame.{Frame, framed, seq_frame, IsHead, IsFrame}
 use Rattle.beep_frame.specs.Spelling.{header, spelling}
-use Rattle.beep_frame.specs.Stream.{Stream, BreaksBy, IsHeadOf}
+use Rattle.beep_frame.specs.Stream.{Stream, BreaksBy, IsHeadOf, IsUnfinished}
 use Rattle.beep_frame.specs.Modulo.{modulo_2_64}
 use Rattle.beep_frame.specs.Decoding.{WasFed}
-use Rattle.beep_frame.specs.Decodes.{GivesMore, GivesHead, GivesFrame, GivesSeq, Breaks}
+use Rattle.beep_frame.specs.declared.step.Step.{Step}
+use Rattle.beep_frame.specs.Decodes.{GivesMore, GivesHead, GivesFrame, GivesSeq, Breaks, is_broken}
 use Rattle.beep_frame.specs.Fed.{fed_of}
-use Rattle.beep_frame.specs.Line.{at_line, at_head, dead, line_start}
-use Rattle.beep_frame.specs.Reading.{run}
-use Rattle.beep_frame.proofs.LawLemmas.{means}
-use Rattle.beep_frame.proofs.WholeLemmas.{header_runs}
-use Rattle.beep_frame.proofs.RunLemmas.{run-append, run-dead}
+use Rattle.beep_frame.proofs.LawLemmas.{means, not_whole}
 use Rattle.beep_history.specs.declared.journal.Side.{Side}
 use Rattle.beep_history.specs.Journal.{Item, began, passed, told}
 use Rattle.beep_journal.specs.Broken.{none_tunes, broken_head, broken_seq, broken_content}
@@ -26,35 +23,17 @@ use Rattle.beep_journal.specs.Texts.{frame_count, line_of}
 use Rattle.beep_record.specs.declared.verdict.Verdict.{Verdict}
 use Rattle.beep_record.specs.declared.wire.Wire.{Wire}
 use Rattle.beep_record.specs.Verdicts.{verdict_on, verdict_of, verdict_by}
-use Rattle.beep_record.specs.Following.{counted, octets_of, IsSide, HasFrame, Moved}
-
--- ---- headers
-
-dead_after : (h : Head) (m : List ℕ) (c : ℕ) → run (at_head h) (m ++ c ∷ []) ≡ dead
-dead_after h [] c = refl
-dead_after h (x ∷ m) c = run-dead (m ++ c ∷ [])
-
-no_longer_header : (h g : Head) (m : List ℕ) (c : ℕ) → IsHead h → IsHead g → header g ≡ header h ++ (m ++ c ∷ []) → ⊥
-no_longer_header h g m c w v e =
-    let two : at_head g ≡ dead =
-    sym (header_runs g v) ∙ ap (run (at_line line_start)) e ∙ run-append (at_line line_start) (header h) (m ++ c ∷ [])
-    ∙ ap (λ t. run t (m ++ c ∷ [])) (header_runs h w) ∙ dead_after h m c in
-    cc two
-
-no_header_in : (known : Option Head) (rest : List ℕ) (octet : ℕ) → IsHeadOf rest known → IsHeadOf (rest ++ octet ∷ []) known → (head : Head) → IsHead head → rest ++ octet ∷ [] ≡ header head → ⊥
-no_header_in None rest octet before now head is same = now.none head [] is (same ∙ sym (append-nil _))
-no_header_in (Some known) rest octet before now head is same =
-    no_longer_header known head before.more octet before.is_head is
-    (sym same ∙ ap (λ x. x ++ octet ∷ []) before.begins ∙ append_assoc (header known) before.more (octet ∷ []))
+use Rattle.beep_record.specs.Following.{counts, counted, octets_of, IsSide, HasFrame, TakesEach, Moved}
+use Rattle.beep_record.proofs.PieceLemmas.{unfinished_front, no_head_in_seq, OnEach, on_none, on_head, on_known, going_of, taken_where, rest_same, rest_is, goes, counts_rest, takes_each, takes_last}
 
 -- ---- sides
 
-rest_same : (side : Side) (octets : List ℕ) (rest : Side → List ℕ) → with_rest side octets rest side ≡ octets
-rest_same Side.Received octets rest = refl
-rest_same Side.Sent octets rest = refl
+used_more : (fed taken : List ℕ) (old new : ℕ) → old ≡ modulo_2_64 (length fed) → new ≡ modulo_2_64 (old + length taken) → new ≡ modulo_2_64 (length (fed ++ taken))
+used_more fed taken old new before after = omega (arith, length-append fed taken)
 
-used_more : (fed : List ℕ) (octet old new : ℕ) → old ≡ modulo_2_64 (length fed) → new ≡ modulo_2_64 (old + 1) → new ≡ modulo_2_64 (length (fed ++ octet ∷ []))
-used_more fed octet old new before after = omega (arith, length-append fed (octet ∷ []))
+place_before : (fed before taken : List ℕ) (octet used place : ℕ) → taken ≡ before ++ octet ∷ [] → used ≡ modulo_2_64 (length (fed ++ taken)) → place ≡ modulo_2_64 (used + (2 ^ 64 - 1)) → place ≡ modulo_2_64 (length (fed ++ before))
+place_before fed before taken octet used place cut now is =
+    omega (arith, length-append fed taken, length-append fed before, ap length cut, length-append before (octet ∷ []))
 
 -- a side that reads these octets stands for the session that has them
 pub side_of : (side : Side) (wire : Wire) (under : Option Head) (past : Past) (frames : List Frame) (fed rest : List ℕ)
@@ -68,11 +47,21 @@ side_of side wire under past frames fed rest was_fed octets left max used count 
   count = count;
 }
 
--- what a feed of one octet leaves beside the decoder's answer
-pub record Fed (old new : Wire) : Type 0 where
-  pub used : new.used ≡ modulo_2_64 (old.used + 1)
+-- what a feed leaves beside the decoder's answer, and the number of the last octet used
+pub record Fed (old new : Wire) (taken : List ℕ) (place : ℕ) : Type 0 where
+  pub used : new.used ≡ modulo_2_64 (old.used + length taken)
+  pub place_is : place ≡ modulo_2_64 (new.used + (2 ^ 64 - 1))
   pub max : new.decoder.tracker.max ≡ old.decoder.tracker.max
   pub frames : new.frames ≡ old.frames
+
+pub feeds : (old new : Wire) (octets : List ℕ) (count place : ℕ) → count ≤ length octets → new.used ≡ modulo_2_64 (old.used + count) → place ≡ modulo_2_64 (new.used + (2 ^ 64 - 1))
+    → new.decoder.tracker.max ≡ old.decoder.tracker.max → new.frames ≡ old.frames → Fed old new (take count octets) place
+feeds old new octets count place within used place_is max frames = record {
+  used = used ∙ ap (λ n. modulo_2_64 (old.used + n)) (sym (length-take-le count octets within));
+  place_is = place_is;
+  max = max;
+  frames = frames;
+}
 
 -- ---- what an item adds
 
@@ -103,10 +92,6 @@ pub not_fine : (side : Side) (rule : Rule) (verdict : Verdict) (place : ℕ) →
 not_fine Side.Received rule verdict place says fine = cc (sym says ∙ fine)
 not_fine Side.Sent rule verdict place says fine = cc (sym says ∙ fine)
 
-only_octet : (octet : ℕ) (before : List ℕ) (last : ℕ) → octet ∷ [] ≡ before ++ last ∷ [] → (before ≡ []) × (octet ≡ last)
-only_octet octet [] last is = (refl, cc is)
-only_octet octet (x ∷ before) last is = absurd (omega (arith, ap length is, length-append (x ∷ before) (last ∷ [])))
-
 -- the size is judged first of all
 too_large : (side : Side) (journal : List Item) (head : Head) → MAX_PAYLOAD < head.size → broken_head none_tunes side journal head ≡ Some Rule.Size
 unfolding broken_head
@@ -129,45 +114,64 @@ broken_by side octet past rule frames max limit stream (inr (inr size)) =
     too_large side past.journal head (subst (λ n. n < head.size) limit size.3) ∙ ap (λ r. Some r) (sym size.0) in
     inr (inl (record { head = head; is_head = size.2; whole = whole; new_is = ap (λ b. begins b side octet head past) (sym first) }))
 
-module _ (side : Side) (octet : ℕ) (past : Past) (old new : Wire) (under : Option Head) (is : IsSide side old under past) (going : past.fault ≡ None) (fed : Fed old new) where
-  longer : spelled side past.journal ++ (past.rest side ++ octet ∷ []) ≡ octets_of side past ++ octet ∷ []
-  longer = sym (append_assoc (spelled side past.journal) (past.rest side) (octet ∷ []))
+-- the octets go on with a frame
+pub moved_more : (side : Side) (taken : List ℕ) (past : Past) (old new : Wire) (under : Option Head) (is : IsSide side old under past) → counts side past ≡ true → (place count : ℕ) → Fed old new taken place
+    → (judged : List Item → Type 0) (out : List ℕ) → judged past.journal → GivesMore (WasFed new.decoder) (fed_of (octets_of side past) is.frames (past.rest side) under) taken count
+    → Moved side taken past Verdict.Fine new under judged out out
+moved_more side taken past old new under is going place count fed judged out judge gives =
+    let read = means old.decoder (octets_of side past) is.frames (past.rest side) under is.was_fed in
+    let reads = means new.decoder (octets_of side past ++ taken) is.frames (past.rest side ++ taken) under gives.stands in
+    let left : (goes side taken past).rest side ≡ past.rest side ++ taken = rest_is side taken past.rest in
+    record {
+      after = goes side taken past;
+      takes = takes_each side taken past going (on_known under taken (past.rest side) read.is_head reads.is_head reads.stream.unfinished);
+      verdict_is = ap verdict_of (sym (going_of side past going));
+      side_is = λ _. side_of side new under (goes side taken past) is.frames (octets_of side past ++ taken) (past.rest side ++ taken) gives.stands
+          (ap (λ x. spelled side past.journal ++ x) left ∙ sym (append_assoc (spelled side past.journal) (past.rest side) taken)) left (fed.max ∙ is.max)
+          (used_more (octets_of side past) taken old.used new.used is.used fed.used) (fed.frames ∙ is.count);
+      judged_is = λ _. judge;
+      gained = [];
+      lines_are = sym (append-nil _);
+      text_is = sym (append-nil _);
+    }
 
-  now_used : new.used ≡ modulo_2_64 (length (octets_of side past ++ octet ∷ []))
-  now_used = used_more (octets_of side past) octet old.used new.used is.used fed.used
+-- the last octet completes something, or breaks a rule
+module _ (side : Side) (taken before : List ℕ) (octet : ℕ) (cut : taken ≡ before ++ octet ∷ []) (past : Past) (old new : Wire) (under : Option Head) (is : IsSide side old under past) (going : counts side past ≡ true) (place : ℕ) (fed : Fed old new taken place) where
+  -- the session before the last octet
+  abbrev mid : Past
+  mid = goes side before past
 
-  -- the octet goes on with a frame
-  pub moved_more : (judged : List Item → Type 0) (out : List ℕ) → judged past.journal
-      → GivesMore (WasFed new.decoder) (fed_of (octets_of side past) is.frames (past.rest side) under) (octet ∷ []) 1 → Moved side octet past Verdict.Fine new under judged out out
-  moved_more judged out judge gives =
-      let after : Past = record past { rest = with_rest side (past.rest side ++ octet ∷ []) past.rest } in
-      let read = means old.decoder (octets_of side past) is.frames (past.rest side) under is.was_fed in
-      let reads = means new.decoder (octets_of side past ++ octet ∷ []) is.frames (past.rest side ++ octet ∷ []) under gives.stands in
-      let left = rest_same side (past.rest side ++ octet ∷ []) past.rest in
-      record {
-        after = after;
-        takes = inl (record {
-          unfinished = reads.stream.unfinished;
-          no_header = no_header_in under (past.rest side) octet read.is_head reads.is_head;
-          new_is = refl;
-        });
-        verdict_is = ap verdict_of (sym going);
-        side_is = λ _. side_of side new under after is.frames (octets_of side past ++ octet ∷ []) (past.rest side ++ octet ∷ []) gives.stands
-            (ap (λ x. spelled side past.journal ++ x) left ∙ longer) left (fed.max ∙ is.max) now_used (fed.frames ∙ is.count);
-        judged_is = λ _. judge;
-        gained = [];
-        lines_are = sym (append-nil _);
-        text_is = sym (append-nil _);
-      }
+  joined : spelled side past.journal ++ (past.rest side ++ taken) ≡ octets_of side past ++ taken
+  joined = sym (append_assoc (spelled side past.journal) (past.rest side) taken)
+
+  front : (past.rest side ++ before) ++ octet ∷ [] ≡ past.rest side ++ taken
+  front = append_assoc (past.rest side) before (octet ∷ []) ∙ ap (λ x. past.rest side ++ x) (sym cut)
+
+  mid_rest : mid.rest side ++ octet ∷ [] ≡ past.rest side ++ taken
+  mid_rest = ap (λ x. x ++ octet ∷ []) (rest_is side before past.rest) ∙ front
+
+  mid_octets : octets_of side mid ≡ octets_of side past ++ before
+  mid_octets = ap (λ x. spelled side past.journal ++ x) (rest_is side before past.rest) ∙ sym (append_assoc (spelled side past.journal) (past.rest side) before)
+
+  now_used : new.used ≡ modulo_2_64 (length (octets_of side past ++ taken))
+  now_used = used_more (octets_of side past) taken old.used new.used is.used fed.used
+
+  at_mid : place ≡ modulo_2_64 (length (octets_of side mid))
+  at_mid = place_before (octets_of side past) before taken octet new.used place cut now_used fed.place_is ∙ ap (λ x. modulo_2_64 (length x)) (sym mid_octets)
+
+  takes_all : (after : Past) → OnEach (past.rest side) before → TakesOctet none_tunes side octet mid after → TakesEach side taken past after
+  takes_all after on takes =
+      subst (λ x. TakesEach side x past after) (sym cut)
+      (takes_last side before octet past mid after (takes_each side before past going on) (taken_where (counts side mid) side octet mid after (counts_rest side past mid.rest ∙ going) takes))
 
   -- a fault that keeps all else
-  failed : (now : Wire) (under_now : Option Head) (judged : List Item → Type 0) (out : List ℕ) (rule : Rule) (verdict : Verdict) (place : ℕ) → place ≡ modulo_2_64 (length (octets_of side past))
-      → verdict ≡ verdict_on side rule place → TakesOctet none_tunes side octet past (record past { fault = Some (fault_at side past rule) })
-      → Moved side octet past verdict now under_now judged out out
-  failed now under_now judged out rule verdict place at says takes = record {
-    after = record past { fault = Some (fault_at side past rule) };
-    takes = takes;
-    verdict_is = says ∙ ap (verdict_on side rule) at;
+  failed : (now : Wire) (under_now : Option Head) (judged : List Item → Type 0) (out : List ℕ) (rule : Rule) (verdict : Verdict) (at : ℕ) → at ≡ modulo_2_64 (length (octets_of side mid))
+      → verdict ≡ verdict_on side rule at → OnEach (past.rest side) before → TakesOctet none_tunes side octet mid (record mid { fault = Some (fault_at side mid rule) })
+      → Moved side taken past verdict now under_now judged out out
+  failed now under_now judged out rule verdict at at_is says on takes = record {
+    after = record mid { fault = Some (fault_at side mid rule) };
+    takes = takes_all (record mid { fault = Some (fault_at side mid rule) }) on takes;
+    verdict_is = says ∙ ap (verdict_on side rule) at_is;
     side_is = λ none. absurd (cc none);
     judged_is = λ none. absurd (cc none);
     gained = [];
@@ -176,52 +180,72 @@ module _ (side : Side) (octet : ℕ) (past : Past) (old new : Wire) (under : Opt
   }
 
   -- a header ends
-  pub moved_head : (broken : Option Rule) (head : Head) (verdict : Verdict) (under_now : Option Head) (judged : List Item → Type 0) (out : List ℕ)
-      → broken_head none_tunes side past.journal head ≡ broken → verdict ≡ verdict_by side broken old.used
+  head_on : (head : Head) → IsHead head → past.rest side ++ taken ≡ header head → IsUnfinished (past.rest side ++ taken) → OnEach (past.rest side) before
+  head_on head is_head whole unfinished =
+      on_none before (past.rest side) (not_whole head (past.rest side ++ before) octet is_head (front ∙ whole))
+      (unfinished_front (past.rest side ++ before) (octet ∷ []) (subst IsUnfinished (sym front) unfinished))
+
+  moved_head_by : (broken : Option Rule) (head : Head) (verdict : Verdict) (under_now : Option Head) (judged : List Item → Type 0) (out : List ℕ) → OnEach (past.rest side) before
+      → broken_head none_tunes side past.journal head ≡ broken → verdict ≡ verdict_by side broken place
       → (verdict ≡ Verdict.Fine → judged (began side head ∷ past.journal)) → (verdict ≡ Verdict.Fine → under_now ≡ Some head)
-      → GivesHead head (WasFed new.decoder) new.decoder.tracker.max (fed_of (octets_of side past) is.frames (past.rest side) under) (octet ∷ []) → Moved side octet past verdict new under_now judged out out
-  moved_head None head verdict under_now judged out rule says judge begun gives =
-      let after : Past = record past { journal = began side head ∷ past.journal; rest = with_rest side (past.rest side ++ octet ∷ []) past.rest } in
-      let left = rest_same side (past.rest side ++ octet ∷ []) past.rest in
+      → GivesHead head (WasFed new.decoder) new.decoder.tracker.max (fed_of (octets_of side past) is.frames (past.rest side) under) taken → Moved side taken past verdict new under_now judged out out
+  moved_head_by None head verdict under_now judged out on rule says judge begun gives =
+      let after : Past = record mid { journal = began side head ∷ past.journal; rest = with_rest side (mid.rest side ++ octet ∷ []) mid.rest } in
+      let left : after.rest side ≡ past.rest side ++ taken = rest_same side (mid.rest side ++ octet ∷ []) mid.rest ∙ mid_rest in
       record {
         after = after;
-        takes = inr (inl (record {
+        takes = takes_all after on (inr (inl (record {
           head = head;
           is_head = gives.is_head;
-          whole = gives.whole;
-          new_is = ap (λ b. begins b side octet head past) (sym rule);
-        }));
-        verdict_is = says ∙ ap verdict_of (sym going);
-        side_is = λ _. side_of side new under_now after is.frames (octets_of side past ++ octet ∷ []) (past.rest side ++ octet ∷ [])
-            (subst (λ (u : Option Head). WasFed new.decoder (fed_of (octets_of side past ++ octet ∷ []) is.frames (past.rest side ++ octet ∷ []) u)) (sym (begun says)) gives.stands)
-            (ap (λ x. spelled side past.journal ++ x) left ∙ longer) left (fed.max ∙ is.max) now_used (fed.frames ∙ is.count);
+          whole = mid_rest ∙ gives.whole;
+          new_is = ap (λ b. begins b side octet head mid) (sym rule);
+        })));
+        verdict_is = says ∙ ap verdict_of (sym (going_of side past going));
+        side_is = λ _. side_of side new under_now after is.frames (octets_of side past ++ taken) (past.rest side ++ taken)
+            (subst (λ (u : Option Head). WasFed new.decoder (fed_of (octets_of side past ++ taken) is.frames (past.rest side ++ taken) u)) (sym (begun says)) gives.stands)
+            (ap (λ x. spelled side past.journal ++ x) left ∙ joined) left (fed.max ∙ is.max) now_used (fed.frames ∙ is.count);
         judged_is = λ _. judge says;
         gained = [];
         lines_are = refl;
         text_is = sym (append-nil _);
       }
-  moved_head (Some broken) head verdict under_now judged out rule says judge begun gives =
-      failed new under_now judged out broken verdict old.used is.used says
-      (inr (inl (record { head = head; is_head = gives.is_head; whole = gives.whole; new_is = ap (λ b. begins b side octet head past) (sym rule) })))
+  moved_head_by (Some broken) head verdict under_now judged out on rule says judge begun gives =
+      failed new under_now judged out broken verdict place at_mid says on
+      (inr (inl (record { head = head; is_head = gives.is_head; whole = mid_rest ∙ gives.whole; new_is = ap (λ b. begins b side octet head mid) (sym rule) })))
+
+  pub moved_head : (head : Head) (verdict : Verdict) (under_now : Option Head) (judged : List Item → Type 0) (out : List ℕ)
+      → verdict ≡ verdict_by side (broken_head none_tunes side past.journal head) place
+      → (verdict ≡ Verdict.Fine → judged (began side head ∷ past.journal)) → (verdict ≡ Verdict.Fine → under_now ≡ Some head)
+      → GivesHead head (WasFed new.decoder) new.decoder.tracker.max (fed_of (octets_of side past) is.frames (past.rest side) under) taken → Moved side taken past verdict new under_now judged out out
+  moved_head head verdict under_now judged out says judge begun gives =
+      let reads = means new.decoder (octets_of side past ++ taken) is.frames (past.rest side ++ taken) (Some head) gives.stands in
+      moved_head_by (broken_head none_tunes side past.journal head) head verdict under_now judged out (head_on head gives.is_head gives.whole reads.stream.unfinished) refl says judge begun gives
+
+  -- the octets before the last one of a frame or a SEQ are less than that
+  unfinished_before : (frame : Frame) → IsFrame frame → past.rest side ++ taken ≡ spelling frame → IsUnfinished (past.rest side ++ before)
+  unfinished_before frame is_frame whole = record { frame = frame; is_frame = is_frame; next = octet; others = []; spelled = sym (front ∙ whole) }
 
   -- a frame ends
-  moved_frame_ok : (broken : Option Rule) (head : Head) (payload : List ℕ) (frames : List Frame) (verdict : Verdict) (now : Wire) (judged : List Item → Type 0) (out out_now : List ℕ)
-      → IsFrame (framed head payload) → past.rest side ++ octet ∷ [] ≡ spelling (framed head payload)
-      → WasFed new.decoder (fed_of (octets_of side past ++ octet ∷ []) frames [] None)
-      → broken_content side past.journal head payload ≡ broken → verdict ≡ verdict_by side broken old.used
+  moved_frame_by : (broken : Option Rule) (head : Head) (payload : List ℕ) (frames : List Frame) (verdict : Verdict) (now : Wire) (judged : List Item → Type 0) (out out_now : List ℕ)
+      → under ≡ Some head → IsFrame (framed head payload) → past.rest side ++ taken ≡ spelling (framed head payload)
+      → WasFed new.decoder (fed_of (octets_of side past ++ taken) frames [] None)
+      → broken_content side past.journal head payload ≡ broken → verdict ≡ verdict_by side broken place
       → judged (passed side head payload ∷ past.journal) → out_now ≡ out ++ line_of (passed side head payload)
-      → now ≡ record new { frames = counted (new.frames + 1) } → Moved side octet past verdict now None judged out out_now
-  moved_frame_ok broken head payload frames verdict now judged out out_now frame whole stands rule says judge line count =
-      let after : Past = passes broken side head payload past in
-      let left = rest_same side [] past.rest in
-      let octets : octets_of side after ≡ octets_of side past ++ octet ∷ [] =
-      spelled_frame side head payload past.journal (with_rest side [] past.rest side) left ∙ ap (λ x. spelled side past.journal ++ x) (sym whole) ∙ longer in
+      → now ≡ record new { frames = counted (new.frames + 1) } → Moved side taken past verdict now None judged out out_now
+  moved_frame_by broken head payload frames verdict now judged out out_now known frame whole stands rule says judge line count =
+      let after : Past = passes broken side head payload mid in
+      let left = rest_same side [] mid.rest in
+      let octets : octets_of side after ≡ octets_of side past ++ taken =
+      spelled_frame side head payload past.journal (with_rest side [] mid.rest side) left ∙ ap (λ x. spelled side past.journal ++ x) (sym whole) ∙ joined in
+      let read = means old.decoder (octets_of side past) is.frames (past.rest side) under is.was_fed in
+      let on : OnEach (past.rest side) before = on_head head before (past.rest side) (subst (IsHeadOf (past.rest side)) known read.is_head) (unfinished_before (framed head payload) frame whole) in
       record {
         after = after;
-        takes = inr (inr (inl (record { head = head; payload = payload; is_frame = frame; whole = whole; new_is = ap (λ b. passes b side head payload past) (sym rule) })));
-        verdict_is = says ∙ by_place side past old.used broken is.used;
+        takes = takes_all after on
+            (inr (inr (inl (record { head = head; payload = payload; is_frame = frame; whole = mid_rest ∙ whole; new_is = ap (λ b. passes b side head payload mid) (sym rule) }))));
+        verdict_is = says ∙ by_place side mid place broken at_mid;
         side_is = λ _. subst (λ (w : Wire). IsSide side w None after) (sym count)
-            (side_of side (record new { frames = counted (new.frames + 1) }) None after frames (octets_of side past ++ octet ∷ []) [] stands octets left (fed.max ∙ is.max) now_used
+            (side_of side (record new { frames = counted (new.frames + 1) }) None after frames (octets_of side past ++ taken) [] stands octets left (fed.max ∙ is.max) now_used
             (one_more side new.frames past.journal head payload (fed.frames ∙ is.count)));
         judged_is = λ _. judge;
         gained = line_of (passed side head payload);
@@ -229,81 +253,84 @@ module _ (side : Side) (octet : ℕ) (past : Past) (old new : Wire) (under : Opt
         text_is = line;
       }
 
-  pub moved_frame : {E : Type 0} (r : Result Verdict E) (now : Wire) (under_now : Option Head) (judged : List Item → Type 0) (out out_now : List ℕ)
-      → GivesFrame (WasFed new.decoder) (fed_of (octets_of side past) is.frames (past.rest side) under) (octet ∷ [])
-      → ((head : Head) (payload : List ℕ) → under ≡ Some head → WasFed new.decoder (fed_of (octets_of side past ++ octet ∷ []) (is.frames ++ framed head payload ∷ []) [] None)
-      → IfOk r (λ verdict. verdict ≡ verdict_by side (broken_content side past.journal head payload) old.used)
-      × OnOk r (judged (passed side head payload ∷ past.journal))
-      × OnOk r (out_now ≡ out ++ line_of (passed side head payload)))
-      → OnOk r (under_now ≡ None) → OnOk r (now ≡ record new { frames = counted (new.frames + 1) })
-      → IfOk r (λ verdict. Moved side octet past verdict now under_now judged out out_now)
-  moved_frame (Err e) now under_now judged out out_now gives says over count = tt
-  moved_frame (Ok verdict) now under_now judged out out_now gives says over count =
+  pub moved_frame : (verdict : Verdict) (now : Wire) (under_now : Option Head) (judged : List Item → Type 0) (out out_now : List ℕ)
+      → GivesFrame (WasFed new.decoder) (fed_of (octets_of side past) is.frames (past.rest side) under) taken
+      → ((head : Head) (payload : List ℕ) → under ≡ Some head → WasFed new.decoder (fed_of (octets_of side past ++ taken) (is.frames ++ framed head payload ∷ []) [] None)
+      → (verdict ≡ verdict_by side (broken_content side past.journal head payload) place) × judged (passed side head payload ∷ past.journal)
+      × (out_now ≡ out ++ line_of (passed side head payload)))
+      → under_now ≡ None → now ≡ record new { frames = counted (new.frames + 1) } → Moved side taken past verdict now under_now judged out out_now
+  moved_frame verdict now under_now judged out out_now gives says over count =
       let said = says gives.head gives.payload gives.known_is gives.stands in
-      subst (λ (u : Option Head). Moved side octet past verdict now u judged out out_now) (sym over)
-      (moved_frame_ok (broken_content side past.journal gives.head gives.payload) gives.head gives.payload (is.frames ++ framed gives.head gives.payload ∷ []) verdict now judged out out_now
-      gives.is_frame gives.whole gives.stands refl said.0 said.1 said.2 count)
+      subst (λ (u : Option Head). Moved side taken past verdict now u judged out out_now) (sym over)
+      (moved_frame_by (broken_content side past.journal gives.head gives.payload) gives.head gives.payload (is.frames ++ framed gives.head gives.payload ∷ []) verdict now judged out out_now
+      gives.known_is gives.is_frame gives.whole gives.stands refl said.0 said.1 said.2 count)
 
   -- a SEQ ends
-  moved_seq_ok : (broken : Option Rule) (seq : Seq) (verdict : Verdict) (now : Wire) (under_now : Option Head) (judged : List Item → Type 0) (out out_now : List ℕ)
-      → GivesSeq seq (WasFed new.decoder) (fed_of (octets_of side past) is.frames (past.rest side) under) (octet ∷ [])
-      → broken_seq side past.journal seq ≡ broken → verdict ≡ verdict_by side broken old.used
+  moved_seq_by : (broken : Option Rule) (seq : Seq) (verdict : Verdict) (now : Wire) (under_now : Option Head) (judged : List Item → Type 0) (out out_now : List ℕ) → OnEach (past.rest side) before
+      → GivesSeq seq (WasFed new.decoder) (fed_of (octets_of side past) is.frames (past.rest side) under) taken
+      → broken_seq side past.journal seq ≡ broken → verdict ≡ verdict_by side broken place
       → (verdict ≡ Verdict.Fine → judged (told side seq ∷ past.journal)) → (verdict ≡ Verdict.Fine → out_now ≡ out ++ line_of (told side seq))
       → (verdict ≡ Verdict.Fine → now ≡ record new { frames = counted (new.frames + 1) })
       → ((verdict ≡ Verdict.Fine → ⊥) → out_now ≡ out) → under_now ≡ under
-      → Moved side octet past verdict now under_now judged out out_now
-  moved_seq_ok None seq verdict now under_now judged out out_now gives rule says judge line count same kept =
-      let after : Past = record past { journal = told side seq ∷ past.journal; rest = with_rest side [] past.rest } in
-      let left = rest_same side [] past.rest in
-      let octets : octets_of side after ≡ octets_of side past ++ octet ∷ [] =
-      spelled_seq side seq past.journal (with_rest side [] past.rest side) left ∙ ap (λ x. spelled side past.journal ++ x) (sym gives.whole) ∙ longer in
+      → Moved side taken past verdict now under_now judged out out_now
+  moved_seq_by None seq verdict now under_now judged out out_now on gives rule says judge line count same kept =
+      let after : Past = record mid { journal = told side seq ∷ past.journal; rest = with_rest side [] mid.rest } in
+      let left = rest_same side [] mid.rest in
+      let octets : octets_of side after ≡ octets_of side past ++ taken =
+      spelled_seq side seq past.journal (with_rest side [] mid.rest side) left ∙ ap (λ x. spelled side past.journal ++ x) (sym gives.whole) ∙ joined in
       let none = kept ∙ gives.none in
       record {
         after = after;
-        takes = inr (inr (inr (inl (record { seq = seq; is_seq = gives.is_seq; whole = gives.whole; new_is = ap (λ b. seq_ends b side seq past) (sym rule) }))));
-        verdict_is = says ∙ ap verdict_of (sym going);
+        takes = takes_all after on (inr (inr (inr (inl (record { seq = seq; is_seq = gives.is_seq; whole = mid_rest ∙ gives.whole; new_is = ap (λ b. seq_ends b side seq mid) (sym rule) })))));
+        verdict_is = says ∙ ap verdict_of (sym (going_of side past going));
         side_is = λ _. subst₂ (λ (w : Wire) (u : Option Head). IsSide side w u after) (sym (count says)) (sym none)
-            (side_of side (record new { frames = counted (new.frames + 1) }) None after (is.frames ++ seq_frame seq ∷ []) (octets_of side past ++ octet ∷ []) [] gives.stands octets left (fed.max ∙ is.max) now_used
+            (side_of side (record new { frames = counted (new.frames + 1) }) None after (is.frames ++ seq_frame seq ∷ []) (octets_of side past ++ taken) [] gives.stands octets left (fed.max ∙ is.max) now_used
             (one_more_seq side new.frames past.journal seq (fed.frames ∙ is.count)));
         judged_is = λ _. judge says;
         gained = line_of (told side seq);
         lines_are = refl;
         text_is = line says;
       }
-  moved_seq_ok (Some broken) seq verdict now under_now judged out out_now gives rule says judge line count same kept =
-      subst (λ (o : List ℕ). Moved side octet past verdict now under_now judged out o) (sym (same (not_fine side broken verdict old.used says)))
-      (failed now under_now judged out broken verdict old.used is.used says
-      (inr (inr (inr (inl (record { seq = seq; is_seq = gives.is_seq; whole = gives.whole; new_is = ap (λ b. seq_ends b side seq past) (sym rule) }))))))
+  moved_seq_by (Some broken) seq verdict now under_now judged out out_now on gives rule says judge line count same kept =
+      subst (λ (o : List ℕ). Moved side taken past verdict now under_now judged out o) (sym (same (not_fine side broken verdict place says)))
+      (failed now under_now judged out broken verdict place at_mid says on
+      (inr (inr (inr (inl (record { seq = seq; is_seq = gives.is_seq; whole = mid_rest ∙ gives.whole; new_is = ap (λ b. seq_ends b side seq mid) (sym rule) }))))))
 
-  pub moved_seq : {E : Type 0} (r : Result Verdict E) (seq : Seq) (now : Wire) (under_now : Option Head) (judged : List Item → Type 0) (out out_now : List ℕ)
-      → GivesSeq seq (WasFed new.decoder) (fed_of (octets_of side past) is.frames (past.rest side) under) (octet ∷ [])
-      → IfOk r (λ verdict. verdict ≡ verdict_by side (broken_seq side past.journal seq) old.used)
-      → (r ≡ Ok Verdict.Fine → judged (told side seq ∷ past.journal)) → (r ≡ Ok Verdict.Fine → out_now ≡ out ++ line_of (told side seq))
-      → (r ≡ Ok Verdict.Fine → now ≡ record new { frames = counted (new.frames + 1) })
-      → IfOk r (λ verdict. (verdict ≡ Verdict.Fine → ⊥) → out_now ≡ out) → under_now ≡ under
-      → IfOk r (λ verdict. Moved side octet past verdict now under_now judged out out_now)
-  moved_seq (Err e) seq now under_now judged out out_now gives says judge line count same kept = tt
-  moved_seq (Ok verdict) seq now under_now judged out out_now gives says judge line count same kept =
-      moved_seq_ok (broken_seq side past.journal seq) seq verdict now under_now judged out out_now gives refl says
-      (λ fine. judge (ap (λ v. Ok v) fine)) (λ fine. line (ap (λ v. Ok v) fine)) (λ fine. count (ap (λ v. Ok v) fine)) same kept
+  pub moved_seq : (seq : Seq) (verdict : Verdict) (now : Wire) (under_now : Option Head) (judged : List Item → Type 0) (out out_now : List ℕ)
+      → GivesSeq seq (WasFed new.decoder) (fed_of (octets_of side past) is.frames (past.rest side) under) taken
+      → verdict ≡ verdict_by side (broken_seq side past.journal seq) place
+      → (verdict ≡ Verdict.Fine → judged (told side seq ∷ past.journal)) → (verdict ≡ Verdict.Fine → out_now ≡ out ++ line_of (told side seq))
+      → (verdict ≡ Verdict.Fine → now ≡ record new { frames = counted (new.frames + 1) })
+      → ((verdict ≡ Verdict.Fine → ⊥) → out_now ≡ out) → under_now ≡ under
+      → Moved side taken past verdict now under_now judged out out_now
+  moved_seq seq verdict now under_now judged out out_now gives says judge line count same kept =
+      moved_seq_by (broken_seq side past.journal seq) seq verdict now under_now judged out out_now
+      (on_none before (past.rest side) (no_head_in_seq seq (past.rest side ++ before) octet gives.is_seq (front ∙ gives.whole)) (unfinished_before (seq_frame seq) gives.is_seq gives.whole))
+      gives refl says judge line count same kept
 
-  -- the stream breaks a rule
-  pub moved_broken : (rule : Rule) (place : ℕ) (verdict : Verdict) (under_now : Option Head) (judged : List Item → Type 0) (out : List ℕ)
-      → Breaks rule place new.decoder.tracker.max (fed_of (octets_of side past) is.frames (past.rest side) under) (octet ∷ []) → verdict ≡ verdict_on side rule place
-      → Moved side octet past verdict new under_now judged out out
-  moved_broken rule place verdict under_now judged out breaks says =
-      let alone = only_octet octet breaks.before breaks.octet breaks.taken_is in
-      let there : octets_of side past ++ breaks.before ≡ octets_of side past = ap (λ x. octets_of side past ++ x) alone.0 ∙ append-nil _ in
-      failed new under_now judged out rule verdict place (breaks.place_is ∙ ap (λ f. modulo_2_64 (length f)) there) says
-      (broken_by side octet past rule is.frames new.decoder.tracker.max (fed.max ∙ is.max) (means old.decoder (octets_of side past) is.frames (past.rest side) under is.was_fed).stream
-      (subst₂ (λ (f : List ℕ) (o : ℕ). BreaksBy rule new.decoder.tracker.max f is.frames o) there (sym alone.1) breaks.by))
+-- the stream breaks a rule
+pub moved_broken : (side : Side) (taken : List ℕ) (past : Past) (old new : Wire) (under : Option Head) (is : IsSide side old under past) → counts side past ≡ true → (place : ℕ) → Fed old new taken place
+    → (rule : Rule) (at : ℕ) (verdict : Verdict) (under_now : Option Head) (judged : List Item → Type 0) (out : List ℕ)
+    → Breaks rule at new.decoder.tracker.max (fed_of (octets_of side past) is.frames (past.rest side) under) taken → verdict ≡ verdict_on side rule at
+    → Moved side taken past verdict new under_now judged out out
+moved_broken side taken past old new under is going place fed rule at verdict under_now judged out breaks says =
+    let mid : Past = goes side breaks.before past in
+    let there : octets_of side past ++ breaks.before ≡ octets_of side mid = sym (mid_octets side taken breaks.before breaks.octet breaks.taken_is past old new under is going place fed) in
+    let left : past.rest side ++ breaks.before ≡ mid.rest side = sym (rest_is side breaks.before past.rest) in
+    let read = means old.decoder (octets_of side past) is.frames (past.rest side) under is.was_fed in
+    failed side taken breaks.before breaks.octet breaks.taken_is past old new under is going place fed
+    new under_now judged out rule verdict at (breaks.place_is ∙ ap (λ f. modulo_2_64 (length f)) there) says
+    (on_known under breaks.before (past.rest side) read.is_head breaks.is_head breaks.stream.unfinished)
+    (broken_by side breaks.octet mid rule is.frames new.decoder.tracker.max (fed.max ∙ is.max)
+    (subst₂ (λ (f r : List ℕ). Stream f is.frames r) there left breaks.stream)
+    (subst (λ (f : List ℕ). BreaksBy rule new.decoder.tracker.max f is.frames breaks.octet) there breaks.by))
 
 -- ---- what a step needs
 
-pub has_frame : (side : Side) (octet : ℕ) (past : Past) (old new : Wire) (under : Option Head) (is : IsSide side old under past)
-    → GivesFrame (WasFed new.decoder) (fed_of (octets_of side past) is.frames (past.rest side) under) (octet ∷ []) → HasFrame new under
-has_frame side octet past old new under is gives = record {
-  octets = octets_of side past ++ octet ∷ [];
+pub has_frame : (side : Side) (taken : List ℕ) (past : Past) (old new : Wire) (under : Option Head) (is : IsSide side old under past)
+    → GivesFrame (WasFed new.decoder) (fed_of (octets_of side past) is.frames (past.rest side) under) taken → HasFrame new under
+has_frame side taken past old new under is gives = record {
+  octets = octets_of side past ++ taken;
   frames = is.frames;
   head = gives.head;
   payload = gives.payload;
@@ -311,3 +338,8 @@ has_frame side octet past old new under is gives = record {
   size = gives.is_frame.1;
   was_fed = gives.stands;
 }
+
+-- octets were used, since no rule was broken
+pub some_used : (step : Step) (count : ℕ) → (0 < count) ⊎ IsTrue (is_broken step) → is_broken step ≡ false → 0 < count
+some_used step count (inl some) not_broken = some
+some_used step count (inr broken) not_broken = absurd (cc (sym broken ∙ not_broken))

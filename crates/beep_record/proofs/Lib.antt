@@ -3,6 +3,7 @@ pub mod FollowLemmas
 pub mod LawLemmas
 pub mod LogLemmas
 pub mod OctetLemmas
+pub mod PieceLemmas
 pub mod ReachedLemmas
 pub mod ReadLemmas
 pub mod ReplayLemmas

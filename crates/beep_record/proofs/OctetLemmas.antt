@@ -1,10 +1,12 @@
 -- How an octet is written, test by test.
-use Rattle.std.proofs.Common.{◌≡◌, ℕ, ◌+◌, ◌*◌, ◌/◌, ◌%◌, ◌<◌, ◌==◌, Bool, true, false, ◌&&◌, cond, nat_lt, List, [], ◌∷◌, ◌++◌, refl, sym, ap, ap₂, ◌∙◌, arith}
+use Rattle.std.proofs.Common.{◌≡◌, ℕ, suc, ◌+◌, ◌*◌, ◌/◌, ◌%◌, ◌<◌, ◌≤◌, ◌==◌, Bool, true, false, ◌&&◌, cond, nat_lt, get_or, List, [], ◌∷◌, ◌++◌, length, take, drop, take-append-drop, refl, sym, ap, ap₂, ◌∙◌, arith}
 use Rattle.std.specs.Fmt.{decimal}
 use Rattle.std.proofs.lemmas.Fmt.{decimal_digit, decimal_step}
 use Rattle.std.proofs.lemmas.Bool.Decides.{nat_tests}
-use Rattle.std.proofs.lemmas.List.{flat_map_more}
-use Rattle.beep_record.specs.Record.{is_plain, hex_digit, octet_text, octets_text}
+use Rattle.std.proofs.Math.Seq.{take-append-add}
+use Rattle.std.proofs.lemmas.List.{flat_map_more, length-take-le}
+use Rattle.std.proofs.lemmas.List.Folds.{list_all-append}
+use Rattle.beep_record.specs.Record.{is_plain, hex_digit, octet_text, octets_text, are_octets}
 use Rattle.beep_record.specs.Machine.{is_hex, digit_of, is_hexed, is_high}
 
 pub by_test : {A : Type 0} (P : A → Type 0) (b : Bool) {x y : A} → (b ≡ true → P x) → (b ≡ false → P y) → P (cond b x y)
@@ -121,3 +123,22 @@ letter_text octet b k same is = ap (λ x. 92 ∷ x ∷ []) same ∙ sym is
 
 pub octet_small : (octet : ℕ) → octet < 256 → nat_lt octet 256 ≡ true
 octet_small octet small = grind (arith, nat_tests)
+
+-- ---- lists of octets
+
+-- what a slice holds are octets
+pub are_octets_of : (octets : List ℕ) → ((i : ℕ) → get_or octets i 0 < 256) → are_octets octets ≡ true
+are_octets_of [] each = refl
+are_octets_of (octet ∷ octets) each = both _ _ (octet_small octet (each 0)) (are_octets_of octets (λ i. each (suc i)))
+
+pub are_right : (xs ys : List ℕ) → are_octets (xs ++ ys) ≡ true → are_octets ys ≡ true
+are_right xs ys are = right_of (are_octets xs) _ (sym (list_all-append (λ octet. nat_lt octet 256) xs ys) ∙ are)
+
+pub are_left : (xs ys : List ℕ) → are_octets (xs ++ ys) ≡ true → are_octets xs ≡ true
+are_left xs ys are = left_of (are_octets xs) _ (sym (list_all-append (λ octet. nat_lt octet 256) xs ys) ∙ are)
+
+-- so many octets more
+pub more_text : (text : List ℕ) (i count : ℕ) → i ≤ length text → take i text ++ take count (drop i text) ≡ take (i + count) text
+more_text text i count within =
+    sym (ap (take (i + count)) (sym (take-append-drop i text)) ∙ ap (λ n. take (n + count) (take i text ++ drop i text)) (sym (length-take-le i text within))
+    ∙ take-append-add (take i text) (drop i text) count)

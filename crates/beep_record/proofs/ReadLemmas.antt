@@ -1,12 +1,12 @@
 -- What the reader's loop gives for a whole text.
-use Rattle.std.proofs.Common.{◌≡◌, ℕ, ◌+◌, ◌<◌, true, false, List, [], ◌∷◌, ◌++◌, length, take, get_or, Some, None, refl, sym, ap, subst, ◌∙◌, arith, add-one, true≢false}
-use Rattle.std.proofs.lemmas.List.{take_more, take_all}
+use Rattle.std.proofs.Common.{◌≡◌, ℕ, ◌+◌, ◌<◌, ◌≤◌, nat_lt, true, false, List, [], ◌∷◌, ◌++◌, length, take, drop, Option, Some, None, refl, sym, ap, subst, ◌∙◌, append_assoc, append-nil, arith, add-one, true≢false, take-append-drop}
+use Rattle.std.proofs.lemmas.List.{take_all}
 use Rattle.beep_record.specs.declared.mode.Mode.{Mode}
 use Rattle.beep_record.specs.declared.mode.Part.{Part}
-use Rattle.beep_record.specs.Record.{IsBegun, Says, Stops}
+use Rattle.beep_record.specs.Record.{IsBegun, Says, Stops, are_octets}
 use Rattle.beep_record.specs.Machine.{State, start, step, run, may_end}
 use Rattle.beep_record.specs.Reading.{IsNumbered}
-use Rattle.beep_record.proofs.OctetLemmas.{octet_small}
+use Rattle.beep_record.proofs.OctetLemmas.{octet_small, octet_below, left_of, right_of, are_left, are_right, more_text}
 use Rattle.beep_record.proofs.ReachedLemmas.{ReachedIn, Reached, Stepped}
 use Rattle.beep_record.proofs.StepLemmas.{step_reached}
 use Rattle.beep_record.proofs.RunLemmas.{run-append, run-none, record-run, may_end-final, final}
@@ -44,12 +44,30 @@ pub record Read (text : List ℕ) (i : ℕ) (s : State) : Type 0 where
   pub ran : run (Some start) (take i text) ≡ Some s
   pub reached : Reached s (take i text)
 
-pub read_more : (text : List ℕ) (i octet : ℕ) (s next : State) → i < length text → octet ≡ get_or text i 0 → octet < 256 → Read text i s → step s octet ≡ Some next → Read text (i + 1) next
-read_more text i octet s next within is small before goes =
-    let longer = ap (λ x. take i text ++ x ∷ []) is ∙ sym (take_more text i 0 within) in
+pub start_read : (text : List ℕ) (s : State) → s ≡ start → Read text 0 s
+start_read text s is = subst (Read text 0) (sym is) (record { ran = refl; reached = start_reached })
+
+-- octets that lead from a state that was reached to another
+run_reached : (octets : List ℕ) (s : Option State) (next : State) (t : List ℕ) → are_octets octets ≡ true → Stepped t s → run s octets ≡ Some next → Reached next (t ++ octets)
+run_reached [] s next t are is goes = subst (Reached next) (sym (append-nil t)) (subst (Stepped t) goes is)
+run_reached (octet ∷ octets) None next t are is goes = absurd (cc (sym (run-none (octet ∷ octets)) ∙ goes))
+run_reached (octet ∷ octets) (Some s) next t are is goes =
+    subst (Reached next) (append_assoc t (octet ∷ []) octets)
+    (run_reached octets (step s octet) next (t ++ octet ∷ []) (right_of (nat_lt octet 256) _ are) (more_reached s t octet is (octet_below octet (left_of (nat_lt octet 256) _ are))) goes)
+
+run_more : (text : List ℕ) (i count : ℕ) (s : State) → i ≤ length text → Read text i s → run (Some start) (take (i + count) text) ≡ run (Some s) (take count (drop i text))
+run_more text i count s within before =
+    ap (run (Some start)) (sym (more_text text i count within)) ∙ run-append (Some start) (take i text) (take count (drop i text)) ∙ ap (λ s. run s (take count (drop i text))) before.ran
+
+-- so many octets more
+pub read_more : (text : List ℕ) (i count : ℕ) (s next : State) → are_octets text ≡ true → i ≤ length text → Read text i s → run (Some s) (take count (drop i text)) ≡ Some next → Read text (i + count) next
+read_more text i count s next are within before goes =
+    let rest : are_octets (drop i text) ≡ true = are_right (take i text) (drop i text) (ap are_octets (take-append-drop i text) ∙ are) in
     record {
-      ran = ap (run (Some start)) (sym longer) ∙ run-append (Some start) (take i text) (octet ∷ []) ∙ ap (λ s. run s (octet ∷ [])) before.ran ∙ goes;
-      reached = subst (Reached next) longer (subst (Stepped (take i text ++ octet ∷ [])) goes (more_reached s (take i text) octet before.reached small));
+      ran = run_more text i count s within before ∙ goes;
+      reached = subst (Reached next) (more_text text i count within)
+          (run_reached (take count (drop i text)) (Some s) next (take i text) (are_left (take count (drop i text)) (drop count (drop i text)) (ap are_octets (take-append-drop count (drop i text)) ∙ rest))
+          before.reached goes);
     }
 
 -- a text with which the machine stops begins no record
@@ -58,16 +76,13 @@ no_record text none begun =
     absurd (cc (sym (run-none begun.more) ∙ ap (λ s. run s begun.more) (sym none) ∙ sym (run-append (Some start) text begun.more)
     ∙ ap (run (Some start)) (sym begun.text_is) ∙ record-run begun.whole begun.is_record))
 
-pub stops_at : (text : List ℕ) (i octet : ℕ) (s : State) → i < length text → octet ≡ get_or text i 0 → Read text i s → step s octet ≡ None → Stops text i
-stops_at text i octet s within is before none =
-    let longer = ap (λ x. take i text ++ x ∷ []) is ∙ sym (take_more text i 0 within) in
-    record {
-      within = omega arith;
-      begun = alive_in s.mode s (take i text) before.reached;
-      dead = λ _. subst (λ (n : ℕ). ¬ (IsBegun (take n text))) (add-one i) (no_record (take (i + 1) text)
-          (ap (run (Some start)) (sym longer) ∙ run-append (Some start) (take i text) (octet ∷ []) ∙ ap (λ s. run s (octet ∷ [])) before.ran ∙ none));
-      short = λ all. absurd (omega arith);
-    }
+pub stops_at : (text : List ℕ) (i : ℕ) (s : State) → i < length text → Read text i s → run (Some s) (take 1 (drop i text)) ≡ None → Stops text i
+stops_at text i s within before none = record {
+  within = omega arith;
+  begun = alive_in s.mode s (take i text) before.reached;
+  dead = λ _. subst (λ (n : ℕ). ¬ (IsBegun (take n text))) (add-one i) (no_record (take (i + 1) text) (run_more text i 1 s (omega arith) before ∙ none));
+  short = λ all. absurd (omega arith);
+}
 
 -- a text at whose end no record ends
 pub stops_short : (text : List ℕ) (s : State) → Read text (length text) s → may_end s.mode ≡ false → Stops text (length text)

@@ -1,6 +1,6 @@
--- What each octet of a log makes of a replayer.
-use Rattle.std.proofs.Common.{◌≡◌, ℕ, ◌+◌, ◌*◌, ◌^◌, ◌<◌, ◌≤◌, inl, inr, Bool, true, false, List, [], ◌∷◌, ◌++◌, length, take, drop, take-append-drop, get_or, Option, None, Some, Result, Ok, Err, OnOk, OnErr, IfOk, if◌then◌else◌, codes, fold, refl, sym, ap, subst, ◌∙◌, append_assoc, append-nil, arith, length-append}
-use Rattle.std.proofs.lemmas.List.{take_more, take_all}
+-- What the octets of a log make of a replayer.
+use Rattle.std.proofs.Common.{◌≡◌, ℕ, ◌+◌, ◌*◌, ◌^◌, ◌<◌, ◌≤◌, inl, inr, Bool, true, false, List, [], ◌∷◌, ◌++◌, length, take, drop, take-append-drop, Option, None, Some, Result, Ok, Err, OnOk, OnErr, IfOk, if◌then◌else◌, codes, fold, refl, sym, ap, subst, ◌∙◌, append_assoc, append-nil, arith, length-append}
+use Rattle.std.proofs.lemmas.List.{take_all}
 use Rattle.std.proofs.lemmas.List.Sums.{fold-append}
 use Rattle.std.specs.Fmt.{decimal}
 use Rattle.beep_frame.specs.Frame.{Frame, framed, seq_frame, IsFrame}
@@ -18,7 +18,7 @@ use Rattle.beep_history.specs.declared.journal.Side.{Side}
 use Rattle.beep_history.specs.Journal.{passed, told, same_side, other}
 use Rattle.beep_journal.specs.Log.{Moment, got, put, none, over, got_all, put_all, Entry, read, wrote, quiet, ended, flat}
 use Rattle.beep_journal.specs.Broken.{none_tunes, broken_head, broken_seq, broken_content}
-use Rattle.beep_journal.specs.Journal.{Past, Fault, spelled, with_rest, begins, passes, seq_ends, TakesOctet, TakesWhere, Takes, goes_on, Shows}
+use Rattle.beep_journal.specs.Journal.{Past, Fault, spelled, with_rest, begins, passes, seq_ends, TakesOctet, TakesWhere, Takes, Shows}
 use Rattle.beep_journal.specs.Texts.{frame_count, lines, line_of, ending, report}
 use Rattle.beep_judge.specs.Judges.{Judges}
 use Rattle.beep_judge.specs.Kept.{under_way_of}
@@ -26,11 +26,11 @@ use Rattle.beep_record.specs.declared.verdict.Verdict.{Verdict}
 use Rattle.beep_record.specs.declared.wire.Wire.{Wire}
 use Rattle.beep_record.specs.declared.replayer.Replayer.{Replayer}
 use Rattle.beep_record.specs.Verdicts.{verdict_of, Begins, Replays}
-use Rattle.std.specs.Option.{is_none}
-use Rattle.beep_record.proofs.OctetLemmas.{left_of}
+use Rattle.beep_record.proofs.OctetLemmas.{more_text}
+use Rattle.beep_record.proofs.PieceLemmas.{going_of}
 use Rattle.beep_record.proofs.FollowLemmas.{side_of, not_fine}
-use Rattle.beep_record.specs.Following.{counted, IsSide, IsHeld, Moved, octets_of}
-use Rattle.beep_record.specs.Replaying.{Follows, Stopped, moment_of, many, counts}
+use Rattle.beep_record.specs.Following.{counts, counted, IsSide, IsHeld, TakesEach, Moved, octets_of}
+use Rattle.beep_record.specs.Replaying.{Follows, Stopped, many}
 
 -- ---- the other side stays
 
@@ -70,41 +70,53 @@ same_other side octet past after (inr (inr (inl f))) = subst (Same (other side) 
 same_other side octet past after (inr (inr (inr (inl q)))) = subst (Same (other side) past) (sym q.new_is) (same_seq side (broken_seq side past.journal q.seq) q.seq past)
 same_other side octet past after (inr (inr (inr (inr d)))) = subst (Same (other side) past) (sym d.new_is) (record { spelled_is = refl; rest_is = refl; count_is = refl })
 
-other_stays : (side : Side) (octet : ℕ) (wire : Wire) (under now : Option Head) (past after : Past) → TakesOctet none_tunes side octet past after → now ≡ under
+same_past : (side : Side) (past : Past) → Same side past past
+same_past side past = record { spelled_is = refl; rest_is = refl; count_is = refl }
+
+same_then : (side : Side) (past next after : Past) → Same side past next → Same side next after → Same side past after
+same_then side past next after one two =
+    record { spelled_is = two.spelled_is ∙ one.spelled_is; rest_is = two.rest_is ∙ one.rest_is; count_is = two.count_is ∙ one.count_is }
+
+same_where : (b : Bool) (side : Side) (octet : ℕ) (past after : Past) → TakesWhere b none_tunes side octet past after → Same (other side) past after
+same_where true side octet past after takes = same_other side octet past after takes
+same_where false side octet past after same = subst (Same (other side) past) (sym same) (same_past (other side) past)
+
+same_each : (side : Side) (octets : List ℕ) (past after : Past) → TakesEach side octets past after → Same (other side) past after
+same_each side [] past after same = subst (Same (other side) past) (sym same) (same_past (other side) past)
+same_each side (octet ∷ octets) past after takes =
+    same_then (other side) past takes.0 after (same_where (counts side past) side octet past takes.0 takes.1) (same_each side octets takes.0 after takes.2)
+
+other_stays : (side : Side) (octets : List ℕ) (wire : Wire) (under now : Option Head) (past after : Past) → TakesEach side octets past after → now ≡ under
     → IsSide (other side) wire under past → IsSide (other side) wire now after
-other_stays side octet wire under now past after takes same is =
-    subst (λ (u : Option Head). IsSide (other side) wire u after) (sym same) (stays (other side) wire under past after (same_other side octet past after takes) is)
+other_stays side octets wire under now past after takes same is =
+    subst (λ (u : Option Head). IsSide (other side) wire u after) (sym same) (stays (other side) wire under past after (same_each side octets past after takes) is)
 
 -- ---- octets that count and octets that don't
-
-none_is : (fault : Option Fault) → is_none fault ≡ true → fault ≡ None
-none_is None is = refl
-none_is (Some fault) is = absurd (cc is)
-
-pub going_of : (side : Side) (past : Past) → counts side past ≡ true → past.fault ≡ None
-going_of Side.Received past is = none_is past.fault (left_of (goes_on past) _ is)
-going_of Side.Sent past is = none_is past.fault is
-
-taken_where : (b : Bool) (side : Side) (octet : ℕ) (past after : Past) → b ≡ true → TakesOctet none_tunes side octet past after → TakesWhere b none_tunes side octet past after
-taken_where true side octet past after is takes = takes
-taken_where false side octet past after is takes = absurd (cc is)
 
 passed_by : (b : Bool) (side : Side) (octet : ℕ) (past : Past) → b ≡ false → TakesWhere b none_tunes side octet past past
 passed_by true side octet past is = absurd (cc is)
 passed_by false side octet past is = refl
 
-shows_taken : (side : Side) (octet : ℕ) (log : List Moment) (past after : Past) → counts side past ≡ true → Shows none_tunes log past → TakesOctet none_tunes side octet past after → Shows none_tunes (moment_of side octet ∷ log) after
-shows_taken Side.Received octet log past after is shows takes = (past, shows, taken_where (counts Side.Received past) Side.Received octet past after is takes)
-shows_taken Side.Sent octet log past after is shows takes = (past, shows, taken_where (counts Side.Sent past) Side.Sent octet past after is takes)
+passes_each : (side : Side) (octets : List ℕ) (past : Past) → counts side past ≡ false → TakesEach side octets past past
+passes_each side [] past is = refl
+passes_each side (octet ∷ octets) past is = (past, passed_by (counts side past) side octet past is, passes_each side octets past is)
 
-shows_passed : (side : Side) (octet : ℕ) (log : List Moment) (past : Past) → counts side past ≡ false → Shows none_tunes log past → Shows none_tunes (moment_of side octet ∷ log) past
-shows_passed Side.Received octet log past is shows = (past, shows, passed_by (counts Side.Received past) Side.Received octet past is)
-shows_passed Side.Sent octet log past is shows = (past, shows, passed_by (counts Side.Sent past) Side.Sent octet past is)
+shows_got : (octets : List ℕ) (log : List Moment) (past after : Past) → Shows none_tunes log past → TakesEach Side.Received octets past after → Shows none_tunes (got_all octets log) after
+shows_got [] log past after shows same = subst (Shows none_tunes log) (sym same) shows
+shows_got (octet ∷ octets) log past after shows takes = shows_got octets (got octet ∷ log) takes.0 after (past, shows, takes.1) takes.2
 
-pub follows_passed : (r : Replayer) (side : Side) (octet : ℕ) (log : List Moment) (old out : List ℕ) (follows : Follows r log old out) → counts side follows.past ≡ false → Follows r (moment_of side octet ∷ log) old out
-follows_passed r side octet log old out follows is = record {
+shows_put : (octets : List ℕ) (log : List Moment) (past after : Past) → Shows none_tunes log past → TakesEach Side.Sent octets past after → Shows none_tunes (put_all octets log) after
+shows_put [] log past after shows same = subst (Shows none_tunes log) (sym same) shows
+shows_put (octet ∷ octets) log past after shows takes = shows_put octets (put octet ∷ log) takes.0 after (past, shows, takes.1) takes.2
+
+shows_each : (side : Side) (octets : List ℕ) (log : List Moment) (past after : Past) → Shows none_tunes log past → TakesEach side octets past after → Shows none_tunes (many side octets log) after
+shows_each Side.Received octets log past after shows takes = shows_got octets log past after shows takes
+shows_each Side.Sent octets log past after shows takes = shows_put octets log past after shows takes
+
+pub follows_passed : (r : Replayer) (side : Side) (octets : List ℕ) (log : List Moment) (old out : List ℕ) (follows : Follows r log old out) → counts side follows.past ≡ false → Follows r (many side octets log) old out
+follows_passed r side octets log old out follows is = record {
   past = follows.past;
-  shows = shows_passed side octet log follows.past is follows.shows;
+  shows = shows_each side octets log follows.past follows.past follows.shows (passes_each side octets follows.past is);
   verdict_is = follows.verdict_is;
   both = follows.both;
   text_is = follows.text_is;
@@ -113,35 +125,35 @@ follows_passed r side octet log old out follows is = record {
 longer_text : (old out now gained one two : List ℕ) → out ≡ old ++ one → now ≡ out ++ gained → two ≡ one ++ gained → now ≡ old ++ two
 longer_text old out now gained one two before more whole = more ∙ ap (λ x. x ++ gained) before ∙ append_assoc old one gained ∙ ap (λ x. old ++ x) (sym whole)
 
-pub follows_received : (r : Replayer) (octet : ℕ) (log : List Moment) (old out now : List ℕ) (follows : Follows r log old out) → counts Side.Received follows.past ≡ true
+pub follows_received : (r : Replayer) (octets : List ℕ) (log : List Moment) (old out now : List ℕ) (follows : Follows r log old out) → counts Side.Received follows.past ≡ true
     → (new : Replayer) → new.sent ≡ r.sent → under_way_of Side.Sent new.judge ≡ under_way_of Side.Sent r.judge
-    → Moved Side.Received octet follows.past new.verdict new.received (under_way_of Side.Received new.judge) (Judges new.judge) out now
-    → Follows new (got octet ∷ log) old now
-follows_received r octet log old out now follows is new sent others moved = record {
+    → Moved Side.Received octets follows.past new.verdict new.received (under_way_of Side.Received new.judge) (Judges new.judge) out now
+    → Follows new (got_all octets log) old now
+follows_received r octets log old out now follows is new sent others moved = record {
   past = moved.after;
-  shows = shows_taken Side.Received octet log follows.past moved.after is follows.shows moved.takes;
+  shows = shows_each Side.Received octets log follows.past moved.after follows.shows moved.takes;
   verdict_is = moved.verdict_is;
   both = λ going. record {
     received = moved.side_is going;
     sent = subst (λ (w : Wire). IsSide Side.Sent w (under_way_of Side.Sent new.judge) moved.after) (sym sent)
-        (other_stays Side.Received octet r.sent (under_way_of Side.Sent r.judge) (under_way_of Side.Sent new.judge) follows.past moved.after moved.takes others
+        (other_stays Side.Received octets r.sent (under_way_of Side.Sent r.judge) (under_way_of Side.Sent new.judge) follows.past moved.after moved.takes others
         (follows.both (going_of Side.Received follows.past is)).sent);
     judged = moved.judged_is going;
   };
   text_is = longer_text old out now moved.gained (lines follows.past.journal) (lines moved.after.journal) follows.text_is moved.text_is moved.lines_are;
 }
 
-pub follows_sent : (r : Replayer) (octet : ℕ) (log : List Moment) (old out now : List ℕ) (follows : Follows r log old out) → counts Side.Sent follows.past ≡ true
+pub follows_sent : (r : Replayer) (octets : List ℕ) (log : List Moment) (old out now : List ℕ) (follows : Follows r log old out) → counts Side.Sent follows.past ≡ true
     → (new : Replayer) → new.received ≡ r.received → under_way_of Side.Received new.judge ≡ under_way_of Side.Received r.judge
-    → Moved Side.Sent octet follows.past new.verdict new.sent (under_way_of Side.Sent new.judge) (Judges new.judge) out now
-    → Follows new (put octet ∷ log) old now
-follows_sent r octet log old out now follows is new received others moved = record {
+    → Moved Side.Sent octets follows.past new.verdict new.sent (under_way_of Side.Sent new.judge) (Judges new.judge) out now
+    → Follows new (put_all octets log) old now
+follows_sent r octets log old out now follows is new received others moved = record {
   past = moved.after;
-  shows = shows_taken Side.Sent octet log follows.past moved.after is follows.shows moved.takes;
+  shows = shows_each Side.Sent octets log follows.past moved.after follows.shows moved.takes;
   verdict_is = moved.verdict_is;
   both = λ going. record {
     received = subst (λ (w : Wire). IsSide Side.Received w (under_way_of Side.Received new.judge) moved.after) (sym received)
-        (other_stays Side.Sent octet r.received (under_way_of Side.Received r.judge) (under_way_of Side.Received new.judge) follows.past moved.after moved.takes others
+        (other_stays Side.Sent octets r.received (under_way_of Side.Received r.judge) (under_way_of Side.Received new.judge) follows.past moved.after moved.takes others
         (follows.both (going_of Side.Sent follows.past is)).received);
     sent = moved.side_is going;
     judged = moved.judged_is going;
@@ -175,17 +187,13 @@ many-append : (side : Side) (xs ys : List ℕ) (log : List Moment) → many side
 many-append Side.Received xs ys log = got_all-append xs ys log
 many-append Side.Sent xs ys log = put_all-append xs ys log
 
-many_one : (side : Side) (octet : ℕ) (log : List Moment) → many side (octet ∷ []) log ≡ moment_of side octet ∷ log
-many_one Side.Received octet log = refl
-many_one Side.Sent octet log = refl
-
-many_none : (side : Side) (log : List Moment) → many side [] log ≡ log
+pub many_none : (side : Side) (log : List Moment) → many side [] log ≡ log
 many_none Side.Received log = refl
 many_none Side.Sent log = refl
 
-pub many_more : (side : Side) (octets : List ℕ) (i : ℕ) (log : List Moment) → i < length octets → many side (take (i + 1) octets) log ≡ moment_of side (get_or octets i 0) ∷ many side (take i octets) log
-many_more side octets i log within =
-    ap (λ x. many side x log) (take_more octets i 0 within) ∙ many-append side (take i octets) (get_or octets i 0 ∷ []) log ∙ many_one side (get_or octets i 0) (many side (take i octets) log)
+pub many_more : (side : Side) (octets : List ℕ) (i count : ℕ) (log : List Moment) → i ≤ length octets → many side (take (i + count) octets) log ≡ many side (take count (drop i octets)) (many side (take i octets) log)
+many_more side octets i count log within =
+    ap (λ x. many side x log) (sym (more_text octets i count within)) ∙ many-append side (take i octets) (take count (drop i octets)) log
 
 -- more octets come later
 got_later : (xs : List ℕ) (log : List Moment) → (later : List Moment) × (got_all xs log ≡ later ++ log)

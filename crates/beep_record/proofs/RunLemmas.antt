@@ -1,7 +1,8 @@
 -- The machine reads each record, line by line.
-use Rattle.std.proofs.Common.{◌≡◌, ℕ, ◌+◌, ◌⊎◌, ◌-◌, ◌*◌, ◌/◌, ◌%◌, ◌<◌, ◌≤◌, Bool, true, false, ◌&&◌, ◌==◌, nat_le, nat_lt, List, [], ◌∷◌, ◌++◌, length, Option, Some, None, refl, sym, ap, inl, inr, ◌∙◌, append_assoc, append-nil, arith, length-append, eqb-true}
+use Rattle.std.proofs.Common.{◌≡◌, ℕ, ◌+◌, ◌⊎◌, ◌-◌, ◌*◌, ◌/◌, ◌%◌, ◌<◌, ◌≤◌, Bool, true, false, ◌&&◌, ◌==◌, nat_le, nat_lt, List, [], ◌∷◌, ◌++◌, length, take, get_or, Option, Some, None, Result, Ok, Err, IfOk, refl, sym, ap, inl, inr, ◌∙◌, append_assoc, append-nil, arith, length-append, eqb-true}
 use Rattle.std.specs.Fmt.{decimal}
 use Rattle.std.proofs.lemmas.Fmt.{decimal_digit}
+use Rattle.std.proofs.lemmas.List.{length-take-le}
 use Rattle.std.proofs.lemmas.Bool.Decides.{nat_tests}
 use Rattle.beep_history.specs.declared.journal.Side.{Side}
 use Rattle.beep_journal.specs.declared.role.Role.{Role}
@@ -10,7 +11,8 @@ use Rattle.beep_record.specs.declared.limits.TheConstants.{MAX_PIECE}
 use Rattle.beep_record.specs.declared.mode.Mode.{Mode}
 use Rattle.beep_record.specs.declared.mode.Part.{Part}
 use Rattle.beep_record.specs.Record.{piece_of, Record, IsRecord, IsStatus, record_text, is_plain, hex_digit, octet_text, octets_text, entry_text, log_text, status_text, first_line, has_ended, are_octets, IsLog, IsPiece}
-use Rattle.beep_record.specs.Machine.{State, start, is_hex, digit_of, is_hexed, is_high, step, step_from, run, may_end}
+use Rattle.beep_record.specs.Machine.{State, start, are_plain, is_hex, digit_of, is_hexed, is_high, step, step_from, run, may_end}
+use Rattle.beep_record.specs.Reading.{with_piece}
 use Rattle.beep_record.proofs.OctetLemmas.{decide, ten-digits, eleven-digits, octet_below, left_of, right_of, hex_is_hex, digit_of-hex_digit, hex_no_letter, hex_no_slash, plain_text, hexed_text, hexed_else, high_digit}
 
 pub run-append : (s : Option State) (xs ys : List ℕ) → run s (xs ++ ys) ≡ run (run s xs) ys
@@ -86,6 +88,49 @@ piece-run side role over log (octet ∷ octets) piece are within =
     ∙ ap (λ s. run s (octets_text octets)) (octet-run side role over log piece octet (omega arith) small)
     ∙ piece-run side role over log octets (piece ++ octet ∷ []) (right_of (nat_lt octet 256) _ are) (omega (arith, length-append piece (octet ∷ [])))
     ∙ ap (λ p. Some (in_piece side Part.Fresh role over log p)) (append_assoc piece (octet ∷ []) octets)
+
+-- octets that stand for themselves
+plain-runs : (side : Side) (role : Role) (over : Bool) (log : List Entry) (octets piece : List ℕ) → are_plain octets ≡ true → length piece + length octets ≤ MAX_PIECE
+    → run (Some (in_piece side Part.Fresh role over log piece)) octets ≡ Some (in_piece side Part.Fresh role over log (piece ++ octets))
+plain-runs side role over log [] piece are within = ap (λ p. Some (in_piece side Part.Fresh role over log p)) (sym (append-nil piece))
+plain-runs side role over log (octet ∷ octets) piece are within =
+    ap (λ s. run s octets) (plain-run side role over log piece octet (omega arith) (left_of (is_plain octet) _ are))
+    ∙ plain-runs side role over log octets (piece ++ octet ∷ []) (right_of (is_plain octet) _ are) (omega (arith, length-append piece (octet ∷ [])))
+    ∙ ap (λ p. Some (in_piece side Part.Fresh role over log p)) (append_assoc piece (octet ∷ []) octets)
+
+-- the piece has these octets too
+plain-went : (s next : State) (side : Side) (octets : List ℕ) → s.mode ≡ Mode.Piece side Part.Fresh → are_plain octets ≡ true → (0 < length octets → length s.piece + length octets ≤ MAX_PIECE)
+    → next ≡ with_piece s (s.piece ++ octets) → run (Some s) octets ≡ Some next
+plain-went s next side [] at are room is = ap (λ (t : State). Some t) (sym (is ∙ ap (with_piece s) (append-nil s.piece)))
+plain-went s next side (octet ∷ octets) at are room is =
+    let within : length s.piece + length (octet ∷ octets) ≤ MAX_PIECE = room (omega arith) in
+    ap (λ m. run (Some (record s { mode = m })) (octet ∷ octets)) at ∙ plain-runs side s.role s.over s.log (octet ∷ octets) s.piece are within
+    ∙ ap (λ m. Some (record s { mode = m; piece = s.piece ++ octet ∷ octets })) (sym at) ∙ ap (λ (t : State). Some t) (sym is)
+
+-- the piece has this octet too, whose text came
+pub octet-went : (s next : State) (side : Side) (octet : ℕ) (text : List ℕ) → s.mode ≡ Mode.Piece side Part.Fresh → length s.piece < MAX_PIECE → octet < 256 → text ≡ octet_text octet
+    → next ≡ with_piece s (s.piece ++ octet ∷ []) → run (Some s) text ≡ Some next
+octet-went s next side octet text at room small spelled is =
+    ap (λ m. run (Some (record s { mode = m })) text) at ∙ ap (run (Some (in_piece side Part.Fresh s.role s.over s.log s.piece))) spelled
+    ∙ octet-run side s.role s.over s.log s.piece octet room small
+    ∙ ap (λ m. Some (record s { mode = m; piece = s.piece ++ octet ∷ [] })) (sym at) ∙ ap (λ (t : State). Some t) (sym is)
+
+pub plain-goes : {E : Type 0} (r : Result ℕ E) (s next : State) (side : Side) (octets : List ℕ) → s.mode ≡ Mode.Piece side Part.Fresh → IfOk r (λ count. count ≤ length octets)
+    → IfOk r (λ count. are_plain (take count octets) ≡ true) → IfOk r (λ count. 0 < count → length s.piece + count ≤ MAX_PIECE)
+    → IfOk r (λ count. next ≡ with_piece s (s.piece ++ take count octets)) → IfOk r (λ count. run (Some s) (take count octets) ≡ Some next)
+plain-goes (Err e) s next side octets at within are room is = tt
+plain-goes (Ok count) s next side octets at within are room is =
+    let long : length (take count octets) ≡ count = length-take-le count octets within in
+    plain-went s next side (take count octets) at are (λ some. omega (arith, room (omega arith))) is
+
+-- no octets lead to the same state
+pub same_state : (s t : State) → Some s ≡ Some t → s ≡ t
+same_state s t same = cc same
+
+-- an octet goes on from there
+pub one-goes : (s mid : State) (octets : List ℕ) (octet : ℕ) (next : Option State) → 0 < length octets → octet ≡ get_or octets 0 0 → Some s ≡ Some mid → step mid octet ≡ next → run (Some s) (take 1 octets) ≡ next
+one-goes s mid [] octet next some is same goes = absurd (omega arith)
+one-goes s mid (x ∷ octets) octet next some is same goes = ap (λ t. run t (x ∷ [])) same ∙ ap (step mid) (sym is) ∙ goes
 
 -- ---- lines
 

@@ -1,14 +1,13 @@
 -- Which lines stand for an entry, and for a log.
-use Rattle.std.proofs.Common.{◌≡◌, ℕ, suc, ◌+◌, ◌⊎◌, inl, inr, ◌<◌, ◌≤◌, true, List, [], ◌∷◌, ◌++◌, length, take, drop, take-append-drop, length-drop, min, ◌-◌, nat_lt, get_or, Result, Ok, Err, OnOk, refl, sym, ap, ◌∙◌, append_assoc, append-nil, arith}
+use Rattle.std.proofs.Common.{◌≡◌, ℕ, ◌+◌, ◌⊎◌, inl, inr, ◌<◌, ◌≤◌, true, List, [], ◌∷◌, ◌++◌, length, take, drop, take-append-drop, length-drop, min, ◌-◌, get_or, Result, Ok, Err, OnOk, refl, sym, ap, ◌∙◌, append_assoc, append-nil, arith}
 use Rattle.std.proofs.lemmas.List.{take_more, take_all, drop_all, length-take-le}
-use Rattle.std.proofs.lemmas.List.Folds.{list_all-append}
 use Rattle.beep_history.specs.declared.journal.Side.{Side}
 use Rattle.beep_journal.specs.declared.role.Role.{Role}
 use Rattle.beep_journal.specs.Log.{Entry, read, wrote, quiet, ended, flat, got_all, put_all, Moment, got, put, none, over}
 use Rattle.beep_record.specs.declared.limits.TheConstants.{MAX_PIECE}
 use Rattle.beep_record.specs.Record.{piece_of, octet_text, octets_text, entry_text, log_text, first_line, has_ended, are_octets, IsPiece, ArePieces, IsOrdered}
 use Rattle.beep_record.specs.Written.{HasLines, Writes}
-use Rattle.beep_record.proofs.OctetLemmas.{both, left_of, right_of, octet_small, octets_text-push}
+use Rattle.beep_record.proofs.OctetLemmas.{are_left, are_right, octets_text-push}
 
 -- ---- one line
 
@@ -80,17 +79,6 @@ pieces_one Side.Sent octets log is are = (is, are)
 ordered_one : (side : Side) (octets line : List ℕ) (lines log : List Entry) → has_ended (lines ++ log) ≡ has_ended log → IsOrdered (piece_of side octets ∷ log) → IsOrdered (lines ++ log) → IsOrdered (piece_of side line ∷ lines ++ log)
 ordered_one Side.Received octets line lines log same first is = (same ∙ first.0, is)
 ordered_one Side.Sent octets line lines log same first is = is
-
--- what a slice holds are octets
-pub are_octets_of : (octets : List ℕ) → ((i : ℕ) → get_or octets i 0 < 256) → are_octets octets ≡ true
-are_octets_of [] each = refl
-are_octets_of (octet ∷ octets) each = both _ _ (octet_small octet (each 0)) (are_octets_of octets (λ i. each (suc i)))
-
-are_right : (xs ys : List ℕ) → are_octets (xs ++ ys) ≡ true → are_octets ys ≡ true
-are_right xs ys are = right_of (are_octets xs) _ (sym (list_all-append (λ octet. nat_lt octet 256) xs ys) ∙ are)
-
-are_left : (xs ys : List ℕ) → are_octets (xs ++ ys) ≡ true → are_octets xs ≡ true
-are_left xs ys are = left_of (are_octets xs) _ (sym (list_all-append (λ octet. nat_lt octet 256) xs ys) ∙ are)
 
 take_nil : (n : ℕ) (xs : List ℕ) → xs ≡ [] → take n xs ≡ []
 take_nil n xs empty = take_all n xs (omega (arith, ap length empty)) ∙ empty

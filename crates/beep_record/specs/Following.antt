@@ -1,6 +1,6 @@
 -- What replaying keeps of a session, for the proofs: a decoder and counts for each side, and a
 -- judge.
-use Rattle.std.specs.Prelude.{◌≡◌, ℕ, ◌%◌, ◌^◌, List, [], ◌∷◌, ◌++◌, length, Option, None, Some}
+use Rattle.std.specs.Prelude.{◌≡◌, ℕ, ◌%◌, ◌^◌, Bool, not, ◌&&◌, List, [], ◌∷◌, ◌++◌, length, Option, None, Some}
 use Rattle.beep_frame.specs.declared.head.Head.{Head}
 use Rattle.beep_frame.specs.declared.limits.TheConstants.{MAX_PAYLOAD}
 use Rattle.beep_frame.specs.Frame.{Frame, framed}
@@ -9,8 +9,9 @@ use Rattle.beep_frame.specs.Fed.{fed_of}
 use Rattle.beep_frame.specs.Modulo.{modulo_2_64}
 use Rattle.beep_history.specs.declared.journal.Side.{Side}
 use Rattle.beep_history.specs.Journal.{Item}
+use Rattle.beep_journal.specs.Life.{is_released}
 use Rattle.beep_journal.specs.Broken.{none_tunes}
-use Rattle.beep_journal.specs.Journal.{Past, spelled, TakesOctet}
+use Rattle.beep_journal.specs.Journal.{Past, spelled, goes_on, TakesWhere}
 use Rattle.beep_journal.specs.Texts.{frame_count, lines}
 use Rattle.beep_record.specs.declared.verdict.Verdict.{Verdict}
 use Rattle.beep_record.specs.declared.wire.Wire.{Wire}
@@ -49,12 +50,24 @@ pub record HasFrame (wire : Wire) (under : Option Head) : Type 0 where
   pub size : length payload ≡ head.size
   pub was_fed : WasFed wire.decoder (fed_of octets (frames ++ framed head payload ∷ []) [] None)
 
--- what an octet of a side made of a session, where these octets were written, and the side and the
+-- octets of a side count
+abbrev pub counts : Side → Past → Bool
+counts Side.Received past = goes_on past && not (is_released past.journal)
+counts Side.Sent past = goes_on past
+
+-- what octets of a side make of a session, one after another
+abbrev pub TakesEach : Side → List ℕ → Past → Past → Type 0
+TakesEach side [] old new = new ≡ old
+TakesEach side (octet ∷ octets) old new =
+    (next : Past) × TakesWhere (counts side old) none_tunes side octet old next
+    × TakesEach side octets next new
+
+-- what octets of a side made of a session, where these octets were written, and the side and the
 -- judge stand for it
-pub record Moved (side : Side) (octet : ℕ) (past : Past) (verdict : Verdict) (wire : Wire)
+pub record Moved (side : Side) (octets : List ℕ) (past : Past) (verdict : Verdict) (wire : Wire)
     (under : Option Head) (judged : List Item → Type 0) (old new : List ℕ) : Type 0 where
   pub after : Past
-  pub takes : TakesOctet none_tunes side octet past after
+  pub takes : TakesEach side octets past after
   pub verdict_is : verdict ≡ verdict_of after.fault
   pub side_is : after.fault ≡ None → IsSide side wire under after
   pub judged_is : after.fault ≡ None → judged after.journal

@@ -1,6 +1,8 @@
 -- The reader as a machine that takes one octet at a time, for the proofs alone: what a text says is
 -- in Record.
+-- The code takes at once a run of octets that stand for themselves.
 use Rattle.std.specs.Prelude.{ℕ, ◌+◌, ◌-◌, ◌*◌, Bool, true, false, not, ◌&&◌, ◌||◌, nat_le, nat_lt, ◌==◌, if◌then◌else◌, List, [], ◌∷◌, ◌++◌, length, slice_index, Option, None, Some}
+use Rattle.std.specs.List.{list_all}
 use Rattle.beep_history.specs.declared.journal.Side.{Side}
 use Rattle.beep_journal.specs.declared.role.Role.{Role}
 use Rattle.beep_journal.specs.Log.{Entry, quiet, ended}
@@ -32,6 +34,10 @@ abbrev pub moved : State → Mode → State
 moved s mode = record s { mode = mode }
 
 -- ---- an octet of a piece
+
+-- each of these octets stands for itself
+abbrev pub are_plain : List ℕ → Bool
+are_plain octets = list_all is_plain octets
 
 -- a hexadecimal digit in lower case
 abbrev pub is_hex : ℕ → Bool

@@ -1,5 +1,5 @@
 -- The state of the machine that a reader keeps.
-use Rattle.std.specs.Prelude.{◌≡◌, ◌<◌, Bool, if◌then◌else◌, length, Option, Some, None}
+use Rattle.std.specs.Prelude.{◌≡◌, ℕ, ◌<◌, List, Bool, if◌then◌else◌, length, Option, Some, None}
 use Rattle.beep_record.specs.declared.reader.Reader.{Reader}
 use Rattle.beep_record.specs.declared.mode.Mode.{Mode}
 use Rattle.beep_record.specs.declared.mode.Part.{Part}
@@ -10,6 +10,10 @@ use Rattle.beep_record.specs.Machine.{State}
 abbrev pub state_of : Reader → State
 state_of r =
     record { mode = r.mode; role = r.role; over = r.over; log = r.entries; piece = r.piece.octets }
+
+-- the same with this piece under way
+abbrev pub with_piece : State → List ℕ → State
+with_piece s piece = record s { piece = piece }
 
 -- the reader took the step, or there is none
 abbrev pub Steps : Option State → Bool → State → Type 0

@@ -1,10 +1,9 @@
 -- What a replayer stands for after a part of the log, for the proofs.
-use Rattle.std.specs.Prelude.{◌≡◌, ℕ, Bool, not, ◌&&◌, List, ◌++◌, None}
+use Rattle.std.specs.Prelude.{◌≡◌, ℕ, List, ◌++◌, None}
 use Rattle.beep_history.specs.declared.journal.Side.{Side}
-use Rattle.beep_journal.specs.Log.{Moment, got, put, got_all, put_all}
-use Rattle.beep_journal.specs.Life.{is_released}
+use Rattle.beep_journal.specs.Log.{Moment, got_all, put_all}
 use Rattle.beep_journal.specs.Broken.{none_tunes}
-use Rattle.beep_journal.specs.Journal.{Past, Shows, goes_on}
+use Rattle.beep_journal.specs.Journal.{Past, Shows}
 use Rattle.beep_journal.specs.Texts.{lines}
 use Rattle.beep_judge.specs.Judges.{Judges}
 use Rattle.beep_judge.specs.Kept.{under_way_of}
@@ -12,20 +11,10 @@ use Rattle.beep_record.specs.declared.replayer.Replayer.{Replayer}
 use Rattle.beep_record.specs.Verdicts.{verdict_of}
 use Rattle.beep_record.specs.Following.{IsSide}
 
--- an octet of a side
-abbrev pub moment_of : Side → ℕ → Moment
-moment_of Side.Received octet = got octet
-moment_of Side.Sent octet = put octet
-
 -- octets of a side after a log
 abbrev pub many : Side → List ℕ → List Moment → List Moment
 many Side.Received octets log = got_all octets log
 many Side.Sent octets log = put_all octets log
-
--- octets of a side count
-abbrev pub counts : Side → Past → Bool
-counts Side.Received past = goes_on past && not (is_released past.journal)
-counts Side.Sent past = goes_on past
 
 -- both sides and the judge stand for a session that goes on
 pub record IsBoth (r : Replayer) (past : Past) : Type 0 where

@@ -1,6 +1,6 @@
 -- What a record is replayed to: the report and the verdict of the session that its log shows (RFC
 -- 3080, section 2.2.1).
--- The code judges octet by octet and writes each line as its frame passes.
+-- The code judges step by step of a decoder, and writes each line as its frame passes.
 use Rattle.std.specs.Prelude.{◌≡◌, ℕ, List, ◌++◌, Option, None, Some}
 use Rattle.beep_frame.specs.declared.rule.Rule.{Rule}
 use Rattle.beep_frame.specs.Modulo.{modulo_2_64}

@@ -1,9 +1,9 @@
 //! Records of a session: the log of a link as a text, and what a session that was recorded at one
 //! end shows.
 //!
-//! The text of a record is a relation between logs and texts, in specs/. The reader takes one octet
-//! at a time,
-//! and is proved to answer it, with the place of a fault.
+//! The text of a record is a relation between logs and texts, in specs/. The reader is proved to
+//! answer it, with the place of a fault. It takes at once a run of octets that stand for
+//! themselves, and `replay` the octets up to the next step of a decoder.
 #![tactic(auto)]
 
 pub mod laws;

@@ -1,5 +1,5 @@
 //! The lines of a report.
-ghost use Rattle.std.specs.Prelude.{◌≡◌, ◌++◌, ◌∷◌, [], codes, OnOk, OnErr};
+ghost use Rattle.std.specs.Prelude.{◌≡◌, ◌++◌, ◌∷◌, [], length, codes, OnOk, OnErr};
 ghost use Rattle.std.specs.Fmt.{decimal};
 ghost use Rattle.beep_frame.specs.Spelling.{header_line, seq_line};
 ghost use Rattle.beep_journal.specs.Texts.{side_mark};
@@ -9,9 +9,13 @@ use beep_history::Side;
 use beep_octets::{NoMemory, Octets};
 use itoa::Buffer;
 
+/// The octets of a line beside those of its header or SEQ: a mark of two, and LF.
+const REST_OF_LINE: usize = 3;
+
 /// What a line begins with.
 fn mark(side: Side) -> &'static [u8]
-    ensures { result.now ≡ side_mark side }
+    ensures text { result.now ≡ side_mark side }
+    ensures len { length result.now ≡ 2 }
 {
     match side {
         Side::Received => b"< ",
@@ -25,12 +29,11 @@ pub(crate) fn put_frame_line(side: Side, head: &Head, out: &mut Octets) -> Resul
         ≡ out.old.octets ++ (side_mark side ++ header_line head.now ++ 10 ∷ [])) }
     ensures err { OnErr result (out.new.octets ≡ out.old.octets) }
 {
-    let mut line = Octets::new(out.alloc());
-    line.extend(mark(side))?;
-    line.reserve(MAX_HEADER_LINE)?;
-    spell_header_line(head, &mut line);
-    line.extend(b"\n")?;
-    out.extend(line.as_slice())
+    out.reserve(MAX_HEADER_LINE + REST_OF_LINE)?;
+    out.extend_spare(mark(side));
+    spell_header_line(head, out);
+    out.extend_spare(b"\n");
+    Ok(())
 }
 
 /// Appends the line of a SEQ.
@@ -39,12 +42,11 @@ pub(crate) fn put_seq_line(side: Side, seq: &Seq, out: &mut Octets) -> Result<()
         ≡ out.old.octets ++ (side_mark side ++ seq_line seq.now ++ 10 ∷ [])) }
     ensures err { OnErr result (out.new.octets ≡ out.old.octets) }
 {
-    let mut line = Octets::new(out.alloc());
-    line.extend(mark(side))?;
-    line.reserve(MAX_SEQ_LINE)?;
-    spell_seq_line(seq, &mut line);
-    line.extend(b"\n")?;
-    out.extend(line.as_slice())
+    out.reserve(MAX_SEQ_LINE + REST_OF_LINE)?;
+    out.extend_spare(mark(side));
+    spell_seq_line(seq, out);
+    out.extend_spare(b"\n");
+    Ok(())
 }
 
 /// Appends the last line.

@@ -1,7 +1,7 @@
 //! How an octet is written in a record, and which octets may follow in the text of one.
-ghost use Rattle.std.specs.Prelude.{◌≡◌, ◌<◌, ◌++◌, OnOk};
+ghost use Rattle.std.specs.Prelude.{◌≡◌, ◌<◌, ◌≤◌, ◌++◌, true, false, length, take, slice_index, IfSome, OnOk};
 ghost use Rattle.beep_record.specs.Record.{is_plain, hex_digit, octet_text};
-ghost use Rattle.beep_record.specs.Machine.{is_hex, digit_of, is_hexed, is_high};
+ghost use Rattle.beep_record.specs.Machine.{are_plain, is_hex, digit_of, is_hexed, is_high};
 
 use beep_octets::{NoMemory, Octets};
 
@@ -10,6 +10,62 @@ pub(crate) fn is_plain(octet: u8) -> bool
     ensures { result ≡ is_plain octet }
 {
     32 <= octet && octet <= 126 && octet != b'\\'
+}
+
+/// How many octets are looked at together.
+const BLOCK: usize = 16;
+
+/// Whether each octet stands for itself. It looks at all of them, so that a block takes no longer
+/// than an octet.
+fn are_plain(octets: &[u8]) -> bool
+    ensures { result ≡ are_plain octets.now }
+{
+    let mut all = true;
+    for octet in octets {
+        all = is_plain(*octet) && all;
+    }
+    all
+}
+
+/// How many octets stand at the front in blocks of which each octet stands for itself.
+fn plain_blocks(octets: &[u8]) -> usize
+    ensures within { result ≤ length octets.now }
+    ensures plain { are_plain (take result octets.now) ≡ true }
+{
+    let mut at = 0;
+    while BLOCK <= octets.len() - at && are_plain(&octets[at..at + BLOCK]) {
+        at += BLOCK;
+    }
+    at
+}
+
+/// How many octets at the front stand for themselves.
+pub(crate) fn plain_count(octets: &[u8]) -> usize
+    ensures within { result ≤ length octets.now }
+    ensures plain { are_plain (take result octets.now) ≡ true }
+    ensures next { result < length octets.now
+        → is_plain (slice_index octets.now result) ≡ false }
+{
+    for i in plain_blocks(octets)..octets.len() {
+        if !is_plain(octets[i]) {
+            return i;
+        }
+    }
+    octets.len()
+}
+
+/// The octet that a letter stands for, where its text is at the front.
+#[tactic(auto, unfolding(crate::specs::Record::octet_text))]
+pub(crate) fn lettered(octets: &[u8]) -> Option<u8>
+    ensures text { IfSome result (λ octet. take 2 octets.now ≡ octet_text octet) }
+    ensures within { IfSome result (λ _. 2 ≤ length octets.now) }
+{
+    match octets {
+        [b'\\', b'r', ..] => Some(b'\r'),
+        [b'\\', b'n', ..] => Some(b'\n'),
+        [b'\\', b'\\', ..] => Some(b'\\'),
+        _ => None,
+    }
 }
 
 /// Whether the octet is a hexadecimal digit in lower case.

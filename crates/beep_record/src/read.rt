@@ -28,10 +28,11 @@ pub fn read_record(alloc: Global, text: &[u8]) -> Result<Log, RecordError>
     ensures refused { IfErr result (λ error. Refuses text.now error) }
 {
     let mut reader = Reader::new(alloc);
-    for i in 0..text.len() {
-        match reader.take(text[i]) {
-            Ok(true) => {}
-            Ok(false) => return Err(RecordError::BadRecord(i as u64)),
+    let mut i = 0;
+    while i < text.len() {
+        match reader.take(&text[i..]) {
+            Ok(0) => return Err(RecordError::BadRecord(i as u64)),
+            Ok(count) => i += count,
             Err(_) => return Err(RecordError::NoMemory),
         }
     }

@@ -1,15 +1,16 @@
-//! The reader of records, one octet at a time.
-ghost use Rattle.std.specs.Prelude.{◌≡◌, ◌<◌, true, length, Some, IfOk, OnOk};
+//! The reader of records. It takes at once the octets of a piece that stand for themselves, and
+//! those of a letter, and any other octet alone.
+ghost use Rattle.std.specs.Prelude.{◌≡◌, ◌+◌, ◌<◌, ◌≤◌, ◌++◌, true, length, take, None, Some, IfOk, OnOk};
 ghost use Rattle.beep_journal.specs.Log.{quiet, ended};
-ghost use Rattle.beep_record.specs.Machine.{first_step, start_step, fresh_step, slash_step, high_step, piece_step, line_step, alone_step, status_step, code_step, digits_step, kept, with_entry, after_first, step, start};
+ghost use Rattle.beep_record.specs.Machine.{first_step, start_step, fresh_step, slash_step, high_step, piece_step, line_step, alone_step, status_step, code_step, digits_step, are_plain, kept, with_entry, after_first, step, run, start};
 ghost use Rattle.beep_record.specs.Logged.{entry_of};
 ghost use Rattle.beep_record.specs.Record.{first_line, piece_of};
-ghost use Rattle.beep_record.specs.Reading.{state_of, Steps, IsNumbered};
+ghost use Rattle.beep_record.specs.Reading.{state_of, with_piece, Steps, IsNumbered};
 
 use crate::limits::MAX_PIECE;
 use crate::log::{Entry, LogEntries};
 use crate::mode::{Mode, Part};
-use crate::octet::{digit_of, is_hex, is_hexed, is_high, is_plain};
+use crate::octet::{digit_of, is_hex, is_hexed, is_high, is_plain, lettered, plain_count};
 use beep_history::Side;
 use beep_journal::Role;
 use beep_octets::{NoMemory, Octets};
@@ -259,7 +260,7 @@ impl Reader {
 
     /// Takes one octet, where one can follow.
     #[tactic(auto, unfolding(crate::specs::Machine::step))]
-    pub(crate) fn take(&mut self, octet: u8) -> Result<bool, NoMemory>
+    fn step(&mut self, octet: u8) -> Result<bool, NoMemory>
         requires { IsNumbered self.old.mode }
         ensures { IfOk result (λ went.
             Steps (step (state_of self.old) octet) went (state_of self.new)) }
@@ -278,5 +279,57 @@ impl Reader {
             Mode::Digits(code) => Ok(self.digits(code, octet)),
             Mode::Over(_) => Ok(false),
         }
+    }
+
+    /// Takes the octets of a piece at the front that stand for themselves, as many as its line has
+    /// room for, and answers how many.
+    fn plain(&mut self, octets: &[u8]) -> Result<usize, NoMemory>
+        ensures within { IfOk result (λ count. count ≤ length octets.now) }
+        ensures plain { IfOk result (λ count. are_plain (take count octets.now) ≡ true) }
+        ensures room { IfOk result (λ count.
+            0 < count → length self.old.piece.octets + count ≤ MAX_PIECE) }
+        ensures kept { IfOk result (λ count. state_of self.new
+            ≡ with_piece (state_of self.old) (self.old.piece.octets ++ take count octets.now)) }
+    {
+        let room = MAX_PIECE.saturating_sub(self.piece.len());
+        let count = plain_count(&octets[..octets.len().min(room)]);
+        self.piece.extend(&octets[..count])?;
+        Ok(count)
+    }
+
+    /// Takes octets of a piece where none of them has begun: one that a letter stands for, or those
+    /// at the front that stand for themselves.
+    fn front(&mut self, octets: &[u8]) -> Result<usize, NoMemory>
+        ensures within { IfOk result (λ count. count ≤ length octets.now) }
+        ensures went { IfOk result (λ count. run (Some (state_of self.old)) (take count octets.now)
+            ≡ Some (state_of self.new)) }
+    {
+        match self.mode {
+            Mode::Piece(_, Part::Fresh) => match lettered(octets) {
+                Some(octet) if self.piece.len() < MAX_PIECE => {
+                    self.piece.extend(&[octet])?;
+                    Ok(2)
+                }
+                _ => self.plain(octets),
+            },
+            _ => Ok(0),
+        }
+    }
+
+    /// Takes octets from the front, at least one where one can follow, and answers how many.
+    pub(crate) fn take(&mut self, octets: &[u8]) -> Result<usize, NoMemory>
+        requires numbered { IsNumbered self.old.mode }
+        requires some { 0 < length octets.now }
+        ensures within { IfOk result (λ count. count ≤ length octets.now) }
+        ensures went { IfOk result (λ count. 0 < count
+            → run (Some (state_of self.old)) (take count octets.now) ≡ Some (state_of self.new)) }
+        ensures stuck { IfOk result (λ count. count ≡ 0
+            → run (Some (state_of self.old)) (take 1 octets.now) ≡ None) }
+    {
+        let count = self.front(octets)?;
+        if 0 < count {
+            return Ok(count);
+        }
+        if self.step(octets[0])? { Ok(1) } else { Ok(0) }
     }
 }

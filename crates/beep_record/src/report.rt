@@ -1,12 +1,13 @@
 //! Replaying a record: the report and the verdict of the session that its log shows.
-ghost use Rattle.std.specs.Prelude.{◌≡◌, ℕ, ◌+◌, ◌≤◌, ◌<◌, ◌^◌, ◌++◌, List, [], ◌∷◌, length, IfOk, OnOk, OnErr};
+ghost use Rattle.std.specs.Prelude.{◌≡◌, ℕ, ◌+◌, ◌≤◌, ◌<◌, ◌^◌, ◌++◌, List, [], ◌∷◌, length, take, IfOk, OnOk, OnErr};
 ghost use Rattle.beep_journal.specs.Log.{Moment, Entry as LogEntry, flat};
 ghost use Rattle.beep_journal.specs.Broken.{none_tunes};
 ghost use Rattle.beep_journal.specs.Journal.{Past, Shows};
 ghost use Rattle.beep_journal.specs.Texts.{report};
 ghost use Rattle.beep_record.specs.Logged.{entry_of};
 ghost use Rattle.beep_record.specs.Verdicts.{verdict_of, Replays, Begins};
-ghost use Rattle.beep_record.specs.Replaying.{Follows, HasLog, Stopped, moment_of, many, counts};
+ghost use Rattle.beep_record.specs.Following.{counts};
+ghost use Rattle.beep_record.specs.Replaying.{Follows, HasLog, Stopped, many};
 
 use crate::lines::put_summary;
 use crate::log::{Entry, Log};
@@ -76,36 +77,46 @@ impl Replayer {
         ensures err { (log : List Moment) (old : List ℕ) → Follows self.old log old out.old.octets
             → OnErr result (Stopped (many side octets.now log) old out.new.octets) }
     {
-        for octet in octets {
-            self.take(side, *octet, out)?;
+        let mut at = 0;
+        while at < octets.len() {
+            let count = self.take(side, &octets[at..], out)?;
+            at += count;
         }
         Ok(())
     }
 
-    /// Takes one octet of a side, where octets of it count.
-    fn take(&mut self, side: Side, octet: u8, out: &mut Octets) -> Result<(), NoMemory>
+    /// Takes octets of a side up to the next step, or all of them where they don't count, and
+    /// answers how many.
+    fn take(&mut self, side: Side, octets: &[u8], out: &mut Octets) -> Result<usize, NoMemory>
         requires follows { HasLog self.old out.old.octets }
+        requires some { 0 < length octets.now }
+        ensures within { IfOk result (λ count. count ≤ length octets.now) }
+        ensures progress { IfOk result (λ count. 0 < count) }
         ensures ok { (log : List Moment) (old : List ℕ) → Follows self.old log old out.old.octets
-            → OnOk result (Follows self.new (moment_of side octet ∷ log) old out.new.octets) }
+            → IfOk result (λ count.
+            Follows self.new (many side (take count octets.now) log) old out.new.octets) }
         ensures err { OnErr result (out.new.octets ≡ out.old.octets) }
     {
         if !self.counts(side) {
-            return Ok(());
+            return Ok(octets.len());
         }
+        let judge = &mut self.judge;
         match side {
             Side::Received => {
-                self.verdict = take(
+                let (count, verdict) = take(
                     &mut self.received,
-                    &mut self.judge,
+                    judge,
                     Side::Received,
-                    octet,
+                    octets,
                     out,
                 )?;
-                Ok(())
+                self.verdict = verdict;
+                Ok(count)
             }
             Side::Sent => {
-                self.verdict = take(&mut self.sent, &mut self.judge, Side::Sent, octet, out)?;
-                Ok(())
+                let (count, verdict) = take(&mut self.sent, judge, Side::Sent, octets, out)?;
+                self.verdict = verdict;
+                Ok(count)
             }
         }
     }

@@ -1,5 +1,5 @@
-//! What each octet of a side makes of a session.
-ghost use Rattle.std.specs.Prelude.{◌≡◌, ℕ, ◌+◌, true, List, [], ◌∷◌, ◌++◌, None, Some, Ok, IfOk, OnOk, OnErr};
+//! What octets of a side make of a session, step by step.
+ghost use Rattle.std.specs.Prelude.{◌≡◌, ℕ, ◌+◌, ◌<◌, ◌≤◌, true, List, [], ◌∷◌, ◌++◌, length, take, None, Some, Ok, IfOk, OnOk, OnErr};
 ghost use Rattle.beep_frame.specs.Frame.{Frame, framed};
 ghost use Rattle.beep_frame.specs.declared.head.Head.{Head as header_type};
 ghost use Rattle.beep_frame.specs.Decoding.{WasFed};
@@ -12,51 +12,51 @@ ghost use Rattle.beep_judge.specs.Judges.{Judges};
 ghost use Rattle.beep_judge.specs.Kept.{under_way_of};
 ghost use Rattle.beep_record.specs.declared.verdict.Verdict.{Verdict as verdict_type};
 ghost use Rattle.beep_record.specs.Verdicts.{verdict_by};
-ghost use Rattle.beep_record.specs.Following.{IsSide, Moved, counted, HasFrame, IsHeld};
+ghost use Rattle.beep_record.specs.Following.{IsSide, Moved, counts, counted, HasFrame, IsHeld};
 
 use crate::lines::{put_frame_line, put_seq_line};
-use crate::verdict::{Verdict, failing};
+use crate::verdict::{Verdict, verdict_by};
 use crate::wire::Wire;
 use beep_frame::{Head, Rule, Seq, Step};
 use beep_history::Side;
 use beep_judge::Judge;
 use beep_octets::{NoMemory, Octets};
 
-/// The verdict where a rule was broken or none.
-fn verdict_by(side: Side, rule: Option<Rule>, place: u64) -> Verdict
-    ensures { result ≡ verdict_by side rule place }
-{
-    match rule {
-        Some(rule) => failing(side, rule, place),
-        None => Verdict::Fine,
-    }
-}
-
-/// Takes one octet of a side.
+/// Takes octets of a side up to the next step, and answers how many, and the verdict after them.
 pub(crate) fn take(
     wire: &mut Wire,
     judge: &mut Judge,
     side: Side,
-    octet: u8,
+    octets: &[u8],
     out: &mut Octets,
-) -> Result<Verdict, NoMemory>
+) -> Result<(usize, Verdict), NoMemory>
     requires held { IsHeld side wire.old (under_way_of side judge.old) (Judges judge.old) }
+    requires some { 0 < length octets.now }
+    ensures within { IfOk result (λ taken. taken.0 ≤ length octets.now) }
+    ensures progress { IfOk result (λ taken. 0 < taken.0) }
     ensures moved { (past : Past) → IsSide side wire.old (under_way_of side judge.old) past
-        → Judges judge.old past.journal → past.fault ≡ None
-        → IfOk result (λ verdict. Moved side octet past verdict wire.new
+        → Judges judge.old past.journal → counts side past ≡ true
+        → IfOk result (λ taken. Moved side (take taken.0 octets.now) past taken.1 wire.new
         (under_way_of side judge.new)
         (Judges judge.new) out.old.octets out.new.octets) }
     ensures others { OnOk result (under_way_of (other side) judge.new
         ≡ under_way_of (other side) judge.old) }
     ensures err { OnErr result (out.new.octets ≡ out.old.octets) }
 {
-    let place = wire.used;
-    match wire.feed(octet) {
-        Step::More => Ok(Verdict::Fine),
-        Step::Head(head) => Ok(begin(judge, side, &head, place)),
-        Step::Frame => pass(wire, judge, side, place, out),
-        Step::Seq(seq) => tell(wire, judge, side, &seq, place, out),
-        Step::Broken(rule, at) => Ok(failing(side, rule, at)),
+    let (count, step) = wire.feed(octets);
+    let place = wire.used.wrapping_sub(1);
+    match step {
+        Step::More => Ok((count, Verdict::Fine)),
+        Step::Head(head) => Ok((count, begin(judge, side, &head, place))),
+        Step::Frame => {
+            let verdict = pass(wire, judge, side, place, out)?;
+            Ok((count, verdict))
+        }
+        Step::Seq(seq) => {
+            let verdict = tell(wire, judge, side, &seq, place, out)?;
+            Ok((count, verdict))
+        }
+        Step::Broken(rule, at) => Ok((count, verdict_by(side, Some(rule), at))),
     }
 }
 
@@ -71,7 +71,7 @@ fn begin(judge: &mut Judge, side: Side, head: &Head, place: u64) -> Verdict
     ensures others { under_way_of (other side) judge.new ≡ under_way_of (other side) judge.old }
 {
     match judge.begin(side, head) {
-        Some(rule) => failing(side, rule, place),
+        Some(rule) => verdict_by(side, Some(rule), place),
         None => Verdict::Fine,
     }
 }
@@ -111,7 +111,7 @@ fn pass(
     let head = frame.head;
     let rule = judge.pass(side, frame.payload)?;
     put_frame_line(side, &head, out)?;
-    wire.count();
+    wire.frames = wire.frames.wrapping_add(1);
     Ok(verdict_by(side, rule, place))
 }
 
@@ -140,10 +140,10 @@ fn tell(
     ensures err { OnErr result (out.new.octets ≡ out.old.octets) }
 {
     match judge.seq(side, seq) {
-        Some(rule) => Ok(failing(side, rule, place)),
+        Some(rule) => Ok(verdict_by(side, Some(rule), place)),
         None => {
             put_seq_line(side, seq, out)?;
-            wire.count();
+            wire.frames = wire.frames.wrapping_add(1);
             Ok(Verdict::Fine)
         }
     }

@@ -1,6 +1,6 @@
 //! What a recorded session shows.
 ghost use Rattle.std.specs.Prelude.{◌≡◌};
-ghost use Rattle.beep_record.specs.Verdicts.{verdict_on};
+ghost use Rattle.beep_record.specs.Verdicts.{verdict_by};
 
 use beep_frame::Rule;
 use beep_history::Side;
@@ -16,12 +16,13 @@ pub enum Verdict {
     Written(Rule, u64),
 }
 
-/// The verdict on a rule that a side broke.
-pub(crate) fn failing(side: Side, rule: Rule, place: u64) -> Verdict
-    ensures { result ≡ verdict_on side rule place }
+/// The verdict where a side broke a rule at this place, or none.
+pub(crate) fn verdict_by(side: Side, rule: Option<Rule>, place: u64) -> Verdict
+    ensures { result ≡ verdict_by side rule place }
 {
-    match side {
-        Side::Received => Verdict::Broken(rule, place),
-        Side::Sent => Verdict::Written(rule, place),
+    match (rule, side) {
+        (None, _) => Verdict::Fine,
+        (Some(rule), Side::Received) => Verdict::Broken(rule, place),
+        (Some(rule), Side::Sent) => Verdict::Written(rule, place),
     }
 }

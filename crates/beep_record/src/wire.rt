@@ -18,12 +18,12 @@ impl Wire {
     ghost use Rattle.std.specs.Prelude.{◌≡◌, [], None, IfOk};
     ghost use Rattle.beep_history.specs.declared.journal.Side.{Side};
     ghost use Rattle.beep_journal.specs.Journal.{no_past};
-    ghost use Rattle.beep_record.specs.Following.{IsSide, counted};
-    ghost use Rattle.std.specs.Prelude.{◌∷◌, ◌+◌, true};
+    ghost use Rattle.beep_record.specs.Following.{IsSide};
+    ghost use Rattle.std.specs.Prelude.{◌⊎◌, ◌+◌, ◌<◌, ◌≤◌, length, true, IsTrue};
     ghost use Rattle.beep_frame.specs.Fed.{Fed};
     ghost use Rattle.beep_frame.specs.declared.step.Step.{Step as step_type};
     ghost use Rattle.beep_frame.specs.Decoding.{WasFed};
-    ghost use Rattle.beep_frame.specs.Decodes.{Decodes};
+    ghost use Rattle.beep_frame.specs.Decodes.{Decodes, is_broken};
     ghost use Rattle.beep_frame.specs.Modulo.{modulo_2_64};
 
     /// A side of which no octet came.
@@ -37,24 +37,19 @@ impl Wire {
         })
     }
 
-    /// Takes one octet, and tells the step that it makes.
-    pub(crate) fn feed(&mut self, octet: u8) -> Step
+    /// Takes octets up to the next step, and answers how many, and the step.
+    pub(crate) fn feed(&mut self, octets: &[u8]) -> (usize, Step)
+        ensures within { result.0 ≤ length octets.now }
         ensures decodes { (fed : Fed) → WasFed self.old.decoder fed
-            → Decodes result self.new.decoder fed (octet ∷ []) 1 }
-        ensures frame { result ≡ step_type.Frame → self.new.decoder.whole ≡ true }
-        ensures used { self.new.used ≡ modulo_2_64 (self.old.used + 1) }
+            → Decodes result.1 self.new.decoder fed octets.now result.0 }
+        ensures progress { 0 < length octets.now → (0 < result.0) ⊎ IsTrue (is_broken result.1) }
+        ensures frame { result.1 ≡ step_type.Frame → self.new.decoder.whole ≡ true }
+        ensures used { self.new.used ≡ modulo_2_64 (self.old.used + result.0) }
         ensures max { self.new.decoder.tracker.max ≡ self.old.decoder.tracker.max }
         ensures frames { self.new.frames ≡ self.old.frames }
     {
-        let (_, step) = self.decoder.feed(&[octet]);
-        self.used = self.used.wrapping_add(1);
-        step
-    }
-
-    /// Counts one more frame.
-    pub(crate) fn count(&mut self)
-        ensures { self.new ≡ record self.old { frames = counted (self.old.frames + 1) } }
-    {
-        self.frames = self.frames.wrapping_add(1);
+        let (count, step) = self.decoder.feed(octets);
+        self.used = self.used.wrapping_add(count as u64);
+        (count, step)
     }
 }

@@ -40,7 +40,7 @@ fn shows(alloc: Global, lines: &[u8], after: &[u8]) -> Result<Option<Verdict>, N
 
 #[test]
 fn each_session_has_its_report_and_verdict(rt: HostRuntime) -> Result<(), Fail> {
-    let cases: [(&[u8], &[u8], Verdict); 12] = [
+    let cases: [(&[u8], &[u8], Verdict); 14] = [
         (b"", b"frames 2 2 left 0\n", Verdict::Fine),
         (b"R MSG 1 0\n", b"frames 2 2 left 7\n", Verdict::Fine),
         (
@@ -97,6 +97,19 @@ fn each_session_has_its_report_and_verdict(rt: HostRuntime) -> Result<(), Fail> 
               W RPY 0 2 . 115 46\\r\\nContent-Type: application/beep+xml\\r\\n\\r\\n<ok />\\r\\n\
               END\\r\\n\nR not BEEP\n",
             b"< MSG 0 2 . 141 71\n> RPY 0 2 . 115 46\nframes 3 3 left 0\n",
+            Verdict::Fine,
+        ),
+        (
+            b"W MSG 0 1 . 115 71\\r\\nContent-Type: application/beep+xml\\r\\n\\r\\n\
+              <close number='0' code='200' />\\r\\nEND\\r\\n\n\
+              R RPY 0 1 . 141 46\\r\\nContent-Type: application/beep+xml\\r\\n\\r\\n<ok />\\r\\n\
+              END\\r\\nnot BEEP\n",
+            b"> MSG 0 1 . 115 71\n< RPY 0 1 . 141 46\nframes 3 3 left 0\n",
+            Verdict::Fine,
+        ),
+        (
+            b"R M\nR SG 1 0 . 0 2\\r\nR \\n\\r\nR \\nEN\nR D\\r\\nMSG 1 0\n",
+            b"< MSG 1 0 . 0 2\nframes 3 2 left 7\n",
             Verdict::Fine,
         ),
     ];

@@ -1,7 +1,7 @@
 use Rattle.std.proofs.Common.{◌≡◌, length, true, arith, refl, eqb-true, sym, ◌∙◌}
 use Rattle.beep_record.specs.Record.{are_octets}
-use Rattle.beep_record.proofs.OctetLemmas.{some_of}
-use Rattle.beep_record.proofs.WrittenLemmas.{are_octets_of, cut_nothing, cut_more, cut_whole}
+use Rattle.beep_record.proofs.OctetLemmas.{some_of, are_octets_of}
+use Rattle.beep_record.proofs.WrittenLemmas.{cut_nothing, cut_more, cut_whole}
 use Rattle.beep_record.proofs.write.put_piece.Goals as goal
 
 pub loop-rest-init : goal.loop-rest-init
