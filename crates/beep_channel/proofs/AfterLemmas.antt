@@ -1,22 +1,18 @@
 -- What is left of the queue fits what is kept after the next frame.
-use Rattle.std.proofs.Common.{◌≡◌, ℕ, zero, suc, ◌+◌, ◌-◌, ◌%◌, ◌^◌, ◌<◌, ◌≤◌, ◌==◌, min, nat_lt, nat_le, Bool, true, false, cond, not, ◌&&◌, ◌||◌, if◌then◌else◌, List, [], ◌∷◌, ◌++◌, length, take, drop, Option, Some, None, refl, sym, ap, ◌∙◌, arith, subst, ◌⊎◌, inl, inr, ⊎_elim}
-use Rattle.std.specs.Prelude.{is_some, slice_index}
-use Rattle.std.specs.Option.{option_map_or}
-use Rattle.std.proofs.lemmas.Bool.{false_from_ne_true, cases_Bool, and_right, le-ltb, lt-ltb, ltb-false}
+use Rattle.std.proofs.Common.{◌≡◌, ℕ, zero, suc, ◌+◌, ◌-◌, ◌%◌, ◌^◌, ◌<◌, ◌≤◌, ◌==◌, min, nat_lt, Bool, true, false, ◌||◌, if◌then◌else◌, List, [], ◌∷◌, length, take, drop, refl, arith, subst, ◌⊎◌, inl, inr}
 use Rattle.std.proofs.lemmas.Bool.Decides.{nat_tests}
 use Rattle.std.proofs.lemmas.List.{length-take, length-drop}
 use Rattle.beep_frame.specs.declared.head.Head.{Head}
 use Rattle.beep_frame.specs.declared.kind.Kind.{Kind}
-use Rattle.beep_history.specs.declared.limits.TheConstants.{MAX_REQUESTS, MAX_ANSWERS}
-use Rattle.beep_frame.specs.Frame.{head_of, is_msg, is_ans, is_nul, is_reply, same_kind}
+use Rattle.beep_history.specs.declared.limits.TheConstants.{MAX_REQUESTS}
+use Rattle.beep_frame.specs.Frame.{head_of, is_ans, is_nul, is_reply}
 use Rattle.beep_history.proofs.SoundLemmas.{IsApartFirst}
 use Rattle.beep_history.proofs.AnswersLemmas.{has}
 use Rattle.beep_exchange.specs.declared.answer.Answer.{Answer}
-use Rattle.beep_exchange.specs.Kept.{Kept, begins, is_open, began_kept, passed_kept, replied_kept, continued, completed}
+use Rattle.beep_exchange.specs.Kept.{Kept, begins, is_open, continued, completed}
 use Rattle.beep_outbox.specs.Queue.{Message}
-use Rattle.beep_channel.specs.Fits.{replies, asks, may_follow, so_far_after, is_shaped, IsRun, IsBehind, current, was_more, OneAnswer, IsWhole, IsBegun, as_number, Fits, next_number, IsCut, mine_after, theirs_after, left_of, count_after}
-use Rattle.beep_exchange.specs.Given.{ends_reply}
-use Rattle.beep_channel.proofs.JudgedLemmas.{same-number, on-begins, behind-take}
+use Rattle.beep_channel.specs.Fits.{replies, asks, so_far_after, IsRun, IsBehind, current, OneAnswer, IsWhole, IsBegun, as_number, mine_after, theirs_after, count_after}
+use Rattle.beep_channel.proofs.JudgedLemmas.{same-number, behind-take}
 
 -- ---- the numbers of own requests
 

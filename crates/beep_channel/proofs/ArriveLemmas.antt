@@ -1,43 +1,32 @@
 -- A received header and a received frame leave the channel standing for the history with them, and so does a take for the same history.
-use Rattle.std.proofs.Common.{◌≡◌, ℕ, zero, suc, ◌+◌, ◌-◌, ◌*◌, ◌%◌, ◌^◌, ◌<◌, ◌≤◌, ◌==◌, min, nat_lt, nat_le, Bool, true, false, cond, not, ◌&&◌, ◌||◌, if◌then◌else◌, List, [], ◌∷◌, ◌++◌, length, take, drop, map, Option, Some, None, refl, sym, ap, ◌∙◌, arith, subst, ◌⊎◌, inl, inr, ⊎_elim, append_assoc, take-append-drop}
-use Rattle.std.specs.Prelude.{is_some}
-use Rattle.std.specs.Option.{option_map_or, option_map}
+use Rattle.std.proofs.Common.{◌≡◌, ℕ, zero, suc, ◌+◌, ◌-◌, ◌≤◌, ◌==◌, Bool, true, false, not, ◌&&◌, ◌||◌, if◌then◌else◌, List, [], ◌∷◌, length, take, Option, Some, None, refl, sym, ap, ◌∙◌, arith, subst}
+use Rattle.std.specs.Option.{option_map_or}
 use Rattle.std.proofs.lemmas.List.{take-take}
-use Rattle.std.proofs.lemmas.Bool.Decides.{nat_tests}
 use Rattle.beep_frame.specs.declared.head.Head.{Head}
-use Rattle.beep_frame.specs.declared.kind.Kind.{Kind}
-use Rattle.beep_frame.specs.declared.tag.Tag.{Tag}
 use Rattle.beep_frame.specs.declared.rule.Rule.{Rule}
 use Rattle.beep_history.specs.declared.journal.Side.{Side}
 use Rattle.beep_history.specs.declared.limits.TheConstants.{MAX_REQUESTS}
-use Rattle.beep_frame.specs.Frame.{is_msg, is_ans, is_reply}
-use Rattle.beep_history.specs.Journal.{Item, began, passed}
-use Rattle.beep_history.specs.Marks.{Request, requests, waiting, previous, begins_request, passed_octets, position_of, tag_of, marks, frame_marks, carries, Mark, octet, end, goes_on, modulo_2_64, mark_modulo_2_64}
-use Rattle.beep_history.specs.Broken.{under_way, first_of, breaks_nul_shape}
-use Rattle.beep_history.specs.Windows.{greatest_edge, arrivals}
+use Rattle.beep_frame.specs.Frame.{is_msg}
+use Rattle.beep_history.specs.Journal.{Item, began}
+use Rattle.beep_history.specs.Marks.{Request, requests, waiting, begins_request, goes_on}
+use Rattle.beep_history.specs.Broken.{breaks_nul_shape}
 use Rattle.beep_history.proofs.KeptLemmas.{pass}
 use Rattle.beep_history.proofs.AnswersLemmas.{has}
-use Rattle.beep_history.proofs.SoundLemmas.{IsApartFirst, Sound, IsDue, numbers}
+use Rattle.beep_history.proofs.SoundLemmas.{IsApartFirst, numbers}
 use Rattle.beep_history.proofs.PassedLemmas.{sound}
-use Rattle.beep_exchange.specs.declared.given.Given.{Given}
-use Rattle.beep_exchange.specs.Given.{ends_reply, after_taken}
-use Rattle.beep_exchange.specs.Kept.{Kept, begins, is_open, judged, shape_tests, limit_tests, breaks_not_continued, began_kept, passed_kept, replied_kept, tag_in, tag_under_way}
-use Rattle.beep_exchange.specs.Stands.{Life, Stands as ExchangeStands, kept_of}
-use Rattle.beep_exchange.proofs.StandsLemmas.{judged-room, began-received, passed-received}
+use Rattle.beep_exchange.specs.Kept.{Kept, begins, is_open, judged, breaks_not_continued, began_kept, breaks_empty_answer}
+use Rattle.beep_exchange.specs.Stands.{Life, Stands as ExchangeStands}
+use Rattle.beep_exchange.proofs.StandsLemmas.{judged-room, began-received}
 use Rattle.beep_exchange.proofs.AskerLemmas.{count-waiting}
-use Rattle.beep_exchange.proofs.TagLemmas.{tag-received}
-use Rattle.beep_seq.specs.Receiving.{Receiver, Stands as RecvStands}
-use Rattle.beep_inbox.specs.Runs.{Run, octets_of, run_marks, marks_of, put_run, left_runs}
-use Rattle.beep_outbox.specs.Queue.{Message, marks_of as unsent_marks}
-use Rattle.beep_channel.specs.Fits.{Fits, as_number, run_end}
-use Rattle.beep_channel.specs.Sums.{Sums, ended_of, arriving_run, arriving_tag, is_partly, IsTagged}
+use Rattle.beep_channel.specs.Fits.{Fits}
+use Rattle.beep_channel.specs.Sums.{Sums, ended_of, IsTagged}
 use Rattle.beep_channel.specs.Held.{Held}
-use Rattle.beep_channel.specs.Stands.{HeldStands, Stands, HasImplied, first_own, first_reply}
+use Rattle.beep_channel.specs.Stands.{HeldStands, HasImplied, first_own, first_reply}
+use Rattle.beep_channel.proofs.EndsLemmas.{judged-full}
 use Rattle.beep_channel.proofs.GiveLemmas.{header-fits}
-use Rattle.beep_channel.proofs.PassLemmas.{request-fits, reply-fits}
-use Rattle.beep_channel.proofs.SmallLemmas.{small-same, replied-before, replied-octets, replied-under}
-use Rattle.beep_channel.proofs.OpenLemmas.{implied-began, implied-passed, implied-same, carried}
-use Rattle.beep_channel.proofs.SumsLemmas.{header-sums, request-sums, reply-sums, put-ended, put-octets, put-marks, take-sums, take-owed, given_after}
+use Rattle.beep_channel.proofs.SmallLemmas.{small-same}
+use Rattle.beep_channel.proofs.OpenLemmas.{implied-began}
+use Rattle.beep_channel.proofs.SumsLemmas.{header-sums}
 
 -- ---- a header
 
@@ -139,4 +128,7 @@ module _ (size : ℕ) (c : Held) (past : List Item) (s : HeldStands size c past)
     answering = s.answering;
     own_implied = s.own_implied;
     their_implied = λ z. subst (λ (n : ℕ). HasImplied n (began_kept c.life.received head)) count-is (implied-began (length (requests Side.Received past)) c.life.received head (s.their_implied z));
+    few = s.few;
+    full = λ h e. let same : head ≡ h = ap (λ (o : Option Head). option_map_or (λ (x : Head). x) o head) e in subst (λ (x : Head). breaks_empty_answer c.life.sent x ≡ false) same (judged-full c.life.received c.life.sent head none);
+    ends = s.ends;
   }

@@ -1,15 +1,14 @@
 -- What a run that is put after the others adds to them, whether it joins the last one or not.
-use Rattle.std.proofs.Common.{◌≡◌, ℕ, zero, suc, ◌+◌, ◌-◌, ◌%◌, ◌^◌, ◌<◌, ◌≤◌, ◌==◌, nat_lt, Bool, true, false, cond, not, ◌&&◌, ◌||◌, if◌then◌else◌, List, [], ◌∷◌, ◌++◌, length, take, drop, map, refl, sym, ap, ◌∙◌, arith, subst, append_assoc}
-use Rattle.std.proofs.lemmas.Bool.{both_ways}
+use Rattle.std.proofs.Common.{◌≡◌, ℕ, suc, ◌+◌, ◌%◌, ◌^◌, ◌<◌, ◌==◌, nat_lt, Bool, true, false, not, ◌&&◌, ◌||◌, if◌then◌else◌, List, [], ◌∷◌, ◌++◌, length, map, refl, sym, ap, ◌∙◌, arith, append_assoc}
 use Rattle.std.proofs.lemmas.Bool.Decides.{nat_tests}
 use Rattle.std.proofs.lemmas.List.{length-append}
 use Rattle.beep_frame.specs.declared.kind.Kind.{Kind}
 use Rattle.beep_frame.specs.declared.tag.Tag.{Tag}
-use Rattle.beep_frame.specs.Frame.{is_msg, is_reply, same_kind}
+use Rattle.beep_frame.specs.Frame.{is_msg, same_kind}
 use Rattle.beep_history.specs.Marks.{Mark, octet, end}
 use Rattle.beep_history.specs.Messages.{same_tag}
 use Rattle.beep_exchange.specs.Given.{ends_reply}
-use Rattle.beep_inbox.specs.Runs.{Run, run_marks, marks_of, octets_of, has_mark, AllMarked, put_behind, put_run, joins, joined}
+use Rattle.beep_inbox.specs.Runs.{Run, run_marks, marks_of, octets_of, has_mark, AllMarked, put_behind, joins, joined}
 use Rattle.beep_channel.specs.Sums.{ended_of, IsPlaced, IsAnswerable}
 
 -- ---- one tag

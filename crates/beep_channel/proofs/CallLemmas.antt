@@ -1,5 +1,5 @@
 -- The calls of a channel, by its parts.
-use Rattle.std.proofs.Common.{◌≡◌, ℕ, zero, suc, ◌+◌, ◌-◌, ◌*◌, ◌%◌, ◌^◌, ◌<◌, ◌≤◌, ◌==◌, min, nat_lt, nat_le, Bool, true, false, not, ◌&&◌, ◌||◌, if◌then◌else◌, List, [], ◌∷◌, ◌++◌, length, take, drop, map, Option, Some, None, Result, Ok, Err, OnOk, OnErr, IsOk, refl, sym, ap, ◌∙◌, arith, subst}
+use Rattle.std.proofs.Common.{◌≡◌, ℕ, zero, suc, ◌+◌, ◌-◌, ◌*◌, ◌%◌, ◌^◌, ◌<◌, ◌≤◌, ◌==◌, min, nat_lt, nat_le, Bool, true, false, not, ◌||◌, if◌then◌else◌, List, [], ◌∷◌, ◌++◌, length, take, Option, Some, None, Result, Ok, Err, OnOk, OnErr, refl, sym, ap, ◌∙◌, arith, subst}
 use Rattle.std.specs.Prelude.{is_some}
 use Rattle.std.specs.Option.{option_map_or, option_map}
 use Rattle.std.proofs.lemmas.Bool.Decides.{nat_tests}
@@ -9,34 +9,31 @@ use Rattle.beep_frame.specs.declared.head.Head.{Head}
 use Rattle.beep_frame.specs.declared.kind.Kind.{Kind}
 use Rattle.beep_frame.specs.declared.seq.Seq.{Seq}
 use Rattle.beep_frame.specs.declared.tag.Tag.{Tag}
-use Rattle.beep_frame.specs.Frame.{head_of, is_msg, is_reply}
+use Rattle.beep_frame.specs.Frame.{is_msg, is_reply}
 use Rattle.beep_history.specs.declared.journal.Side.{Side}
 use Rattle.beep_history.specs.Journal.{Item, began, passed, told}
-use Rattle.beep_history.specs.Marks.{Mark, marks, requests, passed_octets, mark_modulo_2_64}
+use Rattle.beep_history.specs.Marks.{Mark, marks, passed_octets}
 use Rattle.beep_history.specs.Windows.{greatest_edge, departures, is_bad_ack}
-use Rattle.beep_history.proofs.WindowsLemmas.{arrivals-told}
 use Rattle.beep_exchange.specs.declared.given.Given.{Given}
 use Rattle.beep_exchange.specs.Given.{after_given}
-use Rattle.beep_exchange.specs.Kept.{Kept, judged, began_kept, tag_in, tag_under_way}
+use Rattle.beep_exchange.specs.Kept.{judged, began_kept, tag_in, tag_under_way}
 use Rattle.beep_exchange.specs.Stands.{Life, Stands as ExchangeStands}
 use Rattle.beep_exchange.proofs.StandsLemmas.{began-received, passed-received, told-any}
 use Rattle.beep_seq.specs.declared.send_window.BadAck.{BadAck}
 use Rattle.beep_seq.specs.Due.{breaks_bad_ack}
 use Rattle.beep_seq.specs.Sending.{Departures, Sender, after_seq, Stands as SendStands}
-use Rattle.beep_seq.specs.Receiving.{Receiver, Stands as RecvStands, due_of}
+use Rattle.beep_seq.specs.Receiving.{Receiver}
 use Rattle.beep_inbox.specs.Runs.{Run, put_run, octets_of}
 use Rattle.beep_outbox.specs.Queue.{Message, left_after, first_octets, first_tag, message_marks}
-use Rattle.beep_outbox.specs.declared.give_error.GiveError.{GiveError}
 use Rattle.beep_outbox.specs.Unsent.{Unsent, give_refusal, IsCut as CutsFirst}
-use Rattle.beep_channel.specs.Fits.{Fits, IsCut, left_of}
-use Rattle.beep_channel.specs.Sums.{ended_of}
-use Rattle.beep_channel.specs.Held.{Held, limit_of, held_judged, queue_ready, is_held_ready, next_head, next_size, head_from, is_seq_due_of, full_seq_of, told_held, next_ask, next_reply, ansno_of, IsReply, reply_refusal, is_reply_next}
+use Rattle.beep_channel.specs.Fits.{IsCut, left_of}
+use Rattle.beep_channel.specs.Held.{Held, limit_of, held_judged, queue_ready, is_held_ready, next_head, next_size, head_from, is_seq_due_of, full_seq_of, told_held, next_ask, next_reply, ansno_of, IsReply, reply_refusal}
 use Rattle.beep_channel.specs.Stands.{HeldStands, Stands, StandsWith, StandsTaken, StandsGiven, IsNext, IsTold, has_seq_due, taken_octets}
 use Rattle.beep_channel.proofs.FitsLemmas.{reply-waits, next-judged}
 use Rattle.beep_channel.proofs.TakeLemmas.{Reached, life-eq}
 use Rattle.beep_channel.proofs.ArriveLemmas.{begin-held}
 use Rattle.beep_channel.proofs.PassedLemmas.{arrive-stands, arrived-life}
-use Rattle.beep_channel.proofs.CutLemmas.{cut-lawful, told-head, the-head, the-life, now, fits}
+use Rattle.beep_channel.proofs.CutLemmas.{cut-lawful, told-head, the-head, the-life, fits}
 use Rattle.beep_channel.proofs.CountedLemmas.{counted-ask, counted-reply}
 use Rattle.beep_channel.proofs.JudgeLemmas.{judged-of, room-for}
 use Rattle.beep_channel.proofs.GivenLemmas.{ask-held, reply-held, give-marks, with-message}
@@ -139,6 +136,9 @@ acked-goal old seq sends noted = λ size past g k t.
         answering = s.answering;
         own_implied = s.own_implied;
         their_implied = s.their_implied;
+        few = s.few;
+        full = s.full;
+        ends = s.ends;
       };
       all_given = t.all_given;
       all_arrived = t.all_arrived;
@@ -210,6 +210,9 @@ module _ (size : ℕ) (c : Held) (past : List Item) (given taken : List Mark) (t
             answering = s.answering;
             own_implied = s.own_implied;
             their_implied = s.their_implied;
+            few = s.few;
+            full = s.full;
+            ends = s.ends;
           };
           all_given = t.all_given;
           all_arrived = t.all_arrived;
@@ -353,7 +356,7 @@ pub ask-goal : (old : Held) (octets : List ℕ) → old.life.given.asked < 1024 
     → StandsGiven old (record old { life = life; queue = queue }) (message_marks (next_ask old octets))
 ask-goal old octets few fine life ge rce se queue qe = λ size past given taken t.
     let is = life-eq life _ _ _ rce se ge in
-    let base = give-marks size old past given taken (next_ask old octets) (with-message size old past t.held (next_ask old octets) (after_given old.life.given Kind.Msg)) t refl refl (ask-held size old past t.held octets few fine) (counted-ask (old.number == 0) old.life.given given taken t.counted (next_ask old octets).tag.request 0 octets refl) in
+    let base = give-marks size old past given taken (next_ask old octets) (with-message size old past t.held (next_ask old octets) (after_given old.life.given Kind.Msg)) t refl refl (ask-held size old past t.held octets few fine) (counted-ask (old.number == 0) old.life.given given taken t.counted (next_ask old octets).tag.request 0 octets refl refl) in
     subst (λ (l : Life). Stands size (record old { life = l; queue = queue }) past (given ++ message_marks (next_ask old octets)) taken) (sym is)
     (subst (λ (q : List Message). Stands size (record old { life = record old.life { given = after_given old.life.given Kind.Msg }; queue = q }) past (given ++ message_marks (next_ask old octets)) taken) (sym qe) base)
 
@@ -363,7 +366,7 @@ pub reply-goal : (old : Held) (k : Kind) (octets : List ℕ) → IsReply old k o
     → StandsGiven old (record old { life = life; queue = queue }) (message_marks (next_reply old k octets))
 reply-goal old k octets may fine life ge rce se queue qe = λ size past given taken t.
     let is = life-eq life _ _ _ rce se ge in
-    let base = give-marks size old past given taken (next_reply old k octets) (with-message size old past t.held (next_reply old k octets) (after_given old.life.given k)) t refl refl (reply-held size old past t.held octets k may fine) (counted-reply (old.number == 0) old.life.given given taken t.counted old.life.given.first_owed (ansno_of old k) octets k (no-msg k may.reply) refl may.owed) in
+    let base = give-marks size old past given taken (next_reply old k octets) (with-message size old past t.held (next_reply old k octets) (after_given old.life.given k)) t refl refl (reply-held size old past t.held octets k may fine) (counted-reply (old.number == 0) old.life.given given taken t.counted old.life.given.first_owed (ansno_of old k) octets k (no-msg k may.reply) refl may.owed refl) in
     subst (λ (l : Life). Stands size (record old { life = l; queue = queue }) past (given ++ message_marks (next_reply old k octets)) taken) (sym is)
     (subst (λ (q : List Message). Stands size (record old { life = record old.life { given = after_given old.life.given k }; queue = q }) past (given ++ message_marks (next_reply old k octets)) taken) (sym qe) base)
 

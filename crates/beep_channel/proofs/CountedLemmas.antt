@@ -1,21 +1,22 @@
 -- What was given and taken is counted, as a message is given and as a part is taken.
-use Rattle.std.proofs.Common.{◌≡◌, ℕ, zero, suc, ◌+◌, ◌-◌, ◌%◌, ◌^◌, ◌<◌, ◌≤◌, Bool, true, false, cond, not, ◌&&◌, if◌then◌else◌, List, [], ◌∷◌, ◌++◌, map, take, Option, Some, None, refl, sym, ap, ◌∙◌, arith, subst}
-use Rattle.std.specs.Prelude.{is_some}
-use Rattle.std.proofs.lemmas.Bool.{both_ways}
+use Rattle.std.proofs.Common.{◌≡◌, ℕ, zero, suc, ◌+◌, ◌-◌, ◌%◌, ◌^◌, ◌<◌, Bool, true, false, not, ◌&&◌, if◌then◌else◌, List, [], ◌∷◌, ◌++◌, map, Option, Some, None, refl, sym, ap, ◌∙◌, arith, subst}
+use Rattle.std.specs.Prelude.{nat_lt}
+use Rattle.std.specs.Option.{option_map_or}
+use Rattle.std.proofs.lemmas.Bool.Decides.{nat_tests}
 use Rattle.beep_frame.specs.declared.kind.Kind.{Kind}
 use Rattle.beep_frame.specs.declared.tag.Tag.{Tag}
 use Rattle.beep_frame.specs.Frame.{is_msg, is_ans}
 use Rattle.beep_history.specs.Marks.{Mark, octet, end}
 use Rattle.beep_exchange.specs.declared.given.Given.{Given}
-use Rattle.beep_exchange.specs.Given.{ends_reply, after_given, after_taken, new_given, MayTakeOf, next_asked_now}
+use Rattle.beep_exchange.specs.Given.{ends_reply, message_number, next_answer, after_given, after_taken, new_given, MayTakeOf, next_asked_now}
 use Rattle.beep_inbox.specs.Runs.{marks_with}
 use Rattle.beep_outbox.specs.Queue.{Message, message_marks}
 use Rattle.beep_channel.specs.Fits.{as_number}
-use Rattle.beep_channel.specs.Stands.{ends_of, IsInOrder, is_closed, IsCounted}
+use Rattle.beep_channel.specs.Stands.{ends_of, IsInOrder, is_closed, answers_with, answers_after, AreNumbered, answers_told, IsCounted}
 
 -- ---- lists of marks
 
-ends-append : (test : Kind → Bool) (xs ys : List Mark) → ends_of test (xs ++ ys) ≡ ends_of test xs + ends_of test ys
+pub ends-append : (test : Kind → Bool) (xs ys : List Mark) → ends_of test (xs ++ ys) ≡ ends_of test xs + ends_of test ys
 ends-append test [] ys = omega arith
 ends-append test (octet tag v ∷ xs) ys = ends-append test xs ys
 ends-append test (end tag ∷ xs) ys = of (test tag.kind) (ends-append test xs ys)
@@ -36,7 +37,7 @@ ends-message test m = ends-octets test m.tag m.octets (end m.tag ∷ []) ∙ of 
     of true = refl
     of false = refl
 
-ends-part : (test : Kind → Bool) (tag : Tag) (os : List ℕ) (ended : Bool) → ends_of test (marks_with tag os ended) ≡ (if ended && test tag.kind then 1 else 0)
+pub ends-part : (test : Kind → Bool) (tag : Tag) (os : List ℕ) (ended : Bool) → ends_of test (marks_with tag os ended) ≡ (if ended && test tag.kind then 1 else 0)
 ends-part test tag os ended = ends-octets test tag os (if ended then end tag ∷ [] else []) ∙ of ended (test tag.kind)
   where
     of : (e b : Bool) → ends_of test (if e then end tag ∷ [] else []) ≡ (if e && test tag.kind then 1 else 0)
@@ -84,6 +85,44 @@ closed-behind (end t ∷ []) tag (o ∷ os) = closed-octets tag (o ∷ os)
 closed-behind (octet t v ∷ y ∷ xs) tag os = closed-behind (y ∷ xs) tag os
 closed-behind (end t ∷ y ∷ xs) tag os = closed-behind (y ∷ xs) tag os
 
+-- ---- the numbers of answers
+
+answers-append : (n : ℕ) (xs ys : List Mark) → answers_after n (xs ++ ys) ≡ answers_after (answers_after n xs) ys
+answers-append n [] ys = refl
+answers-append n (octet tag v ∷ xs) ys = answers-append n xs ys
+answers-append n (end tag ∷ xs) ys = answers-append (answers_with tag.kind n) xs ys
+
+answers-message : (n : ℕ) (m : Message) → answers_after n (message_marks m) ≡ answers_with m.tag.kind n
+answers-message n m = of m.octets
+  where
+    of : (os : List ℕ) → answers_after n (map (octet m.tag) os ++ end m.tag ∷ []) ≡ answers_with m.tag.kind n
+    of [] = refl
+    of (o ∷ os) = of os
+
+numbered-append : (n : ℕ) (xs ys : List Mark) → AreNumbered n xs → AreNumbered (answers_after n xs) ys → AreNumbered n (xs ++ ys)
+numbered-append n [] ys a b = b
+numbered-append n (octet tag v ∷ xs) ys a b = (a.0, numbered-append n xs ys a.1 b)
+numbered-append n (end tag ∷ xs) ys a b = (a.0, numbered-append (answers_with tag.kind n) xs ys a.1 b)
+
+numbered-message : (n : ℕ) (m : Message) → m.tag.ansno ≡ (if is_ans m.tag.kind then message_number n else 0) → AreNumbered n (message_marks m)
+numbered-message n m e = of m.octets
+  where
+    of : (os : List ℕ) → AreNumbered n (map (octet m.tag) os ++ end m.tag ∷ [])
+    of [] = (e, tt)
+    of (o ∷ os) = (e, of os)
+
+-- the number of the next answer
+told-number : (n : ℕ) → option_map_or (λ (a : ℕ). a) (answers_told n) 0 ≡ message_number n
+told-number zero = refl
+told-number (suc n) = let e : nat_lt 0 (suc n) ≡ true = grind (arith, nat_tests) in rw e refl
+
+told-next : (n : ℕ) → Some (next_answer (answers_told n)) ≡ answers_told (n + 1)
+told-next n = let e : nat_lt 0 (n + 1) ≡ true = grind (arith, nat_tests) in rw e (ap (λ (a : ℕ). Some a) (of n))
+  where
+    of : (n : ℕ) → next_answer (answers_told n) ≡ message_number (n + 1)
+    of zero = refl
+    of (suc n) = let e : nat_lt 0 (suc n) ≡ true = grind (arith, nat_tests) in rw e (omega arith)
+
 -- ---- a message is given
 
 module _ (z : Bool) (g : Given) (given taken : List Mark) (c : IsCounted z g given taken) (place ansno : ℕ) (octets : List ℕ) where
@@ -94,8 +133,15 @@ module _ (z : Bool) (g : Given) (given taken : List Mark) (c : IsCounted z g giv
       → IsInOrder (as_number z) 0 (given ++ message_marks (message k))
   after k e = order-append (as_number z) 0 given (message_marks (message k)) c.order (order-message _ _ (message k) e)
 
-  pub counted-ask : place ≡ next_asked_now g → IsCounted z (after_given g Kind.Msg) (given ++ message_marks (message Kind.Msg)) taken
-  counted-ask p =
+  numbers : (k : Kind) → ansno ≡ (if is_ans k then option_map_or (λ (a : ℕ). a) g.answers 0 else 0) → AreNumbered 0 (given ++ message_marks (message k))
+  numbers k e = numbered-append 0 given (message_marks (message k)) c.numbered
+      (numbered-message (answers_after 0 given) (message k) (e ∙ ap (λ (a : ℕ). if is_ans k then a else 0) (ap (λ (o : Option ℕ). option_map_or (λ (a : ℕ). a) o 0) c.answers ∙ told-number (answers_after 0 given))))
+
+  answers-now : (k : Kind) → answers_after 0 (given ++ message_marks (message k)) ≡ answers_with k (answers_after 0 given)
+  answers-now k = answers-append 0 given (message_marks (message k)) ∙ answers-message (answers_after 0 given) (message k)
+
+  pub counted-ask : place ≡ next_asked_now g → ansno ≡ 0 → IsCounted z (after_given g Kind.Msg) (given ++ message_marks (message Kind.Msg)) taken
+  counted-ask p n0 =
       let a = ends-append is_msg given (message_marks (message Kind.Msg)) in let m = ends-message is_msg (message Kind.Msg) in
       let b = ends-append ends_reply given (message_marks (message Kind.Msg)) in let n = ends-message ends_reply (message Kind.Msg) in
       record {
@@ -104,14 +150,17 @@ module _ (z : Bool) (g : Given) (given taken : List Mark) (c : IsCounted z g giv
         owed = (let e = c.owed in omega (arith, e, b, n));
         first_owed = (let e = c.first_owed in omega (arith, e, b, n));
         order = after Kind.Msg (let e = c.asked in let f = c.first_asked in omega (arith, p, e, f));
+        numbered = numbers Kind.Msg n0;
+        answers = c.answers ∙ ap answers_told (sym (answers-now Kind.Msg));
         answering = c.answering;
         closed = λ _. closed-behind given (record { kind = Kind.Msg; request = place; ansno = ansno }) octets;
       }
 
   -- a whole reply
   whole : (k : Kind) → is_msg k ≡ false → ends_reply k ≡ true → is_ans k ≡ false → place ≡ g.first_owed → 0 < g.owed
+      → ansno ≡ (if is_ans k then option_map_or (λ (a : ℕ). a) g.answers 0 else 0)
       → IsCounted z (record g { owed = g.owed - 1; first_owed = (g.first_owed + 1) % 2 ^ 64; answers = None }) (given ++ message_marks (message k)) taken
-  whole k km ke ka p o =
+  whole k km ke ka p o numbered =
       let a = ends-append is_msg given (message_marks (message k)) in let m : ends_of is_msg (message_marks (message k)) ≡ 0 = ends-message is_msg (message k) ∙ rw km refl in
       let b = ends-append ends_reply given (message_marks (message k)) in let n : ends_of ends_reply (message_marks (message k)) ≡ 1 = ends-message ends_reply (message k) ∙ rw ke refl in
       record {
@@ -120,16 +169,20 @@ module _ (z : Bool) (g : Given) (given taken : List Mark) (c : IsCounted z g giv
         owed = (let e = c.owed in omega (arith, e, b, n, o));
         first_owed = (let e = c.first_owed in omega (arith, e, b, n));
         order = after k (rw km (let e = c.first_owed in omega (arith, p, e)));
+        numbered = numbers k numbered;
+        answers = (let z : answers_with k (answers_after 0 given) ≡ 0 = rw (ka, km) refl in ap answers_told (sym (answers-now k ∙ z)));
         answering = λ e. cc;
         closed = λ _. closed-behind given (record { kind = k; request = place; ansno = ansno }) octets ∙ rw ka refl;
       }
 
-  pub counted-reply : (k : Kind) → is_msg k ≡ false → place ≡ g.first_owed → 0 < g.owed → IsCounted z (after_given g k) (given ++ message_marks (message k)) taken
-  counted-reply Kind.Msg km p o = cc
-  counted-reply Kind.Rpy km p o = whole Kind.Rpy refl refl refl p o
-  counted-reply Kind.Err km p o = whole Kind.Err refl refl refl p o
-  counted-reply Kind.Nul km p o = whole Kind.Nul refl refl refl p o
-  counted-reply Kind.Ans km p o =
+  pub counted-reply : (k : Kind) → is_msg k ≡ false → place ≡ g.first_owed → 0 < g.owed
+      → ansno ≡ (if is_ans k then option_map_or (λ (a : ℕ). a) g.answers 0 else 0)
+      → IsCounted z (after_given g k) (given ++ message_marks (message k)) taken
+  counted-reply Kind.Msg km p o numbered = cc
+  counted-reply Kind.Rpy km p o numbered = whole Kind.Rpy refl refl refl p o numbered
+  counted-reply Kind.Err km p o numbered = whole Kind.Err refl refl refl p o numbered
+  counted-reply Kind.Nul km p o numbered = whole Kind.Nul refl refl refl p o numbered
+  counted-reply Kind.Ans km p o numbered =
       let a = ends-append is_msg given (message_marks (message Kind.Ans)) in let m = ends-message is_msg (message Kind.Ans) in
       let b = ends-append ends_reply given (message_marks (message Kind.Ans)) in let n = ends-message ends_reply (message Kind.Ans) in
       record {
@@ -138,6 +191,8 @@ module _ (z : Bool) (g : Given) (given taken : List Mark) (c : IsCounted z g giv
         owed = (let e = c.owed in omega (arith, e, b, n));
         first_owed = (let e = c.first_owed in omega (arith, e, b, n));
         order = after Kind.Ans (let e = c.first_owed in omega (arith, p, e));
+        numbered = numbers Kind.Ans numbered;
+        answers = ap (λ (o : Option ℕ). Some (next_answer o)) c.answers ∙ told-next (answers_after 0 given) ∙ ap answers_told (sym (answers-now Kind.Ans));
         answering = λ _. o;
         closed = λ e. cc;
       }
@@ -158,6 +213,8 @@ module _ (z : Bool) (g : Given) (given taken : List Mark) (c : IsCounted z g giv
         owed = (let e = c.owed in omega (arith, e, a, m));
         first_owed = c.first_owed;
         order = c.order;
+        numbered = c.numbered;
+        answers = c.answers;
         answering = c.answering;
         closed = c.closed;
       }
@@ -173,6 +230,8 @@ module _ (z : Bool) (g : Given) (given taken : List Mark) (c : IsCounted z g giv
         owed = (let e = c.owed in omega (arith, e, a, m));
         first_owed = c.first_owed;
         order = c.order;
+        numbered = c.numbered;
+        answers = c.answers;
         answering = c.answering;
         closed = c.closed;
       }
@@ -190,6 +249,8 @@ module _ (z : Bool) (g : Given) (given taken : List Mark) (c : IsCounted z g giv
         owed = (let e = c.owed in omega (arith, e, a, m));
         first_owed = c.first_owed;
         order = c.order;
+        numbered = c.numbered;
+        answers = c.answers;
         answering = c.answering;
         closed = c.closed;
       }
@@ -202,6 +263,8 @@ module _ (z : Bool) (g : Given) (given taken : List Mark) (c : IsCounted z g giv
         owed = (let e = c.owed in omega (arith, e, a, m));
         first_owed = c.first_owed;
         order = c.order;
+        numbered = c.numbered;
+        answers = c.answers;
         answering = λ e. (let o = c.answering e in omega (arith, o));
         closed = c.closed;
       }
@@ -214,5 +277,5 @@ module _ (z : Bool) (g : Given) (given taken : List Mark) (c : IsCounted z g giv
 -- ---- nothing yet
 
 pub counted-new : (z : Bool) → IsCounted z (new_given z) [] []
-counted-new true = record { asked = refl; first_asked = refl; owed = refl; first_owed = refl; order = tt; answering = λ e. cc; closed = λ _. refl }
-counted-new false = record { asked = refl; first_asked = refl; owed = refl; first_owed = refl; order = tt; answering = λ e. cc; closed = λ _. refl }
+counted-new true = record { asked = refl; first_asked = refl; owed = refl; first_owed = refl; order = tt; numbered = tt; answers = refl; answering = λ e. cc; closed = λ _. refl }
+counted-new false = record { asked = refl; first_asked = refl; owed = refl; first_owed = refl; order = tt; numbered = tt; answers = refl; answering = λ e. cc; closed = λ _. refl }

@@ -1,6 +1,5 @@
 -- The frame that is cut: lawful over the life's history, with the next unsent marks, and what is left stands.
-use Rattle.std.proofs.Common.{◌≡◌, ℕ, zero, suc, ◌+◌, ◌-◌, ◌%◌, ◌^◌, ◌<◌, ◌≤◌, ◌==◌, min, nat_lt, Bool, true, false, cond, not, ◌&&◌, ◌||◌, if◌then◌else◌, List, [], ◌∷◌, ◌++◌, length, take, drop, map, refl, sym, ap, ◌∙◌, arith, subst, None, Some, Option, append_assoc}
-use Rattle.std.specs.Prelude.{is_some}
+use Rattle.std.proofs.Common.{◌≡◌, ℕ, ◌+◌, ◌%◌, ◌^◌, ◌≤◌, ◌==◌, nat_lt, Bool, true, false, not, ◌&&◌, if◌then◌else◌, List, [], ◌∷◌, ◌++◌, length, take, map, refl, sym, ap, ◌∙◌, arith, subst, None, Some, Option, append_assoc}
 use Rattle.std.specs.Option.{option_map_or}
 use Rattle.std.proofs.lemmas.Bool.Decides.{nat_tests}
 use Rattle.beep_frame.specs.declared.head.Head.{Head}
@@ -10,19 +9,18 @@ use Rattle.beep_frame.specs.declared.tag.Tag.{Tag}
 use Rattle.beep_history.specs.declared.journal.Side.{Side}
 use Rattle.beep_frame.specs.Frame.{head_of, is_msg, is_reply}
 use Rattle.beep_history.specs.Journal.{Item, began, passed}
-use Rattle.beep_history.specs.Marks.{requests, passed_octets, begins_request, tag_of, frame_marks, marks, carries, Mark, mark_modulo_2_64}
-use Rattle.beep_history.specs.Broken.{broken_rule, exchange_rule, first_of, octet_rules, with_octets, breaks_sequence, breaks_long as long_over, breaks_window, is_limit}
+use Rattle.beep_history.specs.Marks.{requests, passed_octets, tag_of, frame_marks, marks, carries, Mark, mark_modulo_2_64}
+use Rattle.beep_history.specs.Broken.{broken_rule, exchange_rule, first_of, octet_rules, breaks_sequence, breaks_long as long_over, breaks_window, is_limit}
 use Rattle.beep_history.specs.Windows.{departures, open_now, window_edge}
 use Rattle.beep_history.proofs.RulesLemmas.{octets-between, shape-kept}
 use Rattle.beep_history.proofs.WindowsLemmas.{departures-passed}
 use Rattle.beep_exchange.specs.Stands.{Life, Stands as ExchangeStands}
-use Rattle.beep_exchange.specs.Kept.{Kept, breaks_long, began_kept, replied_kept}
+use Rattle.beep_exchange.specs.Kept.{breaks_long, began_kept, replied_kept}
 use Rattle.beep_exchange.proofs.TagLemmas.{long-sent}
 use Rattle.beep_seq.specs.Wire.{wire_number}
 use Rattle.beep_seq.specs.Sending.{Departures, Sender, Stands as SendStands}
-use Rattle.beep_inbox.specs.Runs.{marks_of as untaken_marks}
-use Rattle.beep_outbox.specs.Queue.{Message, marks_of, first_octets}
-use Rattle.beep_channel.specs.Fits.{Fits, IsCut, IsSmall, next_number, was_more, left_of, mine_after, theirs_after, count_after, run_end}
+use Rattle.beep_outbox.specs.Queue.{Message, marks_of}
+use Rattle.beep_channel.specs.Fits.{Fits, IsCut, IsSmall, next_number, was_more, left_of, count_after, run_end}
 use Rattle.beep_channel.specs.Sums.{Sums, IsTagged, ended_of, is_partly}
 use Rattle.beep_channel.specs.Held.{Held}
 use Rattle.beep_channel.specs.Stands.{HeldStands, Stands, IsNext, HasImplied, first_own, first_reply}
@@ -31,7 +29,7 @@ use Rattle.beep_channel.proofs.PassLemmas.{cut-sums}
 use Rattle.beep_channel.proofs.SmallLemmas.{small-fine, cut-small, replied-before, replied-under}
 use Rattle.beep_channel.proofs.OpenLemmas.{end-cut, implied-began, implied-passed, implied-same, carried}
 use Rattle.beep_channel.proofs.PassedLemmas.{map-append, no-more}
-use Rattle.beep_channel.proofs.SendLemmas.{head, payload, new-life, head-unbroken, sized, frame-stands, queue-fits, counted-on, tag-told, own-first, begins-or-on, own-next, marks-next, tagged-next, reply-step, number-of-new}
+use Rattle.beep_channel.proofs.SendLemmas.{head, new-life, head-unbroken, sized, frame-stands, queue-fits, counted-on, tag-told, begins-or-on, marks-next, tagged-next, reply-step, number-of-new}
 
 module _ (size : ℕ) (c : Held) (past : List Item) (s : HeldStands size c past) (n ansno place : ℕ) (octets : List ℕ) (ms : List Message) (k : Kind)
     (is : c.queue ≡ record { tag = record { kind = k; request = place; ansno = ansno }; octets = octets } ∷ ms)
@@ -163,6 +161,9 @@ module _ (size : ℕ) (c : Held) (past : List Item) (s : HeldStands size c past)
     own_implied = λ z. subst (λ (x : ℕ). HasImplied x the-life.sent) counted
         (implied-passed (count_after count c.life.sent the-head) (began_kept c.life.sent the-head) the-head refl (implied-began count c.life.sent the-head (s.own_implied z)));
     their_implied = λ z. implied-same (length (requests Side.Received past)) c.life.received the-life.received (theirs-parts (is_reply k)).1 (theirs-parts (is_reply k)).0 (s.their_implied z);
+    few = s.few;
+    full = λ h e. s.full h (sym (theirs-parts (is_reply k)).1 ∙ e);
+    ends = s.ends;
   }
 
   -- ---- marks

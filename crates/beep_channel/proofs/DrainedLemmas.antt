@@ -1,13 +1,11 @@
 -- A life is drained, by its history and by what was given and taken, exactly where what is held says so.
-use Rattle.std.proofs.Common.{◌≡◌, ℕ, zero, suc, ◌+◌, ◌-◌, ◌<◌, ◌≤◌, ◌==◌, nat_lt, Bool, true, false, not, ◌&&◌, ◌||◌, if◌then◌else◌, List, [], ◌∷◌, ◌++◌, length, map, Option, Some, None, refl, sym, ap, ◌∙◌, arith, subst}
-use Rattle.std.specs.Option.{option_map_or}
-use Rattle.std.proofs.lemmas.List.{length-append, length-map}
+use Rattle.std.proofs.Common.{◌≡◌, ℕ, ◌<◌, ◌==◌, nat_lt, Bool, true, false, not, ◌&&◌, ◌||◌, if◌then◌else◌, List, [], ◌∷◌, ◌++◌, length, map, Option, Some, None, refl, sym, ap, ◌∙◌, arith}
+use Rattle.std.proofs.lemmas.List.{length-append}
 use Rattle.beep_frame.specs.declared.head.Head.{Head}
-use Rattle.beep_frame.specs.declared.tag.Tag.{Tag}
-use Rattle.beep_frame.specs.Frame.{is_msg, is_reply}
+use Rattle.beep_frame.specs.Frame.{is_msg}
 use Rattle.beep_history.specs.declared.journal.Side.{Side}
 use Rattle.beep_history.specs.Journal.{Item}
-use Rattle.beep_history.specs.Marks.{Mark, octet, end, marks, mark_modulo_2_64, requests, waiting, Request}
+use Rattle.beep_history.specs.Marks.{Mark, octet, end, marks, mark_modulo_2_64, waiting, Request}
 use Rattle.beep_history.specs.Broken.{under_way}
 use Rattle.beep_history.proofs.PassedLemmas.{sound}
 use Rattle.beep_exchange.specs.Given.{ends_reply}
@@ -16,7 +14,7 @@ use Rattle.beep_exchange.proofs.AskerLemmas.{count-waiting}
 use Rattle.beep_inbox.specs.Runs.{Run, AllMarked, has_mark, marks_of as untaken_marks}
 use Rattle.beep_outbox.specs.Queue.{Message, marks_of as unsent_marks}
 use Rattle.beep_channel.specs.Fits.{replies, asks, as_number}
-use Rattle.beep_channel.specs.Sums.{ended_of, is_partly, new_asks}
+use Rattle.beep_channel.specs.Sums.{ended_of}
 use Rattle.beep_channel.specs.Held.{Held, is_held_drained}
 use Rattle.beep_channel.specs.Stands.{HeldStands, Stands}
 use Rattle.beep_channel.specs.Drained.{IsDrained}

@@ -1,12 +1,12 @@
 -- The queue fits: its next frame breaks no rule, and after it the queue fits again.
-use Rattle.std.proofs.Common.{◌≡◌, ℕ, zero, suc, ◌+◌, ◌-◌, ◌%◌, ◌^◌, ◌<◌, ◌≤◌, ◌==◌, min, nat_lt, nat_le, Bool, true, false, cond, not, ◌&&◌, ◌||◌, if◌then◌else◌, List, [], ◌∷◌, ◌++◌, length, take, drop, Option, Some, None, refl, sym, ap, ◌∙◌, arith, subst, ◌⊎◌, inl, inr, ⊎_elim}
+use Rattle.std.proofs.Common.{◌≡◌, ℕ, ◌+◌, ◌%◌, ◌^◌, ◌<◌, ◌≤◌, ◌==◌, nat_lt, Bool, true, false, not, ◌&&◌, if◌then◌else◌, List, [], ◌∷◌, length, Option, Some, None, refl, sym, ap, ◌∙◌, arith, subst, ⊎_elim}
 use Rattle.std.specs.Option.{option_map_or}
 use Rattle.std.proofs.lemmas.Bool.Decides.{nat_tests}
 use Rattle.beep_frame.specs.declared.head.Head.{Head}
 use Rattle.beep_frame.specs.declared.kind.Kind.{Kind}
 use Rattle.beep_history.specs.declared.limits.TheConstants.{MAX_REQUESTS}
 use Rattle.beep_frame.specs.Frame.{head_of, is_msg, is_ans, is_nul, is_reply}
-use Rattle.beep_exchange.specs.Kept.{Kept, begins, judged, continued, completed}
+use Rattle.beep_exchange.specs.Kept.{Kept, begins, judged}
 use Rattle.beep_outbox.specs.Queue.{Message}
 use Rattle.beep_channel.specs.Fits.{asks, replies, so_far_after, IsRun, current, was_more, OneAnswer, IsWhole, IsBegun, Fits, next_number, IsCut, mine_after, theirs_after, left_of, count_after, is_shaped}
 use Rattle.beep_channel.proofs.JudgedLemmas.{on-begins}

@@ -1,17 +1,14 @@
 -- A channel in which nothing happened stands for no history, and that of channel zero for the one with which it begins.
-use Rattle.std.proofs.Common.{◌≡◌, ℕ, ◌+◌, ◌-◌, ◌≤◌, ◌<◌, ◌==◌, Bool, true, false, if◌then◌else◌, List, [], ◌∷◌, length, refl, sym, ap, ◌∙◌, arith, subst, Option, None, Some, inl}
+use Rattle.std.proofs.Common.{◌≡◌, ℕ, ◌≤◌, ◌==◌, Bool, true, false, if◌then◌else◌, List, [], refl, sym, ap, ◌∙◌, arith, None, Some, inl}
 use Rattle.std.proofs.lemmas.Bool.{both_ways}
 use Rattle.beep_frame.specs.declared.head.Head.{Head}
-use Rattle.beep_history.specs.declared.journal.Side.{Side}
-use Rattle.beep_history.specs.Journal.{Item, opening}
+use Rattle.beep_history.specs.Journal.{opening}
 use Rattle.beep_exchange.specs.Stands.{Life, Stands as ExchangeStands}
 use Rattle.beep_exchange.specs.Kept.{Kept}
 use Rattle.beep_exchange.specs.Given.{new_given}
-use Rattle.beep_exchange.specs.declared.given.Given.{Given}
 use Rattle.beep_seq.specs.Sending.{Sender, no_departures, Stands as SendStands}
 use Rattle.beep_seq.specs.Receiving.{Receiver, no_arrivals, Stands as RecvStands}
 use Rattle.beep_outbox.specs.Queue.{Message}
-use Rattle.beep_channel.specs.Fits.{Fits, IsWhole}
 use Rattle.beep_channel.specs.Held.{Held}
 use Rattle.beep_channel.proofs.CountedLemmas.{counted-new}
 use Rattle.beep_channel.specs.Stands.{HeldStands, Stands}
@@ -65,6 +62,9 @@ fresh-held number size life sends receives z s g t r = record {
   answering = rw g (λ e. cc);
   own_implied = λ e. absurd (both_ways _ z e);
   their_implied = λ e. absurd (both_ways _ z e);
+  few = rw g (let h : 0 ≤ 1024 = omega arith in h);
+  full = λ h e. idle-none h (sym (ap (λ (k : Kept). k.under_way) s.received) ∙ e);
+  ends = rw s.sent (let h : 0 ≤ 64 = omega arith in h);
 }
 
 pub opening-held : (number size : ℕ) (life : Life) (sends : Sender) (receives : Receiver)
@@ -109,6 +109,9 @@ opening-held number size life sends receives s g t r = record {
   answering = rw g (λ e. cc);
   own_implied = λ _. record { begun = omega arith; whole = rw s.sent (λ e. cc) };
   their_implied = λ _. record { begun = omega arith; whole = rw s.received (λ e. cc) };
+  few = rw g (let h : 1 ≤ 1024 = omega arith in h);
+  full = λ h e. idle-none h (sym (ap (λ (k : Kept). k.under_way) s.received) ∙ e);
+  ends = rw s.sent (let h : 0 ≤ 64 = omega arith in h);
 }
 
 pub new-stands : (number size : ℕ) (life : Life) (sends : Sender) (receives : Receiver)

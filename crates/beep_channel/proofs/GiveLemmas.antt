@@ -1,20 +1,19 @@
 -- A message that is given after the others fits, and so does a header that is received.
-use Rattle.std.proofs.Common.{◌≡◌, ℕ, zero, suc, ◌+◌, ◌-◌, ◌%◌, ◌^◌, ◌<◌, ◌≤◌, ◌==◌, min, nat_lt, nat_le, Bool, true, false, cond, not, ◌&&◌, ◌||◌, if◌then◌else◌, List, [], ◌∷◌, ◌++◌, length, take, drop, Option, Some, None, refl, sym, ap, ◌∙◌, arith, subst, ◌⊎◌, inl, inr, ⊎_elim}
-use Rattle.std.specs.Prelude.{is_some, slice_index, get_or}
+use Rattle.std.proofs.Common.{◌≡◌, ℕ, zero, suc, ◌+◌, ◌-◌, ◌<◌, ◌≤◌, ◌==◌, min, Bool, true, false, not, ◌&&◌, ◌||◌, if◌then◌else◌, List, [], ◌∷◌, ◌++◌, length, take, Option, Some, None, refl, sym, ap, ◌∙◌, arith, subst, inl, inr, ⊎_elim}
+use Rattle.std.specs.Prelude.{is_some, slice_index}
 use Rattle.std.specs.Option.{option_map_or}
-use Rattle.std.proofs.lemmas.Bool.Decides.{nat_tests}
 use Rattle.std.proofs.lemmas.List.{length-take, get_or-take}
 use Rattle.beep_frame.specs.declared.head.Head.{Head}
 use Rattle.beep_frame.specs.declared.kind.Kind.{Kind}
 use Rattle.beep_history.specs.declared.limits.TheConstants.{MAX_REQUESTS}
-use Rattle.beep_frame.specs.Frame.{is_msg, is_ans, is_nul, is_reply}
+use Rattle.beep_frame.specs.Frame.{is_msg, is_reply}
 use Rattle.beep_history.specs.Marks.{goes_on}
 use Rattle.beep_history.proofs.SoundLemmas.{IsApartFirst}
 use Rattle.beep_exchange.specs.Kept.{Kept, begins, is_open, began_kept}
 use Rattle.beep_channel.proofs.NextLemmas.{reply-owes}
 use Rattle.beep_outbox.specs.Queue.{Message}
 use Rattle.beep_channel.specs.Sums.{new_asks}
-use Rattle.beep_channel.specs.Fits.{replies, asks, may_follow, so_far_after, is_shaped, IsRun, IsBehind, current, was_more, OneAnswer, IsWhole, IsBegun, as_number, Fits}
+use Rattle.beep_channel.specs.Fits.{replies, asks, may_follow, so_far_after, is_shaped, IsRun, was_more, IsBegun, as_number, Fits}
 use Rattle.beep_exchange.specs.Given.{ends_reply}
 
 -- what the reply under way has once all of these are sent

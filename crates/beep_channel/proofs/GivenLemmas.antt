@@ -1,14 +1,12 @@
 -- A message that is given leaves the channel standing for the same history, with its marks given more.
-use Rattle.std.proofs.Common.{◌≡◌, ℕ, zero, suc, ◌+◌, ◌-◌, ◌%◌, ◌^◌, ◌<◌, ◌≤◌, ◌==◌, nat_lt, nat_le, Bool, true, false, cond, not, ◌&&◌, ◌||◌, if◌then◌else◌, List, [], ◌∷◌, ◌++◌, length, map, Option, Some, None, refl, sym, ap, ◌∙◌, arith, subst, append_assoc}
+use Rattle.std.proofs.Common.{◌≡◌, ℕ, ◌+◌, ◌-◌, ◌%◌, ◌^◌, ◌<◌, ◌≤◌, ◌==◌, nat_lt, Bool, true, false, if◌then◌else◌, List, [], ◌∷◌, ◌++◌, length, map, Option, Some, None, refl, sym, ap, ◌∙◌, arith, subst, append_assoc}
 use Rattle.std.specs.Prelude.{is_some}
 use Rattle.std.specs.Option.{option_map_or}
-use Rattle.std.proofs.lemmas.Bool.{both_ways}
 use Rattle.std.proofs.lemmas.Bool.Decides.{nat_tests}
 use Rattle.beep_frame.specs.declared.kind.Kind.{Kind}
-use Rattle.beep_frame.specs.declared.tag.Tag.{Tag}
 use Rattle.beep_history.specs.declared.journal.Side.{Side}
 use Rattle.beep_history.specs.declared.limits.TheConstants.{MAX_MESSAGE, MAX_REQUESTS}
-use Rattle.beep_frame.specs.Frame.{is_msg, is_ans, is_reply}
+use Rattle.beep_frame.specs.Frame.{is_msg, is_reply}
 use Rattle.beep_history.specs.Journal.{Item}
 use Rattle.beep_history.specs.Marks.{requests, waiting, marks, Mark, mark_modulo_2_64, modulo_2_64}
 use Rattle.beep_history.proofs.PassedLemmas.{sound}
@@ -18,10 +16,10 @@ use Rattle.beep_exchange.specs.Kept.{Kept}
 use Rattle.beep_exchange.proofs.AskerLemmas.{count-waiting}
 use Rattle.beep_outbox.specs.declared.give_error.GiveError.{GiveError}
 use Rattle.beep_outbox.specs.Queue.{Message, message_marks, marks_of, octets_of}
-use Rattle.beep_channel.specs.Fits.{Fits, asks, replies, as_number, may_follow, so_far_after, run_end, is_shaped}
-use Rattle.beep_channel.specs.Sums.{Sums, IsTagged, tag_at, ended_of, is_partly, new_asks}
+use Rattle.beep_channel.specs.Fits.{asks, replies, as_number, may_follow, so_far_after, run_end, is_shaped}
+use Rattle.beep_channel.specs.Sums.{Sums, IsTagged, tag_at, ended_of, is_partly}
 use Rattle.beep_channel.specs.Held.{Held, limit_of, next_ask, next_reply, ansno_of, IsReply, reply_refusal}
-use Rattle.beep_channel.specs.Stands.{HeldStands, Stands, StandsGiven, IsCounted, first_own, first_reply}
+use Rattle.beep_channel.specs.Stands.{HeldStands, Stands, IsCounted, first_own, first_reply}
 use Rattle.beep_channel.proofs.GiveLemmas.{give-fits}
 use Rattle.beep_channel.proofs.PassLemmas.{ask-sums, reply-given, answer-given}
 use Rattle.beep_channel.proofs.SmallLemmas.{give-small}
@@ -131,8 +129,9 @@ module _ (size : ℕ) (c : Held) (past : List Item) (s : HeldStands size c past)
       → reply_refusal c (length m.octets) ≡ None
       → so_far_after (if is_some c.life.given.answers then Some Kind.Ans else None) m.tag.kind ≡ (if is_some given.answers then Some Kind.Ans else None)
       → (is_some given.answers ≡ true → 0 < given.owed)
+      → given.asked ≤ MAX_REQUESTS
       → HeldStands size (with-message given) past
-  give-held given owed owed-is sums shaped follow still sum few tag fine answers answering = record {
+  give-held given owed owed-is sums shaped follow still sum few tag fine answers answering most = record {
     exchange = record { unbroken = s.exchange.unbroken; received = s.exchange.received; sent = s.exchange.sent };
     seqno = s.seqno;
     sends = s.sends;
@@ -153,6 +152,9 @@ module _ (size : ℕ) (c : Held) (past : List Item) (s : HeldStands size c past)
     answering = answering;
     own_implied = s.own_implied;
     their_implied = s.their_implied;
+    few = most;
+    full = s.full;
+    ends = s.ends;
   }
 
 pub give-marks : (size : ℕ) (c : Held) (past : List Item) (given taken : List Mark) (m : Message) (held : Held)
@@ -177,7 +179,7 @@ module _ (size : ℕ) (c : Held) (past : List Item) (s : HeldStands size c past)
       (ask-sums c.life.given c.queue c.inbox c.life.sent c.life.received _ _ (next_asked_now c.life.given) octets s.sums)
       refl (λ r. cc) (λ e. s.answering (some-back (is_some c.life.given.answers) e)) (omega arith) (λ _. few)
       (tag-is size c past s (next_ask c octets) (s.sums.taken_replies + c.life.given.asked) (let f = s.sums.first_asked in omega (arith, f)) refl)
-      fine refl s.answering
+      fine refl s.answering (omega (arith, few))
     where
       some-back : (b : Bool) → is_some (if b then Some Kind.Ans else None) ≡ true → b ≡ true
       some-back true e = refl
@@ -190,19 +192,19 @@ module _ (size : ℕ) (c : Held) (past : List Item) (s : HeldStands size c past)
   reply-by Kind.Rpy owed r follow shaped fine = give-held size c past s (next_reply c Kind.Rpy octets) (after_given c.life.given Kind.Rpy) (c.life.given.owed - 1) refl
       (reply-given c.life.given c.queue c.inbox c.life.sent c.life.received _ _ c.life.given.first_owed Kind.Rpy octets s.sums refl owed)
       shaped (λ _. follow) (λ e. cc) (omega (arith, owed)) (λ e. cc)
-      (tag-is size c past s (next_reply c Kind.Rpy octets) s.sums.given_replies s.sums.first_owed refl) fine refl (λ e. cc)
+      (tag-is size c past s (next_reply c Kind.Rpy octets) s.sums.given_replies s.sums.first_owed refl) fine refl (λ e. cc) s.few
   reply-by Kind.Err owed r follow shaped fine = give-held size c past s (next_reply c Kind.Err octets) (after_given c.life.given Kind.Err) (c.life.given.owed - 1) refl
       (reply-given c.life.given c.queue c.inbox c.life.sent c.life.received _ _ c.life.given.first_owed Kind.Err octets s.sums refl owed)
       shaped (λ _. follow) (λ e. cc) (omega (arith, owed)) (λ e. cc)
-      (tag-is size c past s (next_reply c Kind.Err octets) s.sums.given_replies s.sums.first_owed refl) fine refl (λ e. cc)
+      (tag-is size c past s (next_reply c Kind.Err octets) s.sums.given_replies s.sums.first_owed refl) fine refl (λ e. cc) s.few
   reply-by Kind.Ans owed r follow shaped fine = give-held size c past s (next_reply c Kind.Ans octets) (after_given c.life.given Kind.Ans) c.life.given.owed refl
       (answer-given c.life.given c.queue c.inbox c.life.sent c.life.received _ _ (ansno_of c Kind.Ans) c.life.given.first_owed octets _ s.sums)
       shaped (λ _. follow) (λ _. owed) (omega arith) (λ e. cc)
-      (tag-is size c past s (next_reply c Kind.Ans octets) s.sums.given_replies s.sums.first_owed refl) fine refl (λ _. owed)
+      (tag-is size c past s (next_reply c Kind.Ans octets) s.sums.given_replies s.sums.first_owed refl) fine refl (λ _. owed) s.few
   reply-by Kind.Nul owed r follow shaped fine = give-held size c past s (next_reply c Kind.Nul octets) (after_given c.life.given Kind.Nul) (c.life.given.owed - 1) refl
       (reply-given c.life.given c.queue c.inbox c.life.sent c.life.received _ _ c.life.given.first_owed Kind.Nul octets s.sums refl owed)
       shaped (λ _. follow) (λ e. cc) (omega (arith, owed)) (λ e. cc)
-      (tag-is size c past s (next_reply c Kind.Nul octets) s.sums.given_replies s.sums.first_owed refl) fine refl (λ e. cc)
+      (tag-is size c past s (next_reply c Kind.Nul octets) s.sums.given_replies s.sums.first_owed refl) fine refl (λ e. cc) s.few
 
   pub reply-held : (k : Kind) → IsReply c k octets → reply_refusal c (length octets) ≡ None
       → HeldStands size (with-message size c past s (next_reply c k octets) (after_given c.life.given k)) past

@@ -1,20 +1,20 @@
 -- What is judged by what is held is the first rule that is broken over the history, and where none is, a header has its room.
-use Rattle.std.proofs.Common.{◌≡◌, ℕ, ◌+◌, ◌≤◌, ◌==◌, nat_lt, nat_le, Bool, true, false, not, if◌then◌else◌, List, [], ◌∷◌, Option, Some, None, refl, sym, ap, ◌∙◌, arith, subst}
+use Rattle.std.proofs.Common.{◌≡◌, ℕ, ◌+◌, ◌≤◌, ◌==◌, nat_lt, nat_le, Bool, true, false, not, if◌then◌else◌, List, Option, Some, None, refl, sym, ap, ◌∙◌, arith}
 use Rattle.std.specs.Option.{option_map_or}
 use Rattle.std.proofs.lemmas.Bool.Decides.{nat_tests}
 use Rattle.beep_frame.specs.declared.head.Head.{Head}
 use Rattle.beep_frame.specs.declared.rule.Rule.{Rule}
 use Rattle.beep_history.specs.declared.journal.Side.{Side}
 use Rattle.beep_history.specs.Journal.{Item}
-use Rattle.beep_history.specs.Marks.{Mark, passed_octets}
-use Rattle.beep_history.specs.Broken.{broken_rule, exchange_rule, first_of, octet_rules, with_octets, is_limit, breaks_long as long_over}
+use Rattle.beep_history.specs.Marks.{passed_octets}
+use Rattle.beep_history.specs.Broken.{broken_rule, exchange_rule, first_of, octet_rules, with_octets, is_limit}
 use Rattle.beep_history.specs.Windows.{window_edge, greatest_edge}
 use Rattle.beep_history.proofs.RulesLemmas.{octets-between, shape-kept}
 use Rattle.beep_exchange.specs.Kept.{judged, breaks_long}
 use Rattle.beep_exchange.proofs.StandsLemmas.{judged-received}
 use Rattle.beep_exchange.proofs.TagLemmas.{long-received}
 use Rattle.beep_channel.specs.Held.{Held, held_judged, octets_judged}
-use Rattle.beep_channel.specs.Stands.{HeldStands, Stands}
+use Rattle.beep_channel.specs.Stands.{HeldStands}
 
 module _ (c : Held) (head : Head) (size : ℕ) (past : List Item) (s : HeldStands size c past) where
   octets-same : option_map_or is_limit (exchange_rule Side.Received past head) true ≡ true

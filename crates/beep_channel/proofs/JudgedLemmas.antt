@@ -1,24 +1,19 @@
 -- The next frame of the queue breaks no rule of the exchange.
-use Rattle.std.proofs.Common.{◌≡◌, ℕ, zero, suc, ◌+◌, ◌-◌, ◌%◌, ◌^◌, ◌<◌, ◌≤◌, ◌==◌, nat_lt, nat_le, Bool, true, false, cond, not, ◌&&◌, ◌||◌, if◌then◌else◌, List, [], ◌∷◌, ◌++◌, length, take, drop, Option, Some, None, refl, sym, ap, ◌∙◌, arith, subst, ◌⊎◌, inl, inr}
-use Rattle.std.specs.Prelude.{is_some, slice_index}
-use Rattle.std.specs.List.{list_any}
+use Rattle.std.proofs.Common.{◌≡◌, ℕ, zero, suc, ◌+◌, ◌-◌, ◌%◌, ◌^◌, ◌<◌, ◌≤◌, ◌==◌, nat_le, Bool, true, false, not, ◌&&◌, ◌||◌, if◌then◌else◌, List, [], ◌∷◌, length, take, Option, Some, None, refl, sym, arith, subst}
+use Rattle.std.specs.Prelude.{slice_index}
 use Rattle.std.specs.Option.{option_map_or}
-use Rattle.std.proofs.lemmas.Bool.{false_from_ne_true, cases_Bool, and_right, le-ltb, lt-ltb, eq-eqb, leb-false}
+use Rattle.std.proofs.lemmas.Bool.{false_from_ne_true, lt-ltb}
 use Rattle.std.proofs.lemmas.Bool.Decides.{nat_tests}
 use Rattle.beep_frame.specs.declared.head.Head.{Head}
 use Rattle.beep_frame.specs.declared.kind.Kind.{Kind}
 use Rattle.beep_frame.specs.declared.rule.Rule.{Rule}
-use Rattle.beep_history.specs.declared.limits.TheConstants.{MAX_REQUESTS, MAX_ANSWERS}
+use Rattle.beep_history.specs.declared.limits.TheConstants.{MAX_ANSWERS}
 use Rattle.beep_frame.specs.Frame.{head_of, is_msg, is_ans, is_nul, is_reply, same_kind}
 use Rattle.beep_history.specs.Marks.{first, goes_on}
-use Rattle.beep_history.specs.Broken.{breaks_nul_shape, first_of}
 use Rattle.beep_history.proofs.SoundLemmas.{IsApartFirst}
 use Rattle.beep_history.proofs.AnswersLemmas.{has}
-use Rattle.beep_exchange.specs.declared.answer.Answer.{Answer}
-use Rattle.beep_exchange.specs.Kept.{Kept, begins, is_open, has_number, is_current, is_early, octets_in, has_answer, judged, shape_tests, limit_tests, breaks_not_continued, goes_on_request, changes_message, changes_reply, breaks_kind_changed, breaks_number_in_use, breaks_never_asked, breaks_early_reply, breaks_already_answered, breaks_out_of_turn, breaks_nul_not_after_ans, breaks_nul_too_soon, breaks_empty_answer, breaks_too_many_requests, breaks_too_many_answers}
-use Rattle.beep_outbox.specs.Queue.{Message}
-use Rattle.beep_channel.specs.Fits.{replies, asks, may_follow, so_far_after, is_shaped, IsRun, IsBehind, current, was_more, OneAnswer, IsWhole, IsBegun, as_number, Fits}
-use Rattle.beep_exchange.specs.Given.{ends_reply}
+use Rattle.beep_exchange.specs.Kept.{Kept, begins, is_open, has_number, is_current, is_early, has_answer, judged, breaks_not_continued, goes_on_request, changes_message, changes_reply, breaks_number_in_use, breaks_too_many_requests}
+use Rattle.beep_channel.specs.Fits.{IsBehind, current, was_more, as_number}
 
 -- ---- the frame before
 

@@ -10,6 +10,7 @@ pub mod PassLemmas
 pub mod SendLemmas
 pub mod SmallLemmas
 pub mod OpenLemmas
+pub mod EndsLemmas
 pub mod ArriveLemmas
 pub mod PassedLemmas
 pub mod TakeLemmas
@@ -18,4 +19,6 @@ pub mod JudgeLemmas
 pub mod GivenLemmas
 pub mod FreshLemmas
 pub mod CallLemmas
+pub mod BoundedLemmas
 pub mod DrainedLemmas
+pub mod ReadyLemmas

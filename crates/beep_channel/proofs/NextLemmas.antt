@@ -1,24 +1,20 @@
 -- The next frame of the queue breaks no rule of the exchange, and what is left still fits.
-use Rattle.std.proofs.Common.{◌≡◌, ℕ, zero, suc, ◌+◌, ◌-◌, ◌%◌, ◌^◌, ◌<◌, ◌≤◌, ◌==◌, nat_lt, nat_le, Bool, true, false, cond, not, ◌&&◌, ◌||◌, if◌then◌else◌, List, [], ◌∷◌, ◌++◌, length, take, drop, Option, Some, None, refl, sym, ap, ◌∙◌, arith, subst, ◌⊎◌, inl, inr, ⊎_elim}
-use Rattle.std.specs.Prelude.{is_some, slice_index}
-use Rattle.std.specs.List.{list_any}
+use Rattle.std.proofs.Common.{◌≡◌, ℕ, ◌+◌, ◌%◌, ◌^◌, ◌<◌, ◌≤◌, ◌==◌, nat_lt, nat_le, Bool, true, false, not, ◌&&◌, if◌then◌else◌, List, [], ◌∷◌, length, take, Option, Some, None, refl, arith}
+use Rattle.std.specs.Prelude.{is_some}
 use Rattle.std.specs.Option.{option_map_or}
-use Rattle.std.proofs.lemmas.Bool.{false_from_ne_true, cases_Bool, and_right, le-ltb, lt-ltb, eq-eqb, leb-false}
+use Rattle.std.proofs.lemmas.Bool.{and_right}
 use Rattle.std.proofs.lemmas.Bool.Decides.{nat_tests}
 use Rattle.std.proofs.lemmas.List.{length-take}
 use Rattle.beep_frame.specs.declared.head.Head.{Head}
 use Rattle.beep_frame.specs.declared.kind.Kind.{Kind}
-use Rattle.beep_frame.specs.declared.rule.Rule.{Rule}
-use Rattle.beep_history.specs.declared.limits.TheConstants.{MAX_REQUESTS, MAX_ANSWERS}
+use Rattle.beep_history.specs.declared.limits.TheConstants.{MAX_REQUESTS}
 use Rattle.beep_frame.specs.Frame.{head_of, is_msg, is_ans, is_nul, is_reply, same_kind}
-use Rattle.beep_history.specs.Marks.{first, goes_on}
 use Rattle.beep_history.proofs.SoundLemmas.{IsApartFirst}
-use Rattle.beep_exchange.specs.declared.answer.Answer.{Answer}
-use Rattle.beep_exchange.specs.Kept.{Kept, begins, is_open, has_number, is_current, is_early, octets_in, has_answer, judged, breaks_not_continued, goes_on_request, changes_message, changes_reply, breaks_number_in_use, breaks_too_many_requests}
+use Rattle.beep_exchange.specs.Kept.{Kept, begins, is_open, has_number, is_current, judged}
 use Rattle.beep_outbox.specs.Queue.{Message}
-use Rattle.beep_channel.specs.Fits.{replies, asks, may_follow, so_far_after, is_shaped, IsRun, IsBehind, current, was_more, OneAnswer, IsWhole, IsBegun, as_number, Fits, next_number, IsCut}
+use Rattle.beep_channel.specs.Fits.{replies, asks, may_follow, so_far_after, IsRun, IsBehind, current, was_more, OneAnswer, IsWhole, as_number, next_number, IsCut}
 use Rattle.beep_exchange.specs.Given.{ends_reply}
-use Rattle.beep_channel.proofs.JudgedLemmas.{whole-continued, whole-message, whole-request, on-continued, on-message, on-begins, same-number, same-kind, behind-none, behind-take, current-yes, current-whole, judged-msg, judged-reply, judged-ans, judged-nul}
+use Rattle.beep_channel.proofs.JudgedLemmas.{whole-continued, whole-message, whole-request, on-continued, on-message, on-begins, same-number, behind-none, behind-take, current-yes, current-whole, judged-msg, judged-reply, judged-ans, judged-nul}
 
 -- a reply under way has its end after, or is owed
 pub run-owes : (owed : ℕ) (so_far : Option Kind) (ms : List Message) → IsRun owed so_far ms → is_some so_far ≡ true → 0 < replies ms + owed

@@ -1,20 +1,17 @@
 -- What the reply under way has once all that is unsent is sent, and the request that a greeting answers, step by step.
-use Rattle.std.proofs.Common.{◌≡◌, ℕ, zero, suc, ◌+◌, ◌-◌, ◌<◌, ◌≤◌, ◌==◌, nat_lt, Bool, true, false, cond, not, ◌&&◌, ◌||◌, if◌then◌else◌, List, [], ◌∷◌, ◌++◌, length, drop, Option, Some, None, refl, sym, ap, ◌∙◌, arith, subst, ◌⊎◌, inl, inr}
-use Rattle.std.specs.Prelude.{is_some}
+use Rattle.std.proofs.Common.{◌≡◌, ℕ, ◌+◌, ◌-◌, ◌<◌, ◌==◌, Bool, true, false, not, ◌&&◌, ◌||◌, if◌then◌else◌, List, [], ◌∷◌, ◌++◌, length, drop, Option, Some, None, refl, sym, ap, ◌∙◌, arith, subst, ◌⊎◌, inl, inr}
 use Rattle.std.specs.Option.{option_map_or}
-use Rattle.std.proofs.lemmas.Bool.{both_ways}
 use Rattle.std.proofs.lemmas.Bool.Decides.{nat_tests}
 use Rattle.beep_frame.specs.declared.head.Head.{Head}
 use Rattle.beep_frame.specs.declared.kind.Kind.{Kind}
-use Rattle.beep_frame.specs.Frame.{head_of, is_msg, is_ans}
+use Rattle.beep_frame.specs.Frame.{head_of, is_msg}
 use Rattle.beep_history.specs.declared.journal.Side.{Side}
 use Rattle.beep_history.specs.Journal.{Item, same_side}
-use Rattle.beep_history.specs.Marks.{goes_on, requests, carries, is_implied, position_of}
-use Rattle.beep_exchange.specs.Kept.{Kept, begins, is_open, began_kept, passed_kept, replied_kept, continued, completed}
+use Rattle.beep_history.specs.Marks.{goes_on, requests, carries, is_implied}
+use Rattle.beep_exchange.specs.Kept.{Kept, begins, began_kept, passed_kept}
 use Rattle.beep_outbox.specs.Queue.{Message}
 use Rattle.beep_channel.specs.Fits.{run_end, so_far_after, theirs_after}
 use Rattle.beep_channel.specs.Stands.{HasImplied}
-use Rattle.beep_channel.proofs.SmallLemmas.{replied-before, replied-under}
 
 -- ---- the reply under way
 

@@ -1,18 +1,15 @@
 -- The queue still fits as a received frame passes, and the sums hold as an own frame goes and as a message is given.
-use Rattle.std.proofs.Common.{◌≡◌, ℕ, zero, suc, ◌+◌, ◌-◌, ◌%◌, ◌^◌, ◌<◌, ◌≤◌, ◌==◌, min, nat_lt, nat_le, Bool, true, false, cond, not, ◌&&◌, ◌||◌, if◌then◌else◌, List, [], ◌∷◌, ◌++◌, length, take, drop, map, Option, Some, None, refl, sym, ap, ◌∙◌, arith, subst, ◌⊎◌, inl, inr, ⊎_elim}
-use Rattle.std.specs.Prelude.{is_some}
-use Rattle.std.specs.Option.{option_map_or}
-use Rattle.std.proofs.lemmas.Bool.Decides.{nat_tests}
+use Rattle.std.proofs.Common.{◌≡◌, ℕ, ◌+◌, ◌-◌, ◌<◌, ◌≤◌, nat_lt, Bool, true, false, not, ◌&&◌, if◌then◌else◌, List, [], ◌∷◌, ◌++◌, length, drop, Option, Some, None, refl, ap, ◌∙◌, arith, subst, ◌⊎◌, inl, inr, ⊎_elim}
 use Rattle.beep_frame.specs.declared.head.Head.{Head}
 use Rattle.beep_frame.specs.declared.kind.Kind.{Kind}
-use Rattle.beep_frame.specs.Frame.{is_msg, is_ans, is_nul, is_reply}
-use Rattle.beep_exchange.specs.Kept.{Kept, begins, is_open, began_kept, passed_kept, replied_kept, continued, completed}
+use Rattle.beep_frame.specs.Frame.{is_msg, is_ans, is_reply}
+use Rattle.beep_exchange.specs.Kept.{Kept, begins, is_open, passed_kept, replied_kept, continued, completed}
 use Rattle.beep_exchange.specs.declared.given.Given.{Given}
 use Rattle.beep_outbox.specs.Queue.{Message}
-use Rattle.beep_channel.specs.Fits.{replies, asks, as_number, may_follow, so_far_after, IsRun, IsWhole, IsBegun, Fits, was_more, mine_after, theirs_after, left_of, count_after}
+use Rattle.beep_channel.specs.Fits.{replies, asks, as_number, so_far_after, IsRun, Fits, mine_after, theirs_after, left_of, count_after}
 use Rattle.beep_exchange.specs.Given.{ends_reply, after_given, after_reply}
 use Rattle.beep_inbox.specs.Runs.{Run}
-use Rattle.beep_channel.specs.Sums.{ended_of, IsPlaced, IsAnswerable, is_partly, new_asks, Sums}
+use Rattle.beep_channel.specs.Sums.{ended_of, IsPlaced, is_partly, new_asks, Sums}
 use Rattle.beep_channel.proofs.SumsLemmas.{more-answerable}
 use Rattle.beep_channel.proofs.GiveLemmas.{append-replies, append-asks}
 

@@ -1,31 +1,28 @@
 -- A received frame that has arrived leaves the channel standing for the history with it.
-use Rattle.std.proofs.Common.{◌≡◌, ℕ, zero, suc, ◌+◌, ◌-◌, ◌%◌, ◌^◌, ◌<◌, ◌≤◌, ◌==◌, nat_lt, Bool, true, false, cond, not, ◌&&◌, ◌||◌, if◌then◌else◌, List, [], ◌∷◌, ◌++◌, length, map, Option, Some, None, refl, sym, ap, ◌∙◌, arith, subst, append_assoc}
-use Rattle.std.specs.Prelude.{is_some}
+use Rattle.std.proofs.Common.{◌≡◌, ℕ, ◌+◌, ◌-◌, ◌%◌, ◌^◌, ◌<◌, ◌≤◌, Bool, true, false, not, ◌&&◌, ◌||◌, if◌then◌else◌, List, [], ◌∷◌, ◌++◌, length, map, Option, Some, None, refl, sym, ap, ◌∙◌, arith, subst, append_assoc}
 use Rattle.std.specs.Option.{option_map_or, option_map}
-use Rattle.std.proofs.lemmas.Bool.Decides.{nat_tests}
 use Rattle.beep_frame.specs.declared.head.Head.{Head}
-use Rattle.beep_frame.specs.declared.kind.Kind.{Kind}
 use Rattle.beep_frame.specs.declared.tag.Tag.{Tag}
 use Rattle.beep_history.specs.declared.journal.Side.{Side}
-use Rattle.beep_frame.specs.Frame.{is_msg, is_ans, is_reply}
-use Rattle.beep_history.specs.Journal.{Item, began, passed}
-use Rattle.beep_history.specs.Marks.{requests, waiting, previous, passed_octets, tag_of, marks, frame_marks, carries, Mark, octet, end, modulo_2_64, mark_modulo_2_64}
+use Rattle.beep_frame.specs.Frame.{is_msg, is_reply}
+use Rattle.beep_history.specs.Journal.{Item, passed}
+use Rattle.beep_history.specs.Marks.{requests, previous, tag_of, marks, frame_marks, carries, Mark, octet, end, modulo_2_64, mark_modulo_2_64}
 use Rattle.beep_history.specs.Broken.{under_way}
-use Rattle.beep_history.specs.Windows.{greatest_edge}
-use Rattle.beep_history.proofs.SoundLemmas.{Sound, IsDue}
+use Rattle.beep_history.proofs.SoundLemmas.{Sound}
 use Rattle.beep_history.proofs.PassedLemmas.{sound}
 use Rattle.beep_exchange.specs.Given.{ends_reply}
-use Rattle.beep_exchange.specs.Kept.{Kept, is_open, passed_kept, replied_kept, tag_in, tag_under_way}
+use Rattle.beep_exchange.specs.Kept.{Kept, is_open, passed_kept, replied_kept, tag_in}
 use Rattle.beep_exchange.specs.Stands.{Life, Stands as ExchangeStands}
 use Rattle.beep_exchange.proofs.StandsLemmas.{passed-received}
 use Rattle.beep_exchange.proofs.AskerLemmas.{count-waiting}
 use Rattle.beep_exchange.proofs.TagLemmas.{tag-received}
-use Rattle.beep_inbox.specs.Runs.{Run, octets_of, run_marks, marks_of, put_run}
+use Rattle.beep_inbox.specs.Runs.{Run, run_marks, marks_of, put_run}
 use Rattle.beep_outbox.specs.Queue.{marks_of as unsent_marks}
-use Rattle.beep_channel.specs.Fits.{Fits, as_number, run_end}
-use Rattle.beep_channel.specs.Sums.{Sums, ended_of, arriving_run, arriving_tag, is_partly, IsTagged}
+use Rattle.beep_channel.specs.Fits.{Fits, as_number}
+use Rattle.beep_channel.specs.Sums.{Sums, filled, ended_of, arriving_run, arriving_tag, IsTagged}
 use Rattle.beep_channel.specs.Held.{Held}
-use Rattle.beep_channel.specs.Stands.{HeldStands, Stands, HasImplied, first_own, first_reply}
+use Rattle.beep_channel.specs.Stands.{HeldStands, Stands, first_reply}
+use Rattle.beep_channel.proofs.EndsLemmas.{put-few, answers-few, answers-apart, arrive-sum}
 use Rattle.beep_channel.proofs.PassLemmas.{request-fits, reply-fits}
 use Rattle.beep_channel.proofs.SmallLemmas.{small-same, replied-before, replied-octets, replied-under}
 use Rattle.beep_channel.proofs.OpenLemmas.{implied-passed, implied-same, carried}
@@ -205,6 +202,10 @@ module _ (size : ℕ) (c : Held) (past : List Item) (s : HeldStands size c past)
     own_implied = λ z. implied-same (length (requests Side.Sent past)) c.life.sent (if is_reply head.kind then replied_kept c.life.sent head else c.life.sent)
         (sent-parts (is_reply head.kind)).2 (sent-parts (is_reply head.kind)).0 (s.own_implied z);
     their_implied = λ z. implied-passed (length (requests Side.Received past)) c.life.received head begun (s.their_implied z);
+    few = s.few;
+    full = λ h e. absurd (let g : None ≡ Some h = e in cc);
+    ends = put-few (filled c.life.sent.answers) (filled arrived-life.sent.answers) run (answers-few arrived-life now noted)
+        (let a = arrive-sum c.life.sent head (answers-apart c.life past s.exchange) (s.full head begun) in omega (arith, a, sized)) c.inbox s.ends;
   }
 
   is-carried : carries Side.Received past Side.Received head ≡ true

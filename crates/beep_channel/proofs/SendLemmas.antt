@@ -1,29 +1,26 @@
 -- The frame that is cut from the queue: lawful over the life's history, the next unsent marks, and what is left stands.
-use Rattle.std.proofs.Common.{◌≡◌, ℕ, zero, suc, ◌+◌, ◌-◌, ◌%◌, ◌^◌, ◌<◌, ◌≤◌, ◌==◌, min, nat_lt, nat_le, Bool, true, false, cond, not, ◌&&◌, ◌||◌, if◌then◌else◌, List, [], ◌∷◌, ◌++◌, length, take, drop, map, Option, Some, None, refl, sym, ap, ◌∙◌, arith, subst, append_assoc, ◌⊎◌, inl, inr, ⊎_elim, take-append-drop}
+use Rattle.std.proofs.Common.{◌≡◌, ℕ, zero, suc, ◌+◌, ◌-◌, ◌%◌, ◌^◌, ◌<◌, ◌≤◌, nat_lt, Bool, true, false, not, ◌&&◌, if◌then◌else◌, List, [], ◌∷◌, ◌++◌, length, take, drop, map, Option, Some, None, refl, sym, ap, ◌∙◌, arith, ◌⊎◌, inl, inr, ⊎_elim, take-append-drop}
 use Rattle.std.specs.Option.{option_map_or}
-use Rattle.std.proofs.lemmas.Bool.{false_from_ne_true}
 use Rattle.std.proofs.lemmas.Bool.Decides.{nat_tests}
 use Rattle.beep_frame.specs.declared.head.Head.{Head}
 use Rattle.beep_frame.specs.declared.kind.Kind.{Kind}
 use Rattle.beep_frame.specs.declared.tag.Tag.{Tag}
-use Rattle.beep_frame.specs.declared.rule.Rule.{Rule}
 use Rattle.beep_history.specs.declared.journal.Side.{Side}
-use Rattle.beep_history.specs.declared.limits.TheConstants.{MAX_REQUESTS}
-use Rattle.beep_frame.specs.Frame.{head_of, is_msg, is_ans, is_reply}
-use Rattle.beep_history.specs.Journal.{Item, began, passed, told, other}
-use Rattle.beep_history.specs.Marks.{Request, previous, frames, passed_octets, begins_request, requests, latest, waiting, position_of, tag_of, marks, frame_marks, Mark, octet, end, modulo_2_64, mark_modulo_2_64}
-use Rattle.beep_history.specs.Broken.{exchange_rule, under_way}
+use Rattle.beep_frame.specs.Frame.{head_of, is_msg, is_reply}
+use Rattle.beep_history.specs.Journal.{Item, began, passed}
+use Rattle.beep_history.specs.Marks.{Request, begins_request, requests, waiting, position_of, tag_of, frame_marks, Mark, octet, end, modulo_2_64, mark_modulo_2_64}
+use Rattle.beep_history.specs.Broken.{exchange_rule}
 use Rattle.beep_history.proofs.SoundLemmas.{Sound, IsDue}
 use Rattle.beep_history.proofs.PassedLemmas.{sound}
-use Rattle.beep_exchange.specs.Kept.{Kept, begins, judged, began_kept, passed_kept, replied_kept}
-use Rattle.beep_exchange.specs.Stands.{Life, Stands, kept_of}
+use Rattle.beep_exchange.specs.Kept.{Kept, begins, began_kept, replied_kept}
+use Rattle.beep_exchange.specs.Stands.{Life, Stands}
 use Rattle.beep_exchange.proofs.StandsLemmas.{judged-sent, began-sent, passed-sent}
 use Rattle.beep_exchange.proofs.AskerLemmas.{count-waiting}
 use Rattle.beep_outbox.specs.Queue.{Message}
-use Rattle.beep_channel.specs.Fits.{Fits, next_number, IsCut, mine_after, theirs_after, left_of, count_after, was_more, IsWhole, IsBegun, current}
+use Rattle.beep_channel.specs.Fits.{Fits, next_number, IsCut, mine_after, theirs_after, left_of, count_after, was_more, IsBegun}
 use Rattle.beep_exchange.specs.Given.{ends_reply}
 use Rattle.beep_outbox.specs.Queue.{marks_of}
-use Rattle.beep_channel.specs.Sums.{tag_at, IsTagged, is_partly}
+use Rattle.beep_channel.specs.Sums.{tag_at, IsTagged}
 use Rattle.beep_channel.proofs.FitsLemmas.{the-next, next-judged, next-fits, Begun, begun, whole-begins, begun-begins, numbered, reply-waits}
 
 -- ---- a frame

@@ -1,18 +1,17 @@
 -- No message of the queue is too long, step by step: the octets that are sent of it with those that are left.
-use Rattle.std.proofs.Common.{◌≡◌, ℕ, zero, suc, ◌+◌, ◌-◌, ◌^◌, ◌<◌, ◌≤◌, ◌==◌, min, nat_lt, Bool, true, false, cond, not, ◌&&◌, ◌||◌, if◌then◌else◌, List, [], ◌∷◌, ◌++◌, length, drop, Option, Some, None, refl, sym, ap, ◌∙◌, arith, subst, ◌⊎◌, inl, inr, ⊎_elim}
+use Rattle.std.proofs.Common.{◌≡◌, ℕ, ◌+◌, ◌-◌, ◌^◌, ◌≤◌, ◌==◌, min, nat_lt, Bool, true, false, not, ◌&&◌, if◌then◌else◌, List, [], ◌∷◌, ◌++◌, length, drop, Option, Some, None, refl, sym, arith, subst, ◌⊎◌, inl, inr, ⊎_elim}
 use Rattle.std.specs.Option.{option_map_or}
 use Rattle.std.proofs.lemmas.Bool.{both_ways}
 use Rattle.std.proofs.lemmas.Bool.Decides.{nat_tests}
 use Rattle.std.proofs.lemmas.List.{length-drop}
 use Rattle.beep_frame.specs.declared.head.Head.{Head}
 use Rattle.beep_frame.specs.declared.kind.Kind.{Kind}
-use Rattle.beep_frame.specs.Frame.{head_of, is_ans, is_reply, same_kind}
+use Rattle.beep_frame.specs.Frame.{head_of, is_ans, same_kind}
 use Rattle.beep_history.specs.declared.limits.TheConstants.{MAX_MESSAGE}
 use Rattle.beep_history.specs.Marks.{goes_on, ends_reply}
-use Rattle.beep_exchange.specs.declared.answer.Answer.{Answer}
-use Rattle.beep_exchange.specs.Kept.{Kept, breaks_long, begun_in, message_in, octets_in, continued, completed, began_kept, passed_kept, replied_kept}
+use Rattle.beep_exchange.specs.Kept.{Kept, breaks_long, begun_in, message_in, octets_in, continued, completed, replied_kept}
 use Rattle.beep_outbox.specs.Queue.{Message}
-use Rattle.beep_channel.specs.Fits.{AllSmall, sent_of, IsFirstSmall, IsSmall, Fits, IsWhole, IsBegun, OneAnswer, was_more, mine_after, theirs_after, left_of, IsCut}
+use Rattle.beep_channel.specs.Fits.{AllSmall, sent_of, IsFirstSmall, IsSmall, Fits, OneAnswer, was_more, mine_after, theirs_after}
 use Rattle.beep_channel.proofs.JudgedLemmas.{same-number}
 use Rattle.beep_channel.proofs.FitsLemmas.{first-of}
 

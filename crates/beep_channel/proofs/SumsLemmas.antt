@@ -1,11 +1,10 @@
 -- The sums of a life, step by step.
-use Rattle.std.proofs.Common.{◌≡◌, ℕ, zero, suc, ◌+◌, ◌-◌, ◌%◌, ◌^◌, ◌<◌, ◌≤◌, ◌==◌, min, nat_lt, nat_le, Bool, true, false, cond, not, ◌&&◌, ◌||◌, if◌then◌else◌, List, [], ◌∷◌, ◌++◌, length, take, drop, map, Option, Some, None, refl, sym, ap, ◌∙◌, arith, subst, ◌⊎◌, inl, inr, ⊎_elim, append_assoc}
+use Rattle.std.proofs.Common.{◌≡◌, ℕ, zero, suc, ◌+◌, ◌-◌, ◌%◌, ◌^◌, ◌<◌, ◌≤◌, ◌==◌, nat_lt, Bool, true, false, not, ◌&&◌, ◌||◌, if◌then◌else◌, List, [], ◌∷◌, ◌++◌, length, drop, map, Option, Some, None, refl, sym, ap, ◌∙◌, arith, subst}
 use Rattle.std.specs.Option.{option_map_or}
 use Rattle.std.proofs.lemmas.Bool.Decides.{nat_tests}
 use Rattle.beep_frame.specs.declared.head.Head.{Head}
 use Rattle.beep_frame.specs.declared.kind.Kind.{Kind}
-use Rattle.beep_frame.specs.declared.tag.Tag.{Tag}
-use Rattle.beep_frame.specs.Frame.{is_msg, is_ans, is_nul, is_reply}
+use Rattle.beep_frame.specs.Frame.{is_msg, is_ans, is_reply}
 use Rattle.beep_history.specs.Marks.{Mark, octet, end, goes_on}
 use Rattle.beep_exchange.specs.Kept.{Kept, begins, is_open, began_kept, passed_kept, replied_kept, continued, completed}
 use Rattle.beep_exchange.specs.declared.given.Given.{Given}
@@ -26,7 +25,7 @@ module _ (rs : List Run) (r : Run) where
       of true e = yes-it
       of false e = no-it e
 
-  no-octets : has_mark r ≡ false → length r.octets ≡ 0
+  pub no-octets : has_mark r ≡ false → length r.octets ≡ 0
   no-octets e = of (length r.octets) r.ended e
     where
       of : (n : ℕ) (b : Bool) → (nat_lt 0 n || b) ≡ false → n ≡ 0

@@ -1,17 +1,15 @@
 -- A take leaves the channel standing for the same history, with the marks of the part taken more.
-use Rattle.std.proofs.Common.{◌≡◌, ℕ, zero, suc, ◌+◌, ◌-◌, ◌%◌, ◌^◌, ◌<◌, ◌≤◌, ◌==◌, min, nat_lt, Bool, true, false, cond, not, ◌&&◌, ◌||◌, if◌then◌else◌, List, [], ◌∷◌, ◌++◌, length, take, drop, map, Option, Some, None, refl, sym, ap, ◌∙◌, arith, subst, append_assoc, take-append-drop}
+use Rattle.std.proofs.Common.{◌≡◌, ℕ, zero, suc, ◌+◌, ◌-◌, ◌≤◌, ◌==◌, nat_lt, Bool, true, false, not, ◌&&◌, if◌then◌else◌, List, [], ◌∷◌, ◌++◌, length, take, drop, map, Option, Some, None, refl, sym, ap, ◌∙◌, arith, subst, append_assoc, take-append-drop}
 use Rattle.std.specs.Prelude.{is_some}
 use Rattle.std.proofs.lemmas.Bool.Decides.{nat_tests}
 use Rattle.std.proofs.Math.Logic.{∥∥₁_elim, ∥∥₁_map}
 use denote.Struct.Props.{props}
-use Rattle.beep_frame.specs.declared.head.Head.{Head}
 use Rattle.beep_frame.specs.declared.kind.Kind.{Kind}
 use Rattle.beep_frame.specs.declared.tag.Tag.{Tag}
 use Rattle.beep_history.specs.declared.journal.Side.{Side}
 use Rattle.beep_frame.specs.Frame.{is_msg}
 use Rattle.beep_history.specs.Journal.{Item}
-use Rattle.beep_history.specs.Marks.{requests, waiting, marks, Mark, octet, end, mark_modulo_2_64}
-use Rattle.beep_history.proofs.SoundLemmas.{Sound}
+use Rattle.beep_history.specs.Marks.{requests, waiting, Mark, octet, end}
 use Rattle.beep_history.proofs.PassedLemmas.{sound}
 use Rattle.beep_exchange.specs.declared.given.Given.{Given}
 use Rattle.beep_exchange.specs.Given.{MayTake, MayTakeOf, after_taken}
@@ -24,10 +22,11 @@ use Rattle.beep_inbox.specs.Runs.{Run, octets_of, marks_of, left_runs, marks_wit
 use Rattle.beep_inbox.specs.Untaken.{IsTaken}
 use Rattle.beep_inbox.specs.Laws.{part_marks}
 use Rattle.beep_channel.specs.Fits.{Fits}
-use Rattle.beep_channel.specs.Sums.{Sums, ended_of}
+use Rattle.beep_channel.specs.Sums.{Sums, ended_of, filled, AreEndsFew}
 use Rattle.beep_channel.specs.Held.{Held}
-use Rattle.beep_channel.specs.Stands.{HeldStands, Stands, StandsTaken, SameOut, TakesPart}
+use Rattle.beep_channel.specs.Stands.{HeldStands, Stands, TakesPart}
 use Rattle.beep_channel.proofs.CountedLemmas.{counted-take}
+use Rattle.beep_channel.proofs.EndsLemmas.{take-few}
 use Rattle.beep_channel.proofs.SumsLemmas.{take-sums, take-owed, given_after, may-take}
 
 -- ---- the first run, in parts
@@ -92,6 +91,17 @@ owed-more n r given = of (r.ended && not (nat_lt n (length r.octets))) r.tag.kin
     of true Kind.Ans = omega arith
     of true Kind.Nul = omega arith
 
+asked-less : (n : ℕ) (r : Run) (given : Given) → (given_after n r given).asked ≤ given.asked
+asked-less n r given = of (r.ended && not (nat_lt n (length r.octets))) r.tag.kind
+  where
+    of : (b : Bool) (k : Kind) → (if b then after_taken given k else given).asked ≤ given.asked
+    of false k = omega arith
+    of true Kind.Msg = omega arith
+    of true Kind.Rpy = omega arith
+    of true Kind.Err = omega arith
+    of true Kind.Ans = omega arith
+    of true Kind.Nul = omega arith
+
 module _ (size : ℕ) (c : Held) (past : List Item) (s : HeldStands size c past) (n : ℕ) (r : Run) (rs : List Run) (is : c.inbox ≡ r ∷ rs) (few : n ≤ length r.octets)
     (whole : nat_lt n (length r.octets) ≡ false → n ≡ length r.octets) where
   abbrev pub taken-held : Held
@@ -135,6 +145,9 @@ module _ (size : ℕ) (c : Held) (past : List Item) (s : HeldStands size c past)
         answering = λ e. let a = s.answering (ap (λ (a : Option ℕ). is_some a) (sym answers) ∙ e) in omega (arith, a, more);
         own_implied = s.own_implied;
         their_implied = s.their_implied;
+        few = (let f = s.few in let a = asked-less n r c.life.given in omega (arith, f, a));
+        full = s.full;
+        ends = take-few (filled c.life.sent.answers) n r rs (subst (λ (xs : List Run). AreEndsFew (filled c.life.sent.answers) xs) is s.ends);
       }
 
   take-within : n ≤ c.receives.untaken

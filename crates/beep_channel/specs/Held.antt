@@ -2,19 +2,17 @@
 -- which SEQ is next, which rule a header breaks, what is drained (RFC 3080, sections 2.1 and 2.6;
 -- RFC 3081, section 3.1).
 -- The code keeps the same in an exchange, two windows, an inbox and an outbox.
-use Rattle.std.specs.Prelude.{◌≡◌, ℕ, ◌+◌, ◌-◌, ◌^◌, ◌==◌, ◌<◌, Bool, true, false, not, ◌&&◌, ◌||◌, nat_lt, nat_le, if◌then◌else◌, List, [], ◌∷◌, ◌++◌, length, min, max, is_some, Option, None, Some, option_map}
+use Rattle.std.specs.Prelude.{◌≡◌, ℕ, ◌+◌, ◌-◌, ◌==◌, ◌<◌, ◌≤◌, Bool, true, false, not, ◌&&◌, ◌||◌, nat_lt, nat_le, if◌then◌else◌, List, [], ◌∷◌, length, min, is_some, Option, None, Some, option_map}
 use Rattle.std.specs.Option.{option_map_or}
 use Rattle.beep_frame.specs.declared.head.Head.{Head}
 use Rattle.beep_frame.specs.declared.seq.Seq.{Seq}
-use Rattle.beep_frame.specs.declared.tag.Tag.{Tag}
 use Rattle.beep_frame.specs.declared.kind.Kind.{Kind}
 use Rattle.beep_frame.specs.declared.rule.Rule.{Rule}
-use Rattle.beep_frame.specs.Frame.{head_of, is_msg, is_ans, is_reply}
+use Rattle.beep_frame.specs.Frame.{head_of, is_ans, is_reply}
 use Rattle.beep_history.specs.declared.limits.TheConstants.{MAX_MESSAGE, MAX_REQUESTS}
-use Rattle.beep_history.specs.Marks.{Mark}
 use Rattle.beep_history.specs.Broken.{first_of, with_octets}
 use Rattle.beep_exchange.specs.Stands.{Life}
-use Rattle.beep_exchange.specs.Kept.{Kept, judged, breaks_long}
+use Rattle.beep_exchange.specs.Kept.{Kept, judged, breaks_long, tag_in}
 use Rattle.beep_exchange.specs.Given.{next_asked_now}
 use Rattle.beep_seq.specs.Sending.{Sender}
 use Rattle.beep_seq.specs.Receiving.{Receiver, full_of, due_of}
@@ -44,6 +42,23 @@ pub record Live : Type 0 where
   pub octets : ℕ
   pub messages : ℕ
 
+-- ---- room
+
+-- there is room for as many more unsent octets and messages
+pub record SameRoomOut (old new : Live) : Type 0 where
+  pub octets : new.octets ≡ old.octets
+  pub messages : new.messages ≡ old.messages
+
+-- there is room for as many more untaken runs too
+pub record SameRoom (old new : Live) : Type 0 where
+  pub out : SameRoomOut old new
+  pub runs : new.runs ≡ old.runs
+
+-- of the room for unsent octets and messages no more than this is used
+pub record HasRoomOut (old new : Live) (octets messages : ℕ) : Type 0 where
+  pub octets_left : old.octets ≤ new.octets + octets
+  pub messages_left : old.messages ≤ new.messages + messages
+
 -- the limit of the unsent octets: channel zero has none
 abbrev pub limit_of : ℕ → Option ℕ
 limit_of number = if number == 0 then None else Some MAX_MESSAGE
@@ -62,6 +77,16 @@ octets_judged c head = first_of (
 abbrev pub held_judged : Held → Head → Option Rule
 held_judged c head =
     with_octets (judged c.life.received c.life.sent head) (octets_judged c head)
+
+-- ---- a frame that arrives
+
+-- what it adds to what is untaken
+abbrev pub arrived_run : Held → Head → List ℕ → Run
+arrived_run c head payload = record {
+  tag = tag_in c.life.received c.life.sent head;
+  octets = payload;
+  ended = not head.more;
+}
 
 -- ---- the next frame
 

@@ -3,3 +3,4 @@ pub mod Sums
 pub mod Held
 pub mod Stands
 pub mod Drained
+pub mod Ready

@@ -2,13 +2,13 @@
 -- (RFC 3080, section 2.1).
 -- The code keeps no history: what it holds is a function of these, but for what was not sent or not
 -- taken.
-use Rattle.std.specs.Prelude.{◌≡◌, ℕ, ◌+◌, ◌-◌, ◌%◌, ◌^◌, ◌<◌, ◌≤◌, ◌==◌, Bool, true, false, not, ◌&&◌, if◌then◌else◌, List, [], ◌∷◌, ◌++◌, length, map, is_some, Option, None, Some}
+use Rattle.std.specs.Prelude.{◌≡◌, ℕ, ◌+◌, ◌-◌, ◌<◌, ◌≤◌, ◌==◌, nat_lt, Bool, true, false, not, if◌then◌else◌, List, [], ◌∷◌, ◌++◌, length, map, is_some, Option, None, Some}
 use Rattle.beep_frame.specs.declared.head.Head.{Head}
 use Rattle.beep_frame.specs.declared.seq.Seq.{Seq}
-use Rattle.beep_frame.specs.declared.tag.Tag.{Tag}
 use Rattle.beep_frame.specs.declared.kind.Kind.{Kind}
 use Rattle.beep_frame.specs.Frame.{is_msg, is_ans}
 use Rattle.beep_history.specs.declared.journal.Side.{Side}
+use Rattle.beep_history.specs.declared.limits.TheConstants.{MAX_REQUESTS}
 use Rattle.beep_frame.specs.Modulo.{modulo_2_64}
 use Rattle.beep_history.specs.Journal.{Item, began, passed, told}
 use Rattle.beep_history.specs.Marks.{requests, begins_request, passed_octets, marks, Mark, octet, end, frame_marks, tag_of, mark_modulo_2_64}
@@ -17,7 +17,7 @@ use Rattle.beep_history.specs.Windows.{departures, arrivals, greatest_edge, open
 use Rattle.beep_exchange.specs.Stands.{Stands as ExchangeStands}
 use Rattle.beep_exchange.specs.declared.given.Given.{Given}
 use Rattle.beep_exchange.specs.Given.{ends_reply, message_number}
-use Rattle.beep_exchange.specs.Kept.{Kept, is_open}
+use Rattle.beep_exchange.specs.Kept.{Kept, is_open, breaks_empty_answer}
 use Rattle.beep_seq.specs.Wire.{wire_number}
 use Rattle.beep_seq.specs.Due.{is_seq_due}
 use Rattle.beep_seq.specs.Sending.{Stands as SendStands}
@@ -28,7 +28,7 @@ use Rattle.beep_inbox.specs.Untaken.{IsTaken}
 use Rattle.beep_inbox.specs.Laws.{part_marks}
 use Rattle.beep_outbox.specs.Queue.{marks_of as unsent_marks}
 use Rattle.beep_channel.specs.Fits.{Fits, IsSmall, run_end, as_number}
-use Rattle.beep_channel.specs.Sums.{Sums, IsTagged, is_partly, ended_of}
+use Rattle.beep_channel.specs.Sums.{Sums, IsTagged, is_partly, ended_of, filled, AreEndsFew}
 use Rattle.beep_channel.specs.Held.{Held}
 
 -- the position of the first own request that is unsent: one that is partly sent has begun
@@ -69,6 +69,10 @@ pub record HeldStands (size : ℕ) (c : Held) (past : List Item) : Type 0 where
       → HasImplied (length (requests Side.Sent past)) c.life.sent
   pub their_implied : (c.number == 0) ≡ true
       → HasImplied (length (requests Side.Received past)) c.life.received
+  pub few : c.life.given.asked ≤ MAX_REQUESTS
+  pub full : (head : Head) → c.life.received.under_way ≡ Some head
+      → breaks_empty_answer c.life.sent head ≡ false
+  pub ends : AreEndsFew (filled c.life.sent.answers) c.inbox
 
 -- ---- what was given and taken, as lists
 
@@ -97,15 +101,43 @@ is_closed (octet tag value ∷ []) = false
 is_closed (end tag ∷ []) = not (is_ans tag.kind)
 is_closed (mark ∷ next ∷ marks) = is_closed (next ∷ marks)
 
+-- the answers that a reply has after a message of this kind
+abbrev pub answers_with : Kind → ℕ → ℕ
+answers_with kind answers =
+    if is_ans kind then answers + 1 else (if is_msg kind then answers else 0)
+
+-- the answers of the reply that is not whole after these marks, where it had so many before them
+abbrev pub answers_after : ℕ → List Mark → ℕ
+answers_after answers [] = answers
+answers_after answers (octet tag value ∷ marks) = answers_after answers marks
+answers_after answers (end tag ∷ marks) = answers_after (answers_with tag.kind answers) marks
+
+-- each answer is numbered by those of its reply before it, modulo 2^31, and nothing else has a
+-- number
+abbrev pub AreNumbered : ℕ → List Mark → Type 0
+AreNumbered answers [] = Unit {0}
+AreNumbered answers (octet tag value ∷ marks) =
+    (tag.ansno ≡ (if is_ans tag.kind then message_number answers else 0))
+    × AreNumbered answers marks
+AreNumbered answers (end tag ∷ marks) =
+    (tag.ansno ≡ (if is_ans tag.kind then message_number answers else 0))
+    × AreNumbered (answers_with tag.kind answers) marks
+
+-- so many answers as a call tells them
+abbrev pub answers_told : ℕ → Option ℕ
+answers_told answers = if nat_lt 0 answers then Some (message_number answers) else None
+
 -- the numbers of what was given and taken are those of these marks; channel zero has an implied
 -- request of each direction. Each whole reply that was given answers a request that was wholly
--- taken, and where none is owed what was given ends with a whole message
+-- taken, its answers are numbered, and where none is owed what was given ends with a whole message
 pub record IsCounted (is_zero : Bool) (kept : Given) (given taken : List Mark) : Type 0 where
   pub asked : ends_of ends_reply taken + kept.asked ≡ ends_of is_msg given + as_number is_zero
   pub first_asked : kept.first_asked ≡ modulo_2_64 (ends_of ends_reply taken)
   pub owed : ends_of ends_reply given + kept.owed ≡ ends_of is_msg taken + as_number is_zero
   pub first_owed : kept.first_owed ≡ modulo_2_64 (ends_of ends_reply given)
   pub order : IsInOrder (as_number is_zero) 0 given
+  pub numbered : AreNumbered 0 given
+  pub answers : kept.answers ≡ answers_told (answers_after 0 given)
   pub answering : is_some kept.answers ≡ true → 0 < kept.owed
   pub closed : is_some kept.answers ≡ false → is_closed given ≡ true
 
@@ -193,6 +225,12 @@ pub record IsTold (size : ℕ) (old new : Held) (past : List Item) (given taken 
   pub window : taken_octets old past + size ≡ passed_octets Side.Received past + seq.window
   pub opens : greatest_edge Side.Received past ≤ taken_octets old past + size
   pub stands : Stands size new (told Side.Sent seq ∷ past) given taken
+
+-- ---- what is untaken
+
+-- the ends of messages that are untaken
+abbrev pub untaken_ends : Held → ℕ
+untaken_ends c = ends_of (λ kind. true) (untaken_marks c.inbox)
 
 -- ---- a part that was taken
 

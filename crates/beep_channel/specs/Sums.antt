@@ -1,18 +1,20 @@
 -- The sums that tie what is unsent and untaken to what an exchange keeps: of each direction so many
 -- requests have begun, and each of them is at one place (RFC 3080, sections 2.1 and 2.6.1).
 -- The code keeps positions modulo 2^64 and no sum.
-use Rattle.std.specs.Prelude.{◌≡◌, ℕ, ◌+◌, ◌-◌, ◌%◌, ◌^◌, ◌<◌, ◌≤◌, Bool, true, false, not, ◌&&◌, ◌||◌, if◌then◌else◌, List, [], ◌∷◌, Option, None, Some}
+use Rattle.std.specs.Prelude.{◌≡◌, ℕ, ◌+◌, ◌-◌, ◌<◌, ◌≤◌, Bool, true, false, not, ◌&&◌, nat_lt, if◌then◌else◌, List, [], ◌∷◌}
 use Rattle.std.specs.Option.{option_map_or}
 use Rattle.beep_frame.specs.declared.head.Head.{Head}
 use Rattle.beep_frame.specs.declared.tag.Tag.{Tag}
 use Rattle.beep_frame.specs.declared.kind.Kind.{Kind}
 use Rattle.beep_frame.specs.Modulo.{modulo_2_64 as count_modulo_2_64}
-use Rattle.beep_frame.specs.Frame.{is_msg, is_reply}
+use Rattle.beep_frame.specs.Frame.{is_msg, is_ans, is_reply}
+use Rattle.beep_history.specs.declared.limits.TheConstants.{MAX_ANSWERS}
 use Rattle.beep_history.specs.Marks.{modulo_2_64}
+use Rattle.beep_exchange.specs.declared.answer.Answer.{Answer}
 use Rattle.beep_exchange.specs.Kept.{Kept, is_open}
 use Rattle.beep_exchange.specs.declared.given.Given.{Given}
 use Rattle.beep_exchange.specs.Given.{ends_reply}
-use Rattle.beep_inbox.specs.Runs.{Run, AllMarked}
+use Rattle.beep_inbox.specs.Runs.{Run, AllMarked, octets_of}
 use Rattle.beep_outbox.specs.Queue.{Message}
 use Rattle.beep_channel.specs.Fits.{replies, asks, as_number}
 
@@ -39,6 +41,20 @@ abbrev pub IsAnswerable : ℕ → List Run → Type 0
 IsAnswerable waits [] = Unit {0}
 IsAnswerable waits (r ∷ rs) =
     (is_reply r.tag.kind ≡ true → 0 < ended_of ends_reply (r ∷ rs) + waits) × IsAnswerable waits rs
+
+-- how many of these unfinished answers have octets
+abbrev pub filled : List Answer → ℕ
+filled [] = 0
+filled (answer ∷ answers) = if nat_lt 0 answer.octets then filled answers + 1 else filled answers
+
+-- from each run on, the ends of answers are at most the octets and 64 more, and that also once each
+-- unfinished answer that has octets has ended: the octets of an answer may be taken before its end
+-- arrives, but of no more than 64 at a time
+abbrev pub AreEndsFew : ℕ → List Run → Type 0
+AreEndsFew unfinished [] = unfinished ≤ MAX_ANSWERS
+AreEndsFew unfinished (r ∷ rs) =
+    (ended_of is_ans (r ∷ rs) + unfinished ≤ octets_of (r ∷ rs) + MAX_ANSWERS)
+    × AreEndsFew unfinished rs
 
 -- ---- what is unsent
 

@@ -1,6 +1,5 @@
 -- What runs are, as marks: a list that grows at its end and is taken from its front.
-use Rattle.std.specs.Prelude.{ℕ, Bool, List, length, take}
-use Rattle.beep_frame.specs.declared.tag.Tag.{Tag}
+use Rattle.std.specs.Prelude.{ℕ, List, take}
 use Rattle.beep_history.specs.Marks.{Mark}
 use Rattle.beep_inbox.specs.declared.part.Part.{Part}
 use Rattle.beep_inbox.specs.Runs.{marks_with}

@@ -2,7 +2,6 @@
 -- The code keeps the octets of all runs in one ring, and of each run its tag, its length and its
 -- end.
 use Rattle.std.specs.Prelude.{◌≡◌, ℕ, ◌+◌, ◌-◌, ◌==◌, nat_lt, if◌then◌else◌, Bool, false, not, ◌&&◌, min, List, [], ◌∷◌, ◌++◌, length, take, drop}
-use Rattle.beep_frame.specs.declared.tag.Tag.{Tag}
 use Rattle.beep_history.specs.Messages.{same_tag}
 use Rattle.beep_inbox.specs.declared.part.Part.{Part}
 use Rattle.beep_inbox.specs.Runs.{Run, left_runs}

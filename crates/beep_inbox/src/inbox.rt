@@ -56,6 +56,7 @@ impl Inbox {
     /// Makes room for one more run.
     pub fn make_room(&mut self) -> Result<(), NoMemory>
         ensures ok { OnOk result (0 < self.new.places) }
+        ensures succeeds { 0 < self.old.places → IsOk result }
         ensures kept { self.new.runs ≡ self.old.runs }
         ensures window { self.new.window ≡ self.old.window }
         ensures room { self.old.places ≤ self.new.places }

@@ -1,11 +1,11 @@
 -- The messages that entries cut from one list of octets: given after the others, and cut.
-use Rattle.std.proofs.Common.{◌≡◌, ℕ, ◌+◌, ◌-◌, ◌<◌, ◌≤◌, ◌==◌, min, nat_lt, Bool, true, false, not, if◌then◌else◌, List, [], ◌∷◌, ◌++◌, length, take, drop, refl, sym, ap, ◌∙◌, arith, append_assoc, length-append}
+use Rattle.std.proofs.Common.{◌≡◌, ℕ, ◌+◌, ◌-◌, ◌≤◌, ◌==◌, min, nat_lt, Bool, true, false, not, if◌then◌else◌, List, [], ◌∷◌, ◌++◌, length, take, drop, refl, sym, ap, ◌∙◌, arith, append_assoc}
 use Rattle.std.proofs.lemmas.Bool.Decides.{nat_tests}
 use Rattle.std.proofs.lemmas.List.{append-nil, take_all, take-take, drop-take, drop-drop, take-append-le, drop-append-le, length-take-le, length-drop, nil_from_length}
 use Rattle.std.proofs.Math.Seq.{take-append-add}
 use Rattle.beep_frame.specs.declared.tag.Tag.{Tag}
 use Rattle.beep_outbox.specs.declared.entry.Entry.{Entry}
-use Rattle.beep_outbox.specs.Queue.{Message, octets_of, first_octets, first_tag, left_after}
+use Rattle.beep_outbox.specs.Queue.{Message, octets_of, first_octets, left_after}
 use Rattle.beep_outbox.specs.Unsent.{IsCut, CutsEntry, messages_of, lengths, remainder, left_entries}
 
 pub messages-octets : (entries : List Entry) (octets : List ℕ) → lengths entries ≡ length octets

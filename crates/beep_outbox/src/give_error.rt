@@ -1,4 +1,5 @@
 //! Why a message was not given.
+ghost use Rattle.std.specs.Prelude.{◌≡◌};
 
 use beep_octets::NoMemory;
 
@@ -17,6 +18,10 @@ pub enum GiveError {
 }
 
 impl From<NoMemory> for GiveError {
+    ghost use Rattle.beep_outbox.specs.declared.give_error.GiveError.{GiveError};
+
+    ghost from_gives = { λ _ e. e ≡ GiveError.NoMemory };
+
     fn from(_error: NoMemory) -> GiveError {
         GiveError::NoMemory
     }

@@ -62,16 +62,16 @@ impl Outbox {
         })
     }
 
-    /// Makes room for one more message of at most so many octets. All messages together have room
-    /// for at most 4294967295 octets: `NoMemory` past that too.
-    pub fn reserve(&mut self, octets: usize) -> Result<(), NoMemory>
-        ensures ok { OnOk result ((octets ≤ self.new.spare) × (0 < self.new.places)) }
-        ensures succeeds { octets ≤ self.old.spare → 0 < self.old.places → IsOk result }
+    /// Makes room for so many more messages, of at most so many octets together. All messages
+    /// together have room for at most 4294967295 octets: `NoMemory` past that too.
+    pub fn reserve(&mut self, octets: usize, messages: usize) -> Result<(), NoMemory>
+        ensures ok { OnOk result ((octets ≤ self.new.spare) × (messages ≤ self.new.places)) }
+        ensures succeeds { octets ≤ self.old.spare → messages ≤ self.old.places → IsOk result }
         ensures kept { self.new.messages ≡ self.old.messages }
         ensures limit { self.new.limit ≡ self.old.limit }
         ensures room { (self.old.spare ≤ self.new.spare) × (self.old.places ≤ self.new.places) }
     {
-        self.entries.reserve(1)?;
+        self.entries.reserve(messages)?;
         make_room(&mut self.octets, octets)
     }
 
@@ -91,11 +91,17 @@ impl Outbox {
         ensures limit { self.new.limit ≡ self.old.limit }
         ensures succeeds { length octets.now ≤ self.old.spare → 0 < self.old.places
             → give_refusal self.old (length octets.now) ≡ None → IsOk result }
+
+        // A message takes its own room alone, and one that is refused takes none.
+        ensures used { OnOk result ((self.old.spare ≤ self.new.spare + length octets.now)
+            × (self.old.places ≤ self.new.places + 1)) }
+        ensures room { OnErr result ((self.old.spare ≤ self.new.spare)
+            × (self.old.places ≤ self.new.places)) }
     {
         if let Some(error) = self.refusal(octets.len()) {
             return Err(error);
         }
-        let Ok(()) = self.reserve(octets.len()) else {
+        let Ok(()) = self.reserve(octets.len(), 1) else {
             return Err(GiveError::NoMemory)
         };
         self.octets.fill_from_slice(octets);

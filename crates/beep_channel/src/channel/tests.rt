@@ -1,5 +1,6 @@
 //! One channel by itself, and two that drive each other through every kind of message.
-use super::{AskError, Channel};
+use super::Channel;
+use crate::ask_error::AskError;
 use beep_frame::{Head, Kind, Rule, Seq, Tag};
 use beep_inbox::Part;
 use beep_octets::Octets;

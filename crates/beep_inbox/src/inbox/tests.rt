@@ -17,7 +17,7 @@ const TAKES: [(&str, usize, &str); 12] = [
     ("M0hello.", 5, "M0hello."),
     ("M0hello;M0.", 5, "M0hello."),
     ("M0ab.;M1cd.", 8, "M0ab.;M1cd."),
-    ("M0ab;R0cd.;M0e.", 8, "M0ab;R0cd.;M0e."),
+    ("M0ab;E0cd.;M0e.", 8, "M0ab;E0cd.;M0e."),
     ("M0ab.;M0cd", 8, "M0ab.;M0cd"),
     ("A0ab;A1cd;A0ef.;A1.", 8, "A0ab;A1cd;A0ef.;A1."),
     ("N0.;E1.", 1, "N0.;E1."),
@@ -72,11 +72,11 @@ fn octets_keep_their_order_round_the_window(rt: HostRuntime) -> Result<(), Fail>
 fn a_piece_finds_its_place_where_room_was_made(rt: HostRuntime) -> Result<(), Fail> {
     let mut inbox = Inbox::new(rt.alloc(), 4)?;
     inbox.make_room()?;
-    put_all(&mut inbox, "R0.")?;
+    put_all(&mut inbox, "N0.")?;
     inbox.make_room()?;
-    put_all(&mut inbox, "R1.")?;
+    put_all(&mut inbox, "N1.")?;
     let text = take_all(rt.alloc(), &mut inbox, 4)?;
-    assert_eq!(rt; text.as_slice(), "R0.;R1.".as_bytes());
+    assert_eq!(rt; text.as_slice(), "N0.;N1.".as_bytes());
     Ok(())
 }
 

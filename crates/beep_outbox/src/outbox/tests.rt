@@ -73,7 +73,7 @@ fn octets_keep_their_order_as_the_room_grows(rt: HostRuntime) -> Result<(), Fail
 fn the_next_message_is_the_first_that_was_given(rt: HostRuntime) -> Result<(), Fail> {
     let mut outbox = Outbox::new(rt.alloc(), Some(100))?;
     assert!(rt; !outbox.has_next());
-    outbox.reserve(3)?;
+    outbox.reserve(5, 2)?;
     give_all(&mut outbox, "abc;de")?;
     assert!(rt; outbox.has_next());
     assert_eq!(rt;

@@ -6,7 +6,7 @@ use Rattle.beep_outbox.specs.Queue.{first_octets}
 use Rattle.beep_channel.specs.Held.{Held, Live}
 use Rattle.beep_channel.specs.Held.{is_held_ready, next_head}
 use Rattle.beep_channel.specs.Stands.{Stands, IsNext}
-use Rattle.beep_channel.proofs.CallLemmas.{some-judged, some-idle, cut-goal, cut-reached, cut-held, left-is, next-few}
+use Rattle.beep_channel.proofs.CallLemmas.{some-judged, some-idle, cut-goal, cut-reached, left-is, next-few}
 use Rattle.beep_channel.proofs.channel.Channel.cut.Goals as goal
 
 pub note_out-requires-clause-judged : goal.note_out-requires-clause-judged

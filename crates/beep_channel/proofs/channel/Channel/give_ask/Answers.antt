@@ -1,5 +1,5 @@
 -- The message joins what was given, in each history for which the channel stood.
-use Rattle.std.proofs.Common.{◌≡◌, ℕ, ◌<◌, ◌∙◌, sym, ap, subst, arith, length, List, ◌++◌, ◌∷◌, [], refl}
+use Rattle.std.proofs.Common.{◌≡◌, ℕ, ◌∙◌, sym, ap, subst, arith, length, List, ◌++◌, ◌∷◌, [], refl}
 use Rattle.std.proofs.lemmas.Bool.Decides.{nat_tests}
 use Rattle.beep_frame.specs.declared.kind.Kind.{Kind}
 use Rattle.beep_outbox.specs.Queue.{Message, message_marks}
@@ -7,7 +7,7 @@ use Rattle.beep_channel.specs.Held.{Held, Live}
 use Rattle.beep_channel.specs.Held.{next_ask}
 use Rattle.beep_channel.specs.Stands.{StandsGiven}
 use Rattle.beep_channel.proofs.TakeLemmas.{Reached}
-use Rattle.beep_channel.proofs.CallLemmas.{ask-goal, refusal-is, owed-place, reached-given}
+use Rattle.beep_channel.proofs.CallLemmas.{ask-goal, refusal-is, reached-given}
 use Rattle.beep_channel.proofs.channel.Channel.give_ask.Goals as goal
 
 pub invariant_of-self : goal.invariant_of-self

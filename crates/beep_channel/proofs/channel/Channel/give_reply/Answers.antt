@@ -1,7 +1,5 @@
 -- The message joins what was given, in each history for which the channel stood.
-use Rattle.std.proofs.Common.{◌≡◌, ℕ, ◌<◌, ◌∙◌, sym, ap, subst, arith, length, List, ◌++◌, ◌∷◌, [], refl}
-use Rattle.std.proofs.lemmas.Bool.Decides.{nat_tests}
-use Rattle.beep_frame.specs.declared.kind.Kind.{Kind}
+use Rattle.std.proofs.Common.{◌≡◌, ℕ, ◌∙◌, sym, ap, subst, length, List, ◌++◌, ◌∷◌, [], refl}
 use Rattle.beep_outbox.specs.Queue.{Message, message_marks}
 use Rattle.beep_channel.specs.Held.{Held, Live}
 use Rattle.beep_channel.specs.Held.{next_reply, IsReply, ansno_of}

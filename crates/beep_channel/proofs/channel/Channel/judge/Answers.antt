@@ -4,7 +4,7 @@ use Rattle.beep_frame.specs.declared.rule.Rule.{Rule}
 use Rattle.beep_history.specs.Broken.{with_octets}
 use Rattle.beep_exchange.specs.Kept.{judged}
 use Rattle.beep_channel.specs.Held.{Held, Live}
-use Rattle.beep_channel.specs.Held.{held_judged, octets_judged}
+use Rattle.beep_channel.specs.Held.{octets_judged}
 use Rattle.beep_channel.specs.Stands.{Stands}
 use Rattle.beep_channel.proofs.JudgeLemmas.{judge-held}
 use Rattle.beep_channel.proofs.channel.Channel.judge.Goals as goal

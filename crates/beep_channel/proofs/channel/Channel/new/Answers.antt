@@ -1,5 +1,5 @@
 -- A new channel stands for the history with which its life begins.
-use Rattle.std.proofs.Common.{◌≡◌, ap, sym, subst, ◌∙◌, List, [], if◌then◌else◌, ◌==◌}
+use Rattle.std.proofs.Common.{sym, ◌∙◌, [], if◌then◌else◌, ◌==◌}
 use Rattle.std.proofs.lemmas.Grind.{merely}
 use Rattle.beep_history.specs.Journal.{opening}
 use Rattle.beep_channel.proofs.FreshLemmas.{new-stands}

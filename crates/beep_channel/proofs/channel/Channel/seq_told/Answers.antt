@@ -1,5 +1,5 @@
 -- A SEQ leaves the channel standing for the history with it.
-use Rattle.std.proofs.Common.{◌≡◌, ap, sym, subst, ◌∙◌, refl}
+use Rattle.std.proofs.Common.{◌≡◌, ap, sym, subst, ◌∙◌}
 use Rattle.beep_seq.specs.Receiving.{Receiver}
 use Rattle.beep_channel.specs.Held.{Held, Live}
 use Rattle.beep_channel.specs.Held.{told_held, full_seq_of}

@@ -1,5 +1,5 @@
 -- The part leaves the inbox, and its marks are taken more.
-use Rattle.std.proofs.Common.{◌≡◌, ℕ, ◌∙◌, sym, ap, subst, List, true}
+use Rattle.std.proofs.Common.{◌≡◌, ◌∙◌, sym, ap, subst, List}
 use Rattle.beep_inbox.specs.Runs.{Run}
 use Rattle.beep_inbox.specs.Laws.{part_marks}
 use Rattle.beep_inbox.specs.Untaken.{Untaken}

@@ -1,11 +1,11 @@
-use Rattle.std.proofs.Common.{◌≡◌, ℕ, ◌+◌, ◌^◌, ◌<◌, Bool, List, ◌++◌, sym, ap, ◌∙◌, subst, refl, arith, length, take}
+use Rattle.std.proofs.Common.{◌≡◌, ℕ, Bool, List, ◌++◌, ap, ◌∙◌, refl, arith, length}
 use Rattle.std.proofs.lemmas.List.{take_all}
 use Rattle.beep_frame.specs.declared.tag.Tag.{Tag}
 use Rattle.beep_inbox.proofs.inbox.Inbox.put.Goals as goal
 use Rattle.beep_inbox.proofs.PartsLemmas.{runs-octets, Puts, puts}
 use Rattle.beep_inbox.specs.declared.part.Part.{Part}
 use Rattle.beep_inbox.specs.Runs.{octets_of, put_run}
-use Rattle.beep_inbox.specs.Untaken.{Untaken, lengths, put_part, run_of}
+use Rattle.beep_inbox.specs.Untaken.{Untaken, run_of}
 
 abbrev part : Tag → ℕ → Bool → Part
 part tag len ended = record { tag = tag; len = len; ended = ended }

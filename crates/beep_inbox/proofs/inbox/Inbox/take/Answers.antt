@@ -1,4 +1,4 @@
-use Rattle.std.proofs.Common.{◌≡◌, ℕ, ◌+◌, ◌≤◌, List, ◌∷◌, sym, ap, ◌∙◌, refl, arith, length}
+use Rattle.std.proofs.Common.{◌≡◌, ◌+◌, List, sym, ap, ◌∙◌, refl, arith, length}
 use Rattle.beep_inbox.proofs.inbox.Inbox.take.Goals as goal
 use Rattle.beep_inbox.proofs.PartsLemmas.{takes}
 use Rattle.beep_inbox.specs.declared.part.Part.{Part}

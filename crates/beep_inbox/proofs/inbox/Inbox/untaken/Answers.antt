@@ -1,4 +1,4 @@
-use Rattle.std.proofs.Common.{◌≡◌, sym, ap, ◌∙◌, arith}
+use Rattle.std.proofs.Common.{sym, ap, ◌∙◌, arith}
 use Rattle.beep_inbox.proofs.inbox.Inbox.untaken.Goals as goal
 use Rattle.beep_inbox.proofs.PartsLemmas.{runs-octets}
 use Rattle.beep_inbox.specs.Runs.{octets_of}

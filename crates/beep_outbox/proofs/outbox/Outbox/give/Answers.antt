@@ -1,11 +1,11 @@
-use Rattle.std.proofs.Common.{◌≡◌, ℕ, ◌+◌, ◌-◌, ◌<◌, ◌≤◌, List, [], ◌∷◌, ◌++◌, sym, ap, ◌∙◌, refl, arith, length, length-append}
+use Rattle.std.proofs.Common.{◌≡◌, ℕ, List, [], ◌∷◌, ◌++◌, ap, ◌∙◌, refl, arith, length, length-append}
 use Rattle.std.proofs.lemmas.List.{take_all}
 use Rattle.beep_frame.specs.declared.tag.Tag.{Tag}
 use Rattle.beep_outbox.proofs.EntriesLemmas.{lengths-given, messages-given}
 use Rattle.beep_outbox.proofs.outbox.Outbox.give.Goals as goal
 use Rattle.beep_outbox.specs.declared.entry.Entry.{Entry}
 use Rattle.beep_outbox.specs.Queue.{Message}
-use Rattle.beep_outbox.specs.Unsent.{Unsent, lengths}
+use Rattle.beep_outbox.specs.Unsent.{Unsent}
 
 abbrev entry : Tag → ℕ → Entry
 entry tag len = record { tag = tag; len = len }
