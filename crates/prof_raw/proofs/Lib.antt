@@ -1,0 +1,3 @@
+mod ListLemmas
+mod PieceLemmas
+mod EntryLemmas

@@ -1,0 +1,5 @@
+-- What public clauses cite.
+pub mod Entries
+-- What proofs alone need: how a list lies in memory, and how far a piece goes.
+pub mod Listed
+pub mod Walk

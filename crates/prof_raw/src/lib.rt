@@ -1,0 +1,12 @@
+//! The RAW profile of syslog over BEEP: the entries of a body, and the body of entries (RFC 3195,
+//! section 3).
+#![tactic(auto)]
+
+pub mod laws;
+mod list;
+mod read;
+mod write;
+
+pub use list::Entries;
+pub use read::{Place, entries, next_entry};
+pub use write::{body_len, body_of, entry_body};
