@@ -1,0 +1,4 @@
+pub mod ListLemmas
+pub mod LivesLemmas
+pub mod JoinLemmas
+pub mod CallLemmas

@@ -1,0 +1,6 @@
+//! Whose turn it is among the channels of a session (RFC 3081, section 3.1.4).
+#![tactic(auto)]
+
+mod turns;
+
+pub use turns::{MAX_CHANNELS, Turns};
