@@ -1,0 +1,6 @@
+pub mod KeptLemmas
+pub mod FormLemmas
+pub mod AskedLemmas
+pub mod MovesLemmas
+pub mod QueueLemmas
+pub mod LawsLemmas

@@ -1,0 +1,15 @@
+//! The requests of channel zero that wait for their reply, as a session keeps them of each side
+//! (RFC 3080, section 2.3.1).
+//!
+//! Of each it keeps what it says, whether it is the implied one, and of a close above 0 whether
+//! the life that it names is live. What that means is said over the history of channel zero, in
+//! specs/; the laws say what each item of it makes of both queues.
+#![tactic(auto)]
+
+mod form;
+pub mod laws;
+mod request;
+mod waiting;
+
+pub use request::Request;
+pub use waiting::Waiting;
