@@ -1,2 +1,4 @@
+mod LogLemmas
 mod ReadLemmas
 mod TransferLemmas
+mod WriteLemmas

@@ -5,7 +5,7 @@ use Rattle.std.proofs.KnownBytes.{Appends-trans, Appends-kept}
 use Rattle.std.specs.Io.KnownBytes.{Appends, Keeps}
 use Rattle.beep_wires.specs.Transfer.{AppendsPrefix}
 
-take-add : (at n : ℕ) (bytes : List ℕ) → take at bytes ++ take n (drop at bytes) ≡ take (at + n) bytes
+pub take-add : (at n : ℕ) (bytes : List ℕ) → take at bytes ++ take n (drop at bytes) ≡ take (at + n) bytes
 take-add at n bytes =
     let within : at ≤ at + n = omega arith in
     rw (← take-take at (at + n) bytes within, ← drop-take at n bytes) (take-append-drop at (take (at + n) bytes))

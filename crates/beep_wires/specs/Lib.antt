@@ -5,3 +5,7 @@ pub mod Planned
 pub mod Supply
 pub mod Tray
 pub mod Transfer
+pub mod Log
+pub mod Links
+pub mod Got
+pub mod Writing

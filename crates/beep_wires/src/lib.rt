@@ -1,14 +1,15 @@
-//! What BEEP reads from and writes to: the traits of a source and of a sink, and forms of them in
-//! memory whose failures are planned, for tests and for the plain programs.
+//! What BEEP reads from and writes to: the traits of a source, of a sink and of links, and forms of
+//! the first two in memory whose failures are planned, for tests and for the plain programs.
 //!
-//! A source or a sink fails only where its count of faults rises. What stands behind it, a file or
-//! a
-//! wire, is told where it is known, and nothing is claimed of it elsewhere.
+//! A source, a sink or a link fails only where its count of faults rises. What stands behind it, a
+//! file or a wire, is told where it is known, and nothing is claimed of it elsewhere.
 #![tactic(auto)]
 
 mod count;
 mod failed;
 mod fails;
+mod link_transfer;
+mod links;
 mod mem_sink;
 mod mem_source;
 mod null_sink;
@@ -19,6 +20,8 @@ mod transfer;
 pub use count::{COUNT_MAX, next_count};
 pub use failed::Failed;
 pub use fails::Fails;
+pub use link_transfer::write_link;
+pub use links::{Got, WireError, Wires};
 pub use mem_sink::MemSink;
 pub use mem_source::MemSource;
 pub use null_sink::NullSink;

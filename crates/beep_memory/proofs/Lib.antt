@@ -1,0 +1,6 @@
+mod EventLemmas
+mod GiftLemmas
+mod KeptLemmas
+mod MeetLemmas
+mod NeedLemmas
+mod PlaceLemmas
