@@ -1,0 +1,6 @@
+pub mod StepLemmas
+pub mod FeedLemmas
+pub mod HearLemmas
+pub mod TextLemmas
+pub mod AnswerLemmas
+pub mod DropLemmas

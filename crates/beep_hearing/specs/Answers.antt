@@ -1,0 +1,33 @@
+-- What a feed answers of the octets that it used, for every journal for which the ear stood.
+-- The code goes from step to step of its decoder; here no step appears but the last.
+use Rattle.std.specs.Prelude.{◌≡◌, ℕ, List, None}
+use Rattle.beep_history.specs.Journal.{Item}
+use Rattle.beep_channel.specs.Held.{Live}
+use Rattle.beep_standing.specs.Standing.{Marks}
+use Rattle.beep_hearing.specs.declared.heard.Heard.{Heard}
+use Rattle.beep_hearing.specs.declared.ear.Ear.{Ear}
+use Rattle.beep_hearing.specs.Hears.{Stands, Goes, Arrives, EndsZero, Breaks}
+
+-- what the answer says of the octets used
+abbrev pub Answers : Heard → ℕ → List ℕ → List ℕ → List Item → Marks → Marks → Ear → List Live
+    → Type 0
+Answers Heard.More size octets fed journal given taken ear channels =
+    Goes size octets fed journal given taken ear channels
+Answers (Heard.Arrived number) size octets fed journal given taken ear channels =
+    Arrives number size octets fed journal given taken ear channels
+Answers (Heard.Zero head) size octets fed journal given taken ear channels =
+    EndsZero head size octets fed journal given taken ear channels
+Answers (Heard.Broken rule place) size octets fed journal given taken ear channels =
+    Breaks rule place size octets fed journal given taken ear channels
+Answers Heard.NoMemory size octets fed journal given taken ear channels =
+    Goes size octets fed journal given taken ear channels
+
+-- an ear and the live channels stand for something
+abbrev pub IsHeld : Ear → List Live → Type 0
+IsHeld ear channels =
+    ∥ ((size : ℕ) × (fed : List ℕ) × (rest : List ℕ) × (journal : List Item) × (given : Marks)
+    × (taken : Marks) × Stands size fed rest journal given taken ear channels) ∥₁
+
+-- they do, where no rule was broken and no message of channel zero waits
+abbrev pub IsReached : Ear → List Live → Type 0
+IsReached ear channels = ear.broken ≡ None → ear.waits ≡ None → IsHeld ear channels

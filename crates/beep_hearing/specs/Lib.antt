@@ -1,0 +1,5 @@
+-- What public clauses cite.
+pub mod Hears
+pub mod Answers
+-- What proofs alone need.
+pub mod Left
