@@ -15,8 +15,8 @@ use Rattle.beep_history.proofs.AnswersLemmas.{has}
 use Rattle.beep_history.proofs.SoundLemmas.{IsApartFirst, numbers}
 use Rattle.beep_history.proofs.PassedLemmas.{sound}
 use Rattle.beep_exchange.specs.Kept.{Kept, begins, is_open, judged, breaks_not_continued, began_kept, breaks_empty_answer}
-use Rattle.beep_exchange.specs.Stands.{Life, Stands as ExchangeStands}
-use Rattle.beep_exchange.proofs.StandsLemmas.{judged-room, began-received}
+use Rattle.beep_exchange.specs.Exchange.{Life, IsExchange}
+use Rattle.beep_exchange.proofs.ExchangeLemmas.{judged-room, began-received}
 use Rattle.beep_exchange.proofs.AskerLemmas.{count-waiting}
 use Rattle.beep_channel.specs.Fits.{Fits}
 use Rattle.beep_channel.specs.Sums.{Sums, ended_of, IsTagged}
@@ -62,7 +62,7 @@ apart-take (suc w) (suc m) (n ∷ ns) p a =
     (ap (λ (xs : List ℕ). has n xs) (take-take w m ns (omega (arith, p))) ∙ a.0, apart-take w m ns (omega (arith, p)) a.1)
 
 -- the numbers of the requests that wait are apart, as far as they are kept
-kept-apart : (life : Life) (past : List Item) (s : ExchangeStands life past) → IsApartFirst life.received.waiting life.received.numbers
+kept-apart : (life : Life) (past : List Item) (s : IsExchange life past) → IsApartFirst life.received.waiting life.received.numbers
 kept-apart life past s =
     let sd = sound Side.Received past s.unbroken in
     let w = count-waiting Side.Received past sd in
@@ -79,7 +79,7 @@ module _ (size : ℕ) (c : Held) (past : List Item) (s : HeldStands size c past)
   abbrev now : List Item
   now = began Side.Received head ∷ past
 
-  noted : ExchangeStands begun-life now
+  noted : IsExchange begun-life now
   noted = began-received c.life past s.exchange head idle none
 
   begins-is : begins c.life.received head ≡ begins_request Side.Received past head

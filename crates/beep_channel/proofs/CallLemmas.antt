@@ -17,11 +17,11 @@ use Rattle.beep_history.specs.Windows.{greatest_edge, departures, is_bad_ack}
 use Rattle.beep_exchange.specs.declared.given.Given.{Given}
 use Rattle.beep_exchange.specs.Given.{after_given}
 use Rattle.beep_exchange.specs.Kept.{judged, began_kept, tag_in, tag_under_way}
-use Rattle.beep_exchange.specs.Stands.{Life, Stands as ExchangeStands}
-use Rattle.beep_exchange.proofs.StandsLemmas.{began-received, passed-received, told-any}
+use Rattle.beep_exchange.specs.Exchange.{Life, IsExchange}
+use Rattle.beep_exchange.proofs.ExchangeLemmas.{began-received, passed-received, told-any}
 use Rattle.beep_seq.specs.declared.send_window.BadAck.{BadAck}
 use Rattle.beep_seq.specs.Due.{breaks_bad_ack}
-use Rattle.beep_seq.specs.Sending.{Departures, Sender, after_seq, Stands as SendStands}
+use Rattle.beep_seq.specs.Sending.{Departures, Sender, after_seq, IsSender}
 use Rattle.beep_seq.specs.Receiving.{Receiver}
 use Rattle.beep_inbox.specs.Runs.{Run, put_run, octets_of}
 use Rattle.beep_outbox.specs.Queue.{Message, left_after, first_octets, first_tag, message_marks}
@@ -57,7 +57,7 @@ module _ (old new : Held) (t : Reached old) where
 -- ---- a header
 
 pub begin-goal : (old : Held) (head : Head) → old.life.received.under_way ≡ None → held_judged old head ≡ None → head.channel ≡ old.number
-    → (life : Life) → ((past : List Item) → ExchangeStands old.life past → ExchangeStands life (began Side.Received head ∷ past)) → life.sent ≡ old.life.sent → life.given ≡ old.life.given
+    → (life : Life) → ((past : List Item) → IsExchange old.life past → IsExchange life (began Side.Received head ∷ past)) → life.sent ≡ old.life.sent → life.given ≡ old.life.given
     → StandsWith old (record old { life = life }) (began Side.Received head)
 begin-goal old head idle none own life noted sent given = λ size past g k t.
     let s = t.held in
@@ -95,7 +95,7 @@ bounded-any c t = of c.life.received.under_way refl
     of (Some head) e = bounded c t head e
 
 pub arrive-goal : (old : Held) (head : Head) (payload : List ℕ) → old.life.received.under_way ≡ Some head → length payload ≡ head.size
-    → (life : Life) → ((past : List Item) (head : Head) (payload : List ℕ) → ExchangeStands old.life past → old.life.received.under_way ≡ Some head → length payload ≡ head.size → ExchangeStands life (passed Side.Received head payload ∷ past))
+    → (life : Life) → ((past : List Item) (head : Head) (payload : List ℕ) → IsExchange old.life past → old.life.received.under_way ≡ Some head → length payload ≡ head.size → IsExchange life (passed Side.Received head payload ∷ past))
     → life.given ≡ old.life.given
     → (receives : Receiver) → receives ≡ record old.receives { next = (old.receives.next + head.size) % 2 ^ 32; room = old.receives.room - head.size; untaken = old.receives.untaken + head.size }
     → (inbox : List Run) → inbox ≡ put_run old.inbox (record { tag = tag_in old.life.received old.life.sent head; octets = payload; ended = not head.more })
@@ -114,7 +114,7 @@ arrive-goal old head payload begun sized life noted given receives re inbox ie =
 
 -- ---- a SEQ of the peer
 
-pub acked-goal : (old : Held) (seq : Seq) (sends : Sender) → ((counts : Departures) → SendStands old.sends counts → SendStands sends (after_seq counts seq.ackno seq.window))
+pub acked-goal : (old : Held) (seq : Seq) (sends : Sender) → ((counts : Departures) → IsSender old.sends counts → IsSender sends (after_seq counts seq.ackno seq.window))
     → StandsWith old (record old { sends = sends }) (told Side.Received seq)
 acked-goal old seq sends noted = λ size past g k t.
     let s = t.held in
@@ -145,12 +145,12 @@ acked-goal old seq sends noted = λ size past g k t.
       counted = t.counted;
     }
 
-pub acked-refused : (old : Held) (seq : Seq) (b : Bool) → ((counts : Departures) → SendStands old.sends counts → b ≡ breaks_bad_ack counts.acknowledged counts.sent seq.ackno)
+pub acked-refused : (old : Held) (seq : Seq) (b : Bool) → ((counts : Departures) → IsSender old.sends counts → b ≡ breaks_bad_ack counts.acknowledged counts.sent seq.ackno)
     → (size : ℕ) (past : List Item) (given taken : List Mark) → Stands size old past given taken → b ≡ is_bad_ack Side.Received past seq
 acked-refused old seq b tells size past given taken t = tells (departures Side.Sent past) t.held.sends
 
 pub acked-ok : (old : Held) (seq : Seq) (sends : Sender) (r : Result (Unit {0}) BadAck)
-    → ((counts : Departures) → SendStands old.sends counts → OnOk r (SendStands sends (after_seq counts seq.ackno seq.window)))
+    → ((counts : Departures) → IsSender old.sends counts → OnOk r (IsSender sends (after_seq counts seq.ackno seq.window)))
     → OnOk r (StandsWith old (record old { sends = sends }) (told Side.Received seq))
 acked-ok old seq sends (Ok u) noted = acked-goal old seq sends noted
 acked-ok old seq sends (Err e) noted = tt
@@ -291,12 +291,12 @@ some-waits c t r tag e k =
     ∥∥₁_elim t (hlevel props) (λ s. waits-of c 1 (omega arith) f s.0 s.1 s.4.held (ap (λ (t : Tag). is_reply t.kind) same ∙ k))
 
 module _ (old : Held) (max : ℕ) (most : 0 < max) (ready : is_held_ready old ≡ true) (head : Head) (is : head ≡ next_head max old)
-    (begun life : Life) (noted_out : (past : List Item) → ExchangeStands old.life past → ExchangeStands begun (began Side.Sent head ∷ past))
+    (begun life : Life) (noted_out : (past : List Item) → IsExchange old.life past → IsExchange begun (began Side.Sent head ∷ past))
     (under : begun.sent.under_way ≡ Some head) (given_out : begun.given ≡ old.life.given)
-    (noted : (past : List Item) (head : Head) (payload : List ℕ) → ExchangeStands begun past → begun.sent.under_way ≡ Some head → length payload ≡ head.size → ExchangeStands life (passed Side.Sent head payload ∷ past))
+    (noted : (past : List Item) (head : Head) (payload : List ℕ) → IsExchange begun past → begun.sent.under_way ≡ Some head → length payload ≡ head.size → IsExchange life (passed Side.Sent head payload ∷ past))
     (given_too : life.given ≡ begun.given)
     (queue : List Message) (left : queue ≡ left_after head.size old.queue) (seqno : ℕ) (counted : seqno ≡ (old.seqno + head.size) % 2 ^ 32)
-    (sends : Sender) (spends : (counts : Departures) → SendStands old.sends counts → SendStands sends (record counts { sent = counts.sent + head.size })) where
+    (sends : Sender) (spends : (counts : Departures) → IsSender old.sends counts → IsSender sends (record counts { sent = counts.sent + head.size })) where
   abbrev pub cut-held : Held
   cut-held = record old { life = life; queue = queue; seqno = seqno; sends = sends }
 
@@ -315,11 +315,11 @@ module _ (old : Held) (max : ℕ) (most : 0 < max) (ready : is_held_ready old �
       let sized : head.size ≡ k = ap (λ (h : Head). h.size) same in
       let payload : List ℕ = take k m.octets in
       let len : length payload ≡ head.size = take-length k m.octets (omega arith) ∙ sym sized in
-      let after : ExchangeStands life (passed Side.Sent hd payload ∷ began Side.Sent hd ∷ past)
-      = subst (λ (h : Head). ExchangeStands life (passed Side.Sent h payload ∷ began Side.Sent h ∷ past)) same
+      let after : IsExchange life (passed Side.Sent hd payload ∷ began Side.Sent hd ∷ past)
+      = subst (λ (h : Head). IsExchange life (passed Side.Sent h payload ∷ began Side.Sent h ∷ past)) same
       (noted (began Side.Sent head ∷ past) head payload (noted_out past s.exchange) under len) in
-      let spent : SendStands sends (record (departures Side.Sent past) { sent = passed_octets Side.Sent past + k })
-      = subst (λ (n : ℕ). SendStands sends (record (departures Side.Sent past) { sent = passed_octets Side.Sent past + n })) sized (spends (departures Side.Sent past) s.sends) in
+      let spent : IsSender sends (record (departures Side.Sent past) { sent = passed_octets Side.Sent past + k })
+      = subst (λ (n : ℕ). IsSender sends (record (departures Side.Sent past) { sent = passed_octets Side.Sent past + n })) sized (spends (departures Side.Sent past) s.sends) in
       let base = cut-lawful size old past s k m.tag.ansno m.tag.request m.octets f.ms m.tag.kind f.is cut few max (omega arith) sends spent given taken t in
       let ex = base.stands.held.exchange in
       let life-is : life ≡ life0 = life-eq life _ _ _ (after.received ∙ sym ex.received) (after.sent ∙ sym ex.sent) (given_too ∙ given_out) in

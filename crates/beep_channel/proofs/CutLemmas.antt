@@ -14,11 +14,11 @@ use Rattle.beep_history.specs.Broken.{broken_rule, exchange_rule, first_of, octe
 use Rattle.beep_history.specs.Windows.{departures, open_now, window_edge}
 use Rattle.beep_history.proofs.RulesLemmas.{octets-between, shape-kept}
 use Rattle.beep_history.proofs.WindowsLemmas.{departures-passed}
-use Rattle.beep_exchange.specs.Stands.{Life, Stands as ExchangeStands}
+use Rattle.beep_exchange.specs.Exchange.{Life, IsExchange}
 use Rattle.beep_exchange.specs.Kept.{breaks_long, began_kept, replied_kept}
 use Rattle.beep_exchange.proofs.TagLemmas.{long-sent}
 use Rattle.beep_seq.specs.Wire.{wire_number}
-use Rattle.beep_seq.specs.Sending.{Departures, Sender, Stands as SendStands}
+use Rattle.beep_seq.specs.Sending.{Departures, Sender, IsSender}
 use Rattle.beep_outbox.specs.Queue.{Message, marks_of}
 use Rattle.beep_channel.specs.Fits.{Fits, IsCut, IsSmall, next_number, was_more, left_of, count_after, run_end}
 use Rattle.beep_channel.specs.Sums.{Sums, IsTagged, ended_of, is_partly}
@@ -70,7 +70,7 @@ module _ (size : ℕ) (c : Held) (past : List Item) (s : HeldStands size c past)
   abbrev pub the-life : Life
   the-life = new-life c.life past c.number c.seqno n ansno place octets ms count k s.exchange refl owed fits cut
 
-  noted : ExchangeStands the-life now
+  noted : IsExchange the-life now
   noted = frame-stands c.life past c.number c.seqno n ansno place octets ms count k s.exchange refl owed fits cut
 
   counted : count_after count c.life.sent the-head ≡ length (requests Side.Sent now)
@@ -139,12 +139,12 @@ module _ (size : ℕ) (c : Held) (past : List Item) (s : HeldStands size c past)
   abbrev pub left-held : Sender → Held
   left-held sends = record c { life = the-life; queue = left-queue; seqno = (c.seqno + n) % 2 ^ 32; sends = sends }
 
-  left-stands : (sends : Sender) → SendStands sends (record (departures Side.Sent past) { sent = passed_octets Side.Sent past + n })
+  left-stands : (sends : Sender) → IsSender sends (record (departures Side.Sent past) { sent = passed_octets Side.Sent past + n })
       → HeldStands size (left-held sends) now
   left-stands sends spent = record {
     exchange = noted;
     seqno = (let q = s.seqno in omega (arith, q));
-    sends = subst (λ (d : Departures). SendStands sends d) (sym (departures-passed Side.Sent (began Side.Sent the-head ∷ past) the-head the-payload)) spent;
+    sends = subst (λ (d : Departures). IsSender sends d) (sym (departures-passed Side.Sent (began Side.Sent the-head ∷ past) the-head the-payload)) spent;
     taken = s.taken;
     receives = s.receives;
     inbox = s.inbox;
@@ -186,7 +186,7 @@ module _ (size : ℕ) (c : Held) (past : List Item) (s : HeldStands size c past)
       ∙ ap (λ (xs : List Mark). xs ++ marks_of left-queue) (sym (map-append (marks Side.Sent past) (frame_marks (tag_of Side.Sent (began Side.Sent the-head ∷ past) the-head) the-head the-payload)))
       ∙ ap (λ (b : Bool). map mark_modulo_2_64 (marks Side.Sent past ++ (if b then frame_marks (tag_of Side.Sent (began Side.Sent the-head ∷ past) the-head) the-head the-payload else [])) ++ marks_of left-queue) (sym is-carried)
 
-  pub cut-lawful : (most : ℕ) → n ≤ most → (sends : Sender) → SendStands sends (record (departures Side.Sent past) { sent = passed_octets Side.Sent past + n })
+  pub cut-lawful : (most : ℕ) → n ≤ most → (sends : Sender) → IsSender sends (record (departures Side.Sent past) { sent = passed_octets Side.Sent past + n })
       → (given taken : List Mark) → Stands size c past given taken
       → IsNext size most c (left-held sends) past given taken the-head the-payload
   cut-lawful most few sends spent given taken t = record {

@@ -17,7 +17,7 @@ use Rattle.beep_history.proofs.KeptLemmas.{pass}
 use Rattle.beep_history.proofs.PassedLemmas.{sound}
 use Rattle.beep_exchange.specs.declared.answer.Answer.{Answer}
 use Rattle.beep_exchange.specs.Kept.{Kept, capped, octets_in, has_answer, grown, continued, completed, replied_kept, breaks_empty_answer, judged, shape_tests, limit_tests}
-use Rattle.beep_exchange.specs.Stands.{Life, Stands as ExchangeStands, current, answer_of}
+use Rattle.beep_exchange.specs.Exchange.{Life, IsExchange, current, answer_of}
 use Rattle.beep_exchange.proofs.AskerLemmas.{current-is}
 use Rattle.beep_inbox.specs.Runs.{Run, octets_of, joins, joined, has_mark, put_behind, put_run, left_runs}
 use Rattle.beep_channel.specs.Sums.{ended_of, filled, AreEndsFew}
@@ -176,7 +176,7 @@ filled-length (x ∷ xs) = of (nat_lt 0 x.octets) (filled-length xs)
 
 -- ---- what an exchange keeps of the answers
 
-module _ (life : Life) (past : List Item) (s : ExchangeStands life past) where
+module _ (life : Life) (past : List Item) (s : IsExchange life past) where
   abbrev frames : List Head
   frames = current Side.Sent past
 

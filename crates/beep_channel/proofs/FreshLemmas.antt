@@ -3,11 +3,11 @@ use Rattle.std.proofs.Common.{◌≡◌, ℕ, ◌≤◌, ◌==◌, Bool, true, f
 use Rattle.std.proofs.lemmas.Bool.{both_ways}
 use Rattle.beep_frame.specs.declared.head.Head.{Head}
 use Rattle.beep_history.specs.Journal.{opening}
-use Rattle.beep_exchange.specs.Stands.{Life, Stands as ExchangeStands}
+use Rattle.beep_exchange.specs.Exchange.{Life, IsExchange}
 use Rattle.beep_exchange.specs.Kept.{Kept}
 use Rattle.beep_exchange.specs.Given.{new_given}
-use Rattle.beep_seq.specs.Sending.{Sender, no_departures, Stands as SendStands}
-use Rattle.beep_seq.specs.Receiving.{Receiver, no_arrivals, Stands as RecvStands}
+use Rattle.beep_seq.specs.Sending.{Sender, no_departures, IsSender}
+use Rattle.beep_seq.specs.Receiving.{Receiver, no_arrivals, IsReceiver}
 use Rattle.beep_outbox.specs.Queue.{Message}
 use Rattle.beep_channel.specs.Held.{Held}
 use Rattle.beep_channel.proofs.CountedLemmas.{counted-new}
@@ -21,7 +21,7 @@ idle-none : {A : Type 0} (h : Head) → None ≡ Some h → A
 idle-none h e = absurd (let g : None ≡ Some h = e in cc)
 
 pub fresh-held : (number size : ℕ) (life : Life) (sends : Sender) (receives : Receiver) → (number == 0) ≡ false
-    → ExchangeStands life [] → life.given ≡ new_given false → SendStands sends no_departures → RecvStands receives size no_arrivals
+    → IsExchange life [] → life.given ≡ new_given false → IsSender sends no_departures → IsReceiver receives size no_arrivals
     → HeldStands size (held number life [] 0 sends receives) []
 fresh-held number size life sends receives z s g t r = record {
   exchange = s;
@@ -68,7 +68,7 @@ fresh-held number size life sends receives z s g t r = record {
 }
 
 pub opening-held : (number size : ℕ) (life : Life) (sends : Sender) (receives : Receiver)
-    → ExchangeStands life opening → life.given ≡ new_given true → SendStands sends no_departures → RecvStands receives size no_arrivals
+    → IsExchange life opening → life.given ≡ new_given true → IsSender sends no_departures → IsReceiver receives size no_arrivals
     → HeldStands size (held number life [] 0 sends receives) opening
 opening-held number size life sends receives s g t r = record {
   exchange = s;
@@ -115,11 +115,11 @@ opening-held number size life sends receives s g t r = record {
 }
 
 pub new-stands : (number size : ℕ) (life : Life) (sends : Sender) (receives : Receiver)
-    → ExchangeStands life (if number == 0 then opening else []) → life.given ≡ new_given (number == 0) → SendStands sends no_departures → RecvStands receives size no_arrivals
+    → IsExchange life (if number == 0 then opening else []) → life.given ≡ new_given (number == 0) → IsSender sends no_departures → IsReceiver receives size no_arrivals
     → Stands size (held number life [] 0 sends receives) (if number == 0 then opening else []) [] []
 new-stands number size life sends receives s g t r = of (number == 0) refl s g
   where
-    of : (z : Bool) → (number == 0) ≡ z → ExchangeStands life (if z then opening else []) → life.given ≡ new_given z
+    of : (z : Bool) → (number == 0) ≡ z → IsExchange life (if z then opening else []) → life.given ≡ new_given z
         → Stands size (held number life [] 0 sends receives) (if z then opening else []) [] []
     of true e s g = record { held = opening-held number size life sends receives s g t r; all_given = refl; all_arrived = refl; counted = rw (e, g) (counted-new true) }
     of false e s g = record { held = fresh-held number size life sends receives e s g t r; all_given = refl; all_arrived = refl; counted = rw (e, g) (counted-new false) }

@@ -11,7 +11,7 @@ use Rattle.beep_history.specs.Broken.{broken_rule, exchange_rule, first_of, octe
 use Rattle.beep_history.specs.Windows.{window_edge, greatest_edge}
 use Rattle.beep_history.proofs.RulesLemmas.{octets-between, shape-kept}
 use Rattle.beep_exchange.specs.Kept.{judged, breaks_long}
-use Rattle.beep_exchange.proofs.StandsLemmas.{judged-received}
+use Rattle.beep_exchange.proofs.ExchangeLemmas.{judged-received}
 use Rattle.beep_exchange.proofs.TagLemmas.{long-received}
 use Rattle.beep_channel.specs.Held.{Held, held_judged, octets_judged}
 use Rattle.beep_channel.specs.Stands.{HeldStands}

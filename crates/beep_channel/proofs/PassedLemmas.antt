@@ -12,8 +12,8 @@ use Rattle.beep_history.proofs.SoundLemmas.{Sound}
 use Rattle.beep_history.proofs.PassedLemmas.{sound}
 use Rattle.beep_exchange.specs.Given.{ends_reply}
 use Rattle.beep_exchange.specs.Kept.{Kept, is_open, passed_kept, replied_kept, tag_in}
-use Rattle.beep_exchange.specs.Stands.{Life, Stands as ExchangeStands}
-use Rattle.beep_exchange.proofs.StandsLemmas.{passed-received}
+use Rattle.beep_exchange.specs.Exchange.{Life, IsExchange}
+use Rattle.beep_exchange.proofs.ExchangeLemmas.{passed-received}
 use Rattle.beep_exchange.proofs.AskerLemmas.{count-waiting}
 use Rattle.beep_exchange.proofs.TagLemmas.{tag-received}
 use Rattle.beep_inbox.specs.Runs.{Run, run_marks, marks_of, put_run}
@@ -108,7 +108,7 @@ module _ (size : ℕ) (c : Held) (past : List Item) (s : HeldStands size c past)
   abbrev now : List Item
   now = passed Side.Received head payload ∷ past
 
-  noted : ExchangeStands arrived-life now
+  noted : IsExchange arrived-life now
   noted = passed-received c.life past s.exchange head payload begun sized
 
   -- what is owed with the untaken requests grows by what was open

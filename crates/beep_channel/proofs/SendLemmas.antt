@@ -13,8 +13,8 @@ use Rattle.beep_history.specs.Broken.{exchange_rule}
 use Rattle.beep_history.proofs.SoundLemmas.{Sound, IsDue}
 use Rattle.beep_history.proofs.PassedLemmas.{sound}
 use Rattle.beep_exchange.specs.Kept.{Kept, begins, began_kept, replied_kept}
-use Rattle.beep_exchange.specs.Stands.{Life, Stands}
-use Rattle.beep_exchange.proofs.StandsLemmas.{judged-sent, began-sent, passed-sent}
+use Rattle.beep_exchange.specs.Exchange.{Life, IsExchange}
+use Rattle.beep_exchange.proofs.ExchangeLemmas.{judged-sent, began-sent, passed-sent}
 use Rattle.beep_exchange.proofs.AskerLemmas.{count-waiting}
 use Rattle.beep_outbox.specs.Queue.{Message}
 use Rattle.beep_channel.specs.Fits.{Fits, next_number, IsCut, mine_after, theirs_after, left_of, count_after, was_more, IsBegun}
@@ -26,7 +26,7 @@ use Rattle.beep_channel.proofs.FitsLemmas.{the-next, next-judged, next-fits, Beg
 -- ---- a frame
 
 module _ (life : Life) (past : List Item) (channel seqno size ansno place : ℕ) (octets : List ℕ) (ms : List Message) (count : ℕ) (k : Kind)
-    (stands : Stands life past) (counted : count ≡ length (requests Side.Sent past))
+    (stands : IsExchange life past) (counted : count ≡ length (requests Side.Sent past))
     (owed : ℕ) (fits : Fits count owed (record { tag = record { kind = k; request = place; ansno = ansno }; octets = octets } ∷ ms) life.sent life.received)
     (is_cut : IsCut size (record { tag = record { kind = k; request = place; ansno = ansno }; octets = octets })) where
   abbrev pub head : Head
@@ -45,7 +45,7 @@ module _ (life : Life) (past : List Item) (channel seqno size ansno place : ℕ)
   pub head-unbroken : exchange_rule Side.Sent past head ≡ None
   head-unbroken = sym (judged-sent life past stands head) ∙ next-judged life.sent life.received channel seqno size ansno place octets ms count owed k fits is_cut
 
-  pub begun-stands : Stands begun-life (began Side.Sent head ∷ past)
+  pub begun-stands : IsExchange begun-life (began Side.Sent head ∷ past)
   begun-stands = began-sent life past stands head fits.idle (next-judged life.sent life.received channel seqno size ansno place octets ms count owed k fits is_cut)
 
   cut-length : (n : ℕ) (xs : List ℕ) → n ≤ length xs → length (take n xs) ≡ n
@@ -57,7 +57,7 @@ module _ (life : Life) (past : List Item) (channel seqno size ansno place : ℕ)
   sized = cut-length size octets is_cut.within
 
   -- what the exchange keeps stands for the history with the frame
-  pub frame-stands : Stands new-life (passed Side.Sent head payload ∷ began Side.Sent head ∷ past)
+  pub frame-stands : IsExchange new-life (passed Side.Sent head payload ∷ began Side.Sent head ∷ past)
   frame-stands = passed-sent begun-life (began Side.Sent head ∷ past) begun-stands head payload refl sized
 
   -- and the queue fits

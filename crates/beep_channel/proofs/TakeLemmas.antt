@@ -14,7 +14,7 @@ use Rattle.beep_history.proofs.PassedLemmas.{sound}
 use Rattle.beep_exchange.specs.declared.given.Given.{Given}
 use Rattle.beep_exchange.specs.Given.{MayTake, MayTakeOf, after_taken}
 use Rattle.beep_exchange.specs.Kept.{Kept}
-use Rattle.beep_exchange.specs.Stands.{Life}
+use Rattle.beep_exchange.specs.Exchange.{Life}
 use Rattle.beep_exchange.proofs.AskerLemmas.{count-waiting}
 use Rattle.beep_seq.specs.Receiving.{Receiver}
 use Rattle.beep_inbox.specs.declared.part.Part.{Part}

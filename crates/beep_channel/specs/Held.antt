@@ -11,7 +11,7 @@ use Rattle.beep_frame.specs.declared.rule.Rule.{Rule}
 use Rattle.beep_frame.specs.Frame.{head_of, is_ans, is_reply}
 use Rattle.beep_history.specs.declared.limits.TheConstants.{MAX_MESSAGE, MAX_REQUESTS}
 use Rattle.beep_history.specs.Broken.{first_of, with_octets}
-use Rattle.beep_exchange.specs.Stands.{Life}
+use Rattle.beep_exchange.specs.Exchange.{Life}
 use Rattle.beep_exchange.specs.Kept.{Kept, judged, breaks_long, tag_in}
 use Rattle.beep_exchange.specs.Given.{next_asked_now}
 use Rattle.beep_seq.specs.Sending.{Sender}

@@ -14,14 +14,14 @@ use Rattle.beep_history.specs.Journal.{Item, began, passed, told}
 use Rattle.beep_history.specs.Marks.{requests, begins_request, passed_octets, marks, Mark, octet, end, frame_marks, tag_of, mark_modulo_2_64}
 use Rattle.beep_history.specs.Broken.{broken_rule}
 use Rattle.beep_history.specs.Windows.{departures, arrivals, greatest_edge, open_now}
-use Rattle.beep_exchange.specs.Stands.{Stands as ExchangeStands}
+use Rattle.beep_exchange.specs.Exchange.{IsExchange}
 use Rattle.beep_exchange.specs.declared.given.Given.{Given}
 use Rattle.beep_exchange.specs.Given.{ends_reply, message_number}
 use Rattle.beep_exchange.specs.Kept.{Kept, is_open, breaks_empty_answer}
 use Rattle.beep_seq.specs.Wire.{wire_number}
 use Rattle.beep_seq.specs.Due.{is_seq_due}
-use Rattle.beep_seq.specs.Sending.{Stands as SendStands}
-use Rattle.beep_seq.specs.Receiving.{Stands as RecvStands}
+use Rattle.beep_seq.specs.Sending.{IsSender}
+use Rattle.beep_seq.specs.Receiving.{IsReceiver}
 use Rattle.beep_inbox.specs.declared.part.Part.{Part}
 use Rattle.beep_inbox.specs.Runs.{octets_of, marks_of as untaken_marks}
 use Rattle.beep_inbox.specs.Untaken.{IsTaken}
@@ -46,11 +46,11 @@ pub record HasImplied (count : ℕ) (kept : Kept) : Type 0 where
 
 -- what is held is what this history leaves, of a life whose own window has this size
 pub record HeldStands (size : ℕ) (c : Held) (past : List Item) : Type 0 where
-  pub exchange : ExchangeStands c.life past
+  pub exchange : IsExchange c.life past
   pub seqno : c.seqno ≡ wire_number (passed_octets Side.Sent past)
-  pub sends : SendStands c.sends (departures Side.Sent past)
+  pub sends : IsSender c.sends (departures Side.Sent past)
   pub taken : ℕ
-  pub receives : RecvStands c.receives size (arrivals Side.Received taken past)
+  pub receives : IsReceiver c.receives size (arrivals Side.Received taken past)
   pub inbox : c.receives.untaken ≡ octets_of c.inbox
   pub room : (head : Head) → c.life.received.under_way ≡ Some head
       → passed_octets Side.Received past + head.size ≤ greatest_edge Side.Received past

@@ -21,7 +21,7 @@ use Rattle.beep_wires.specs.States.{SourceState}
 use Rattle.beep_cmd.specs.declared.input.TheConstants.{MAX_INPUT}
 use Rattle.beep_cmd.specs.Show.{NoFault, Run}
 use Rattle.beep_cmd.specs.Replay.{IsSession, IsJudgement, fine, peer_fault, own_fault, bad, IsReplayReport, judged, long, unread, Replayed, reported, cut_short, starved, IsLawful}
-use Rattle.beep_cmd.specs.Judging.{verdict_status, verdict_line, TellsLog}
+use Rattle.beep_cmd.specs.Judging.{verdict_status, verdict_line, ReportsLog}
 use Rattle.beep_cmd.proofs.PlaceLemmas.{place_within}
 use Rattle.beep_cmd.proofs.CompleteLemmas.{read_first, at_end}
 
@@ -54,15 +54,15 @@ module _ (octets : List ℕ) (role : Role) (log : List Entry) (within : length o
     by_fault None e v = no_fault_judged e v
     by_fault (Some fault) e v = fault_judged fault fault.side refl e v
 
-  log_judged : (status : ℕ) (old new : List ℕ) → old ≡ [] → TellsLog log status old new → IsJudgement octets new status
+  log_judged : (status : ℕ) (old new : List ℕ) → old ≡ [] → ReportsLog log status old new → IsJudgement octets new status
   log_judged status old new none t =
       let r = t.replays in
       let text_is : new ≡ report r.past ++ verdict_line t.verdict = t.text_is ∙ ap (λ x. x ++ verdict_line t.verdict) (r.text_is ∙ ap (λ x. x ++ report r.past) none) in
       by_fault r.past r.shows t.verdict status new t.status_is text_is r.past.fault refl r.verdict_is
 
-pub log_told : {E : Type 0} (result : Result ℕ E) (octets : List ℕ) (role : Role) (log : List Entry) (old new : List ℕ) → Says octets role log → old ≡ [] → IfOk result (λ status. TellsLog log status old new) → IfOk result (λ status. length octets ≤ MAX_INPUT → IsJudgement octets new status)
-log_told (Ok status) octets role log old new says none t = λ within. log_judged octets role log within says status old new none t
-log_told (Err e) octets role log old new says none t = tt
+pub log_reported : {E : Type 0} (result : Result ℕ E) (octets : List ℕ) (role : Role) (log : List Entry) (old new : List ℕ) → Says octets role log → old ≡ [] → IfOk result (λ status. ReportsLog log status old new) → IfOk result (λ status. length octets ≤ MAX_INPUT → IsJudgement octets new status)
+log_reported (Ok status) octets role log old new says none t = λ within. log_judged octets role log within says status old new none t
+log_reported (Err e) octets role log old new says none t = tt
 
 -- ---- when all went well
 

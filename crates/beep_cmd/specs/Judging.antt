@@ -22,7 +22,7 @@ verdict_line (Verdict.Broken rule place) = broken_line rule place
 verdict_line (Verdict.Written rule place) = written_line rule place
 
 -- the octets gained are the report of a log and the line of its verdict
-pub record TellsLog (log : List Entry) (status : ℕ) (old new : List ℕ) : Type 0 where
+pub record ReportsLog (log : List Entry) (status : ℕ) (old new : List ℕ) : Type 0 where
   pub verdict : Verdict
   pub between : List ℕ
   pub replays : Replays log verdict old between
@@ -30,7 +30,7 @@ pub record TellsLog (log : List Entry) (status : ℕ) (old new : List ℕ) : Typ
   pub text_is : new ≡ between ++ verdict_line verdict
 
 -- the text is a report of what was read, with this status
-pub record TellsInput (status : ℕ) (text : List ℕ) (old new : SourceState) : Type 0 where
+pub record ReportsInput (status : ℕ) (text : List ℕ) (old new : SourceState) : Type 0 where
   pub octets : List ℕ
   pub consumed : Consumes old.left new.left octets
   pub report : IsReplayReport old new octets text status

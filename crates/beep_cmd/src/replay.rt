@@ -2,7 +2,7 @@
 ghost use Rattle.std.specs.Prelude.{◌≡◌, ◌+◌, ◌≤◌, ◌++◌, false, [], length, IfOk, OnErr};
 ghost use Rattle.beep_wires.specs.States.{SourceState, SinkState};
 ghost use Rattle.beep_cmd.specs.Gathering.{ReadsFew};
-ghost use Rattle.beep_cmd.specs.Judging.{TellsLog, TellsInput, verdict_status, verdict_line};
+ghost use Rattle.beep_cmd.specs.Judging.{ReportsLog, ReportsInput, verdict_status, verdict_line};
 ghost use Rattle.beep_cmd.specs.Replay.{Replayed, IsJudgement};
 ghost use Rattle.beep_cmd.specs.Show.{run_of};
 
@@ -30,9 +30,9 @@ pub(crate) fn replay<I: Source, O: Sink>(alloc: Global, input: &mut I, output: &
 
 /// Writes a report, and answers its status.
 fn write_report<O: Sink>(out: &Octets, status: u8, output: &mut O) -> u8
-    ensures wrote { (from to : SourceState) → TellsInput status out.now.octets from to
+    ensures wrote { (from to : SourceState) → ReportsInput status out.now.octets from to
         → Replayed result (run_of from to (O.state output.old) (O.state output.new)) }
-    ensures memory { (from to : SourceState) → TellsInput status out.now.octets from to
+    ensures memory { (from to : SourceState) → ReportsInput status out.now.octets from to
         → result ≡ 7 → output.new ≡ output.old }
 {
     match write_all(output, out.as_slice()) {
@@ -46,7 +46,7 @@ fn tell_input<I: Source>(alloc: Global, input: &mut I, out: &mut Octets) -> Resu
     requires going { (I.state input.old).ended ≡ false }
     requires empty { out.old.octets ≡ [] }
     ensures ok { IfOk result (λ status.
-        TellsInput status out.new.octets (I.state input.old) (I.state input.new)) }
+        ReportsInput status out.new.octets (I.state input.old) (I.state input.new)) }
     ensures err { OnErr result (ReadsFew (I.state input.old) (I.state input.new)) }
     ensures reads { (I.state input.new).reads ≤ (I.state input.old).reads + (MAX_INPUT + 1) }
 {
@@ -87,7 +87,7 @@ fn tell_record(octets: Vec<u8>, out: &mut Octets) -> Result<u8, NoMemory>
 /// Appends the report of a log, and answers its status.
 fn tell_log(log: &Log, out: &mut Octets) -> Result<u8, NoMemory>
     ensures { IfOk result (λ status.
-        TellsLog log.now.entries status out.old.octets out.new.octets) }
+        ReportsLog log.now.entries status out.old.octets out.new.octets) }
 {
     let verdict = beep_record::replay(out.alloc(), log, out)?;
     out.reserve(LAST_ROOM)?;

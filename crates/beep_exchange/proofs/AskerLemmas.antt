@@ -17,7 +17,7 @@ use Rattle.beep_history.proofs.ListsLemmas.{IsNumbered, find-below, earlier-wait
 use Rattle.beep_history.proofs.SoundLemmas.{IsAlike, IsUniform, IsApartFirst, is_open, Sound, requests-numbered, waiting-newest}
 use Rattle.beep_history.proofs.UnbrokenLemmas.{min-less}
 use Rattle.beep_exchange.specs.Kept.{is_current}
-use Rattle.beep_exchange.specs.Stands.{current, kept_of}
+use Rattle.beep_exchange.specs.Exchange.{current, kept_of}
 use Rattle.beep_exchange.proofs.NumbersLemmas.{num, at, has-take, first-is, nth-is}
 
 -- ---- how many wait

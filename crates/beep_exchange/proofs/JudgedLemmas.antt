@@ -20,7 +20,7 @@ use Rattle.beep_history.proofs.SoundLemmas.{Sound, some-of, at-some}
 use Rattle.beep_history.proofs.PassedLemmas.{sound}
 use Rattle.beep_exchange.specs.Kept as kept
 use Rattle.beep_exchange.specs.Kept.{is_current, judged}
-use Rattle.beep_exchange.specs.Stands.{current, answer_of, kept_of}
+use Rattle.beep_exchange.specs.Exchange.{current, answer_of, kept_of}
 use Rattle.beep_exchange.proofs.AskerLemmas.{current-is, current-place, early-place, answered-place, turn-place}
 use Rattle.beep_exchange.proofs.RowsLemmas.{and-cong, or-cong, changes-row, use-row, never-row, has-answers, empty-row}
 

@@ -3,6 +3,6 @@ pub mod AskerLemmas
 pub mod RowsLemmas
 pub mod JudgedLemmas
 pub mod NotedLemmas
-pub mod StandsLemmas
+pub mod ExchangeLemmas
 pub mod GivenLemmas
 pub mod TagLemmas

@@ -21,7 +21,7 @@ use Rattle.beep_history.proofs.UnbrokenLemmas.{min-less}
 use Rattle.beep_history.proofs.PassedLemmas.{reply-grown, answered-ended, answered-on, other-place}
 use Rattle.beep_exchange.specs.declared.answer.Answer.{Answer}
 use Rattle.beep_exchange.specs.Kept.{Kept, added, begun_in, began_kept, passed_kept, replied_kept, grown, continued, completed}
-use Rattle.beep_exchange.specs.Stands.{current, answer_of, octets_so_far, kept_of}
+use Rattle.beep_exchange.specs.Exchange.{current, answer_of, octets_so_far, kept_of}
 use Rattle.beep_exchange.proofs.NumbersLemmas.{num}
 use Rattle.beep_exchange.proofs.AskerLemmas.{count-waiting, current-is}
 use Rattle.beep_exchange.proofs.RowsLemmas.{has-answers, octets-none}

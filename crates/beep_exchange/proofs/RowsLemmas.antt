@@ -17,7 +17,7 @@ use Rattle.beep_history.proofs.SoundLemmas.{Sound, is_open, requests-numbered, w
 use Rattle.beep_exchange.specs.declared.answer.Answer.{Answer}
 use Rattle.beep_exchange.specs.Kept as kept
 use Rattle.beep_exchange.specs.Kept.{is_current, is_early, has_number, octets_in, has_answer}
-use Rattle.beep_exchange.specs.Stands.{current, answer_of, kept_of}
+use Rattle.beep_exchange.specs.Exchange.{current, answer_of, kept_of}
 use Rattle.beep_exchange.proofs.NumbersLemmas.{num, take-num, none-has, has-take, use-is}
 use Rattle.beep_exchange.proofs.AskerLemmas.{count-waiting, current-is, current-number, uniform-any}
 

@@ -17,7 +17,7 @@ use Rattle.beep_history.proofs.KeptLemmas.{pass}
 use Rattle.beep_history.proofs.SoundLemmas.{IsDue, Sound}
 use Rattle.beep_history.proofs.PassedLemmas.{sound}
 use Rattle.beep_exchange.specs.Kept.{Kept, message_in, breaks_long, position_in, tag_in, tag_under_way}
-use Rattle.beep_exchange.specs.Stands.{Life, Stands, current, kept_of}
+use Rattle.beep_exchange.specs.Exchange.{Life, IsExchange, current, kept_of}
 use Rattle.beep_exchange.proofs.AskerLemmas.{count-waiting}
 use Rattle.beep_exchange.proofs.NotedLemmas.{octets-passed}
 use Rattle.beep_exchange.proofs.RowsLemmas.{octets-answers, octets-none}
@@ -193,7 +193,7 @@ long-is side past head u e =
 
 -- ---- the calls, by the parts of the exchange
 
-module _ (life : Life) (past : List Item) (st : Stands life past) where
+module _ (life : Life) (past : List Item) (st : IsExchange life past) where
   pub tag-received : (head : Head) → life.received.under_way ≡ Some head
       → tag_under_way life.received life.sent ≡ Some (modulo_2_64 (tag_of Side.Received past head))
   tag-received head begun =

@@ -1,3 +1,3 @@
 pub mod Kept
 pub mod Given
-pub mod Stands
+pub mod Exchange

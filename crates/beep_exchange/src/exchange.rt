@@ -14,7 +14,7 @@ ghost use Rattle.beep_history.specs.Journal.{Item, began, passed, opening};
 ghost use Rattle.beep_history.specs.Marks.{tag_of, modulo_2_64};
 ghost use Rattle.beep_history.specs.Broken.{breaks_long as breaks_long_over, KeepsShape, exchange_rule};
 ghost use Rattle.beep_exchange.specs.Kept.{begins, breaks_long, tag_under_way, oldest_number, judged};
-ghost use Rattle.beep_exchange.specs.Stands.{Stands};
+ghost use Rattle.beep_exchange.specs.Exchange.{IsExchange};
 ghost use Rattle.beep_exchange.specs.Given.{Call, gave, took, Counts, MayGive, MayTake, MayTakeEnd, new_given, after_given, after_taken, asked_of, first_asked_of, first_owed_of, begun_answers_of, opening_calls, first_asked_now, first_owed_now, next_asked_now};
 
 use crate::given::Given;
@@ -33,7 +33,7 @@ pub struct Exchange {
 }
 
 impl Model for Exchange {
-    ghost use Rattle.beep_exchange.specs.Stands.{Life};
+    ghost use Rattle.beep_exchange.specs.Exchange.{Life};
 
     ghost Value = { Life };
 
@@ -45,7 +45,7 @@ impl Exchange {
     /// passed. It takes room
     /// for all that it will ever keep.
     pub fn new(alloc: Global, zero: bool) -> Result<Exchange, NoMemory>
-        ensures stands { IfOk result (λ life. Stands life (if zero then opening else [])) }
+        ensures stands { IfOk result (λ life. IsExchange life (if zero then opening else [])) }
         ensures calls { IfOk result (λ life.
             Counts life.given (if zero then opening_calls else [])) }
         ensures given { IfOk result (λ life. life.given ≡ new_given zero) }
@@ -68,7 +68,7 @@ impl Exchange {
     /// The first rule on requests and replies that a received header breaks.
     pub fn judge_in(&self, head: &Head) -> Option<Rule>
         ensures value { result ≡ judged self.now.received self.now.sent head.now }
-        ensures stands { (past : List Item) → Stands self.now past
+        ensures stands { (past : List Item) → IsExchange self.now past
             → result ≡ exchange_rule Side.Received past head.now }
     {
         self.received.judge(&self.sent, head)
@@ -77,7 +77,7 @@ impl Exchange {
     /// The first rule on requests and replies that a header of this end breaks.
     pub fn judge_out(&self, head: &Head) -> Option<Rule>
         ensures value { result ≡ judged self.now.sent self.now.received head.now }
-        ensures stands { (past : List Item) → Stands self.now past
+        ensures stands { (past : List Item) → IsExchange self.now past
             → result ≡ exchange_rule Side.Sent past head.now }
     {
         self.sent.judge(&self.received, head)
@@ -86,7 +86,7 @@ impl Exchange {
     /// Whether a received header makes a message of a channel above zero too long.
     pub fn is_long_in(&self, head: &Head) -> bool
         ensures value { result ≡ breaks_long self.now.received self.now.sent head.now }
-        ensures stands { (past : List Item) → Stands self.now past
+        ensures stands { (past : List Item) → IsExchange self.now past
             → KeepsShape Side.Received past head.now
             → result ≡ breaks_long_over Side.Received past head.now }
     {
@@ -96,7 +96,7 @@ impl Exchange {
     /// Whether a header of this end makes a message of a channel above zero too long.
     pub fn is_long_out(&self, head: &Head) -> bool
         ensures value { result ≡ breaks_long self.now.sent self.now.received head.now }
-        ensures stands { (past : List Item) → Stands self.now past
+        ensures stands { (past : List Item) → IsExchange self.now past
             → KeepsShape Side.Sent past head.now
             → result ≡ breaks_long_over Side.Sent past head.now }
     {
@@ -106,7 +106,7 @@ impl Exchange {
     /// The tag of the received frame under way, its position modulo 2^64.
     pub fn tag_in(&self) -> Option<Tag>
         ensures value { result ≡ tag_under_way self.now.received self.now.sent }
-        ensures stands { (past : List Item) (head : HeadValue) → Stands self.now past
+        ensures stands { (past : List Item) (head : HeadValue) → IsExchange self.now past
             → self.now.received.under_way ≡ Some head
             → result ≡ Some (modulo_2_64 (tag_of Side.Received past head)) }
     {
@@ -116,7 +116,7 @@ impl Exchange {
     /// The tag of the frame of this end under way, its position modulo 2^64.
     pub fn tag_out(&self) -> Option<Tag>
         ensures value { result ≡ tag_under_way self.now.sent self.now.received }
-        ensures stands { (past : List Item) (head : HeadValue) → Stands self.now past
+        ensures stands { (past : List Item) (head : HeadValue) → IsExchange self.now past
             → self.now.sent.under_way ≡ Some head
             → result ≡ Some (modulo_2_64 (tag_of Side.Sent past head)) }
     {
@@ -176,8 +176,8 @@ impl Exchange {
     pub fn note_in(&mut self, head: &Head)
         requires judged { judged self.old.received self.old.sent head.now ≡ None }
         requires whole { self.old.received.under_way ≡ None }
-        ensures stands { (past : List Item) → Stands self.old past
-            → Stands self.new (began Side.Received head.now ∷ past) }
+        ensures stands { (past : List Item) → IsExchange self.old past
+            → IsExchange self.new (began Side.Received head.now ∷ past) }
         ensures begun { self.new.received.under_way ≡ Some head.now }
         ensures sent { self.new.sent ≡ self.old.sent }
         ensures given { self.new.given ≡ self.old.given }
@@ -189,9 +189,9 @@ impl Exchange {
     pub fn note_whole(&mut self)
         requires begun { IsSome self.old.received.under_way }
         ensures stands { (past : List Item) (head : HeadValue) (payload : List ℕ)
-            → Stands self.old past → self.old.received.under_way ≡ Some head
+            → IsExchange self.old past → self.old.received.under_way ≡ Some head
             → length payload ≡ head.size
-            → Stands self.new (passed Side.Received head payload ∷ past) }
+            → IsExchange self.new (passed Side.Received head payload ∷ past) }
         ensures whole { self.new.received.under_way ≡ None }
         ensures sent { self.new.sent.under_way ≡ self.old.sent.under_way }
         ensures given { self.new.given ≡ self.old.given }
@@ -207,8 +207,8 @@ impl Exchange {
     pub fn note_out(&mut self, head: &Head)
         requires judged { judged self.old.sent self.old.received head.now ≡ None }
         requires whole { self.old.sent.under_way ≡ None }
-        ensures stands { (past : List Item) → Stands self.old past
-            → Stands self.new (began Side.Sent head.now ∷ past) }
+        ensures stands { (past : List Item) → IsExchange self.old past
+            → IsExchange self.new (began Side.Sent head.now ∷ past) }
         ensures begun { self.new.sent.under_way ≡ Some head.now }
         ensures received { self.new.received ≡ self.old.received }
         ensures given { self.new.given ≡ self.old.given }
@@ -220,9 +220,9 @@ impl Exchange {
     pub fn note_sent(&mut self)
         requires begun { IsSome self.old.sent.under_way }
         ensures stands { (past : List Item) (head : HeadValue) (payload : List ℕ)
-            → Stands self.old past → self.old.sent.under_way ≡ Some head
+            → IsExchange self.old past → self.old.sent.under_way ≡ Some head
             → length payload ≡ head.size
-            → Stands self.new (passed Side.Sent head payload ∷ past) }
+            → IsExchange self.new (passed Side.Sent head payload ∷ past) }
         ensures whole { self.new.sent.under_way ≡ None }
         ensures received { self.new.received.under_way ≡ self.old.received.under_way }
         ensures given { self.new.given ≡ self.old.given }

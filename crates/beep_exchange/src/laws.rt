@@ -7,12 +7,12 @@ ghost use Rattle.beep_frame.specs.declared.tag.Tag.{Tag};
 ghost use Rattle.beep_history.specs.Marks.{modulo_2_64};
 ghost use Rattle.beep_exchange.specs.declared.given.Given.{Given};
 ghost use Rattle.beep_exchange.specs.Given.{Call, Counts, MayTake, MayTakeEnd};
-ghost use Rattle.beep_exchange.specs.Stands.{Life, Stands};
+ghost use Rattle.beep_exchange.specs.Exchange.{Life, IsExchange};
 
 /// A SEQ changes nothing that an exchange keeps.
 pub fn a_seq_changes_nothing()
-    ensures { (life : Life) (past : List Item) (by : Side) (seq : Seq) → Stands life past
-        → Stands life (told by seq ∷ past) }
+    ensures { (life : Life) (past : List Item) (by : Side) (seq : Seq) → IsExchange life past
+        → IsExchange life (told by seq ∷ past) }
 {}
 
 /// What may be taken by the calls made may be taken by what is kept.

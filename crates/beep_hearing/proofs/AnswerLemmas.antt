@@ -22,7 +22,7 @@ use Rattle.beep_standing.specs.Standing.{Marks, AreLiveBy}
 use Rattle.beep_standing.proofs.ArriveLemmas.{idle-each, is-each}
 use Rattle.beep_hearing.specs.declared.heard.Heard.{Heard}
 use Rattle.beep_hearing.specs.declared.ear.Ear.{Ear}
-use Rattle.beep_hearing.specs.Hears.{Stands, Passes}
+use Rattle.beep_hearing.specs.Hears.{IsEar, Passes}
 use Rattle.beep_hearing.specs.Answers.{Answers}
 use Rattle.beep_hearing.specs.Left.{HasRoom, IfUnderOf, IfUnder, MayPass, Gathers, IsWhole, heard_by, last_place, stopped_at}
 use Rattle.beep_hearing.proofs.StepLemmas.{goes_head, goes_seq, goes_above, goes_part, goes_zero, breaks_head, breaks_seq}
@@ -51,7 +51,7 @@ pub some_used : (step : Step) (count : ℕ) → (0 < count) ⊎ IsTrue (is_broke
 some_used step count (inl some) not_broken = some
 some_used step count (inr broken) not_broken = absurd (cc (sym broken ∙ not_broken))
 
-module _ (size : ℕ) (fed rest : List ℕ) (journal : List Item) (given taken : Marks) (old : Ear) (channels : List Live) (s : Stands size fed rest journal given taken old channels)
+module _ (size : ℕ) (fed rest : List ℕ) (journal : List Item) (given taken : Marks) (old : Ear) (channels : List Live) (s : IsEar size fed rest journal given taken old channels)
     (decoder : DecoderState) (used : ℕ) (octets : List ℕ) (used_is : used ≡ modulo_2_64 (old.used + length octets)) (max : decoder.tracker.max ≡ old.decoder.tracker.max) where
   abbrev now : Ear
   now = record old { decoder = decoder; used = used }

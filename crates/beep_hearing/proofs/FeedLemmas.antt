@@ -11,12 +11,12 @@ use Rattle.beep_channel.specs.Held.{Live}
 use Rattle.beep_standing.specs.Standing.{Marks, AreLiveBy}
 use Rattle.beep_hearing.specs.declared.heard.Heard.{Heard}
 use Rattle.beep_hearing.specs.declared.ear.Ear.{Ear}
-use Rattle.beep_hearing.specs.Hears.{Stands, Waits, BreaksAt, MayJoin, Join, Brings, Goes, Arrives}
+use Rattle.beep_hearing.specs.Hears.{IsEar, Waits, BreaksAt, MayJoin, Join, Brings, Goes, Arrives}
 use Rattle.beep_hearing.specs.Answers.{Answers, IsHeld}
 
 -- nothing was used
 pub goes_none : (size : ℕ) (fed rest : List ℕ) (journal : List Item) (given taken : Marks) (ear : Ear) (channels : List Live)
-    → Stands size fed rest journal given taken ear channels → Goes size [] fed journal given taken ear channels
+    → IsEar size fed rest journal given taken ear channels → Goes size [] fed journal given taken ear channels
 goes_none size fed rest journal given taken ear channels s = record {
   gained = [];
   brings = record {
@@ -24,14 +24,14 @@ goes_none size fed rest journal given taken ear channels s = record {
     rest = rest;
     taken_now = taken;
     same = λ n above. refl;
-    stands = subst (λ (f : List ℕ). Stands size f rest journal given taken ear channels) (sym (append-nil fed)) s;
+    stands = subst (λ (f : List ℕ). IsEar size f rest journal given taken ear channels) (sym (append-nil fed)) s;
   };
 }
 
 -- room was made
 pub stands_roomed : (size : ℕ) (fed rest : List ℕ) (journal : List Item) (given taken : Marks) (ear : Ear) (channels later : List Live)
-    → Stands size fed rest journal given taken ear channels → (AreLiveBy size journal given taken channels → AreLiveBy size journal given taken later)
-    → Stands size fed rest journal given taken ear later
+    → IsEar size fed rest journal given taken ear channels → (AreLiveBy size journal given taken channels → AreLiveBy size journal given taken later)
+    → IsEar size fed rest journal given taken ear later
 stands_roomed size fed rest journal given taken ear channels later s room = record { hears = s.hears; live = room s.live; zero = s.zero }
 
 pub goes_roomed : (size : ℕ) (octets fed : List ℕ) (journal : List Item) (given taken : Marks) (ear : Ear) (channels later : List Live)
@@ -66,7 +66,7 @@ module _ (size : ℕ) (one two fed : List ℕ) (journal : List Item) (given take
     rest = b.rest;
     taken_now = b.taken_now;
     same = λ n above. b.same n above ∙ g.brings.same n above;
-    stands = subst₂ (λ (f : List ℕ) (j : List Item). Stands size f b.rest j given b.taken_now new later) (append_assoc fed one two) (sym (append_assoc gained g.gained journal)) b.stands;
+    stands = subst₂ (λ (f : List ℕ) (j : List Item). IsEar size f b.rest j given b.taken_now new later) (append_assoc fed one two) (sym (append_assoc gained g.gained journal)) b.stands;
   }
 
   pub goes_both : Goes size two (fed ++ one) (g.gained ++ journal) given mid new later → Goes size (one ++ two) fed journal given taken new later
@@ -115,26 +115,26 @@ module _ (size : ℕ) (one two fed : List ℕ) (journal : List Item) (given take
 -- ---- something is stood for
 
 pub held_after : (old new : Ear) (channels later : List Live) (octets : List ℕ)
-    → ((size : ℕ) (fed rest : List ℕ) (journal : List Item) (given taken : Marks) → Stands size fed rest journal given taken old channels → Goes size octets fed journal given taken new later)
+    → ((size : ℕ) (fed rest : List ℕ) (journal : List Item) (given taken : Marks) → IsEar size fed rest journal given taken old channels → Goes size octets fed journal given taken new later)
     → IsHeld old channels → IsHeld new later
 held_after old new channels later octets goes held =
-    ∥∥₁_map {A = (size : ℕ) × (fed : List ℕ) × (rest : List ℕ) × (journal : List Item) × (given : Marks) × (taken : Marks) × Stands size fed rest journal given taken old channels}
-    {B = (size : ℕ) × (fed : List ℕ) × (rest : List ℕ) × (journal : List Item) × (given : Marks) × (taken : Marks) × Stands size fed rest journal given taken new later} held
+    ∥∥₁_map {A = (size : ℕ) × (fed : List ℕ) × (rest : List ℕ) × (journal : List Item) × (given : Marks) × (taken : Marks) × IsEar size fed rest journal given taken old channels}
+    {B = (size : ℕ) × (fed : List ℕ) × (rest : List ℕ) × (journal : List Item) × (given : Marks) × (taken : Marks) × IsEar size fed rest journal given taken new later} held
     (λ s. let g = goes s.0 s.1 s.2 s.3 s.4 s.5 s.6 in (s.0, s.1 ++ octets, g.brings.rest, g.gained ++ s.3, s.4, g.brings.taken_now, g.brings.stands))
 
 pub held_roomed : (ear : Ear) (channels later : List Live)
     → ((size : ℕ) (journal : List Item) (given taken : Marks) → AreLiveBy size journal given taken channels → AreLiveBy size journal given taken later)
     → IsHeld ear channels → IsHeld ear later
 held_roomed ear channels later room held =
-    ∥∥₁_map {A = (size : ℕ) × (fed : List ℕ) × (rest : List ℕ) × (journal : List Item) × (given : Marks) × (taken : Marks) × Stands size fed rest journal given taken ear channels}
-    {B = (size : ℕ) × (fed : List ℕ) × (rest : List ℕ) × (journal : List Item) × (given : Marks) × (taken : Marks) × Stands size fed rest journal given taken ear later} held
+    ∥∥₁_map {A = (size : ℕ) × (fed : List ℕ) × (rest : List ℕ) × (journal : List Item) × (given : Marks) × (taken : Marks) × IsEar size fed rest journal given taken ear channels}
+    {B = (size : ℕ) × (fed : List ℕ) × (rest : List ℕ) × (journal : List Item) × (given : Marks) × (taken : Marks) × IsEar size fed rest journal given taken ear later} held
     (λ s. (s.0, s.1, s.2, s.3, s.4, s.5, stands_roomed s.0 s.1 s.2 s.3 s.4 s.5 ear channels later s.6 (room s.0 s.3 s.4 s.5)))
 
 -- a step after what went before, once room was made
 pub step_answers : (bytes : List ℕ) (at count : ℕ) (heard : Heard) (ear new : Ear) (channels roomed later : List Live) (size : ℕ) (fed : List ℕ) (journal : List Item) (given taken : Marks)
     → Goes size (take at bytes) fed journal given taken ear channels
     → ((size : ℕ) (journal : List Item) (given taken : Marks) → AreLiveBy size journal given taken channels → AreLiveBy size journal given taken roomed)
-    → ((size : ℕ) (fed rest : List ℕ) (journal : List Item) (given taken : Marks) → Stands size fed rest journal given taken ear roomed
+    → ((size : ℕ) (fed rest : List ℕ) (journal : List Item) (given taken : Marks) → IsEar size fed rest journal given taken ear roomed
     → Answers heard size (take count (take (length bytes - at) (drop at bytes))) fed journal given taken new later)
     → Answers heard size (take (at + count) bytes) fed journal given taken new later
 step_answers bytes at count heard ear new channels roomed later size fed journal given taken g room answers =
@@ -147,7 +147,7 @@ step_answers bytes at count heard ear new channels roomed later size fed journal
 -- something is still stood for
 pub step_held : (octets : List ℕ) (heard : Heard) (ear new : Ear) (channels roomed later : List Live) → heard ≡ Heard.More
     → ((size : ℕ) (journal : List Item) (given taken : Marks) → AreLiveBy size journal given taken channels → AreLiveBy size journal given taken roomed)
-    → ((size : ℕ) (fed rest : List ℕ) (journal : List Item) (given taken : Marks) → Stands size fed rest journal given taken ear roomed → Answers heard size octets fed journal given taken new later)
+    → ((size : ℕ) (fed rest : List ℕ) (journal : List Item) (given taken : Marks) → IsEar size fed rest journal given taken ear roomed → Answers heard size octets fed journal given taken new later)
     → IsHeld ear channels → IsHeld new later
 step_held octets heard ear new channels roomed later more room answers held =
     held_after ear new roomed later octets

@@ -25,7 +25,7 @@ use Rattle.beep_journal.proofs.JournalLemmas.{above-zero}
 use Rattle.beep_channel.specs.Held.{Live}
 use Rattle.beep_standing.specs.Standing.{Marks, AreLiveBy}
 use Rattle.beep_hearing.specs.declared.ear.Ear.{Ear}
-use Rattle.beep_hearing.specs.Hears.{IsText, IsFed, Stands, BreaksAt, Goes, Arrives, EndsZero, Passes, Breaks}
+use Rattle.beep_hearing.specs.Hears.{IsText, IsFed, IsEar, BreaksAt, Goes, Arrives, EndsZero, Passes, Breaks}
 use Rattle.beep_hearing.specs.Left.{HasRoom, stopped_at, last_place}
 
 used_more : (fed taken : List ℕ) (old new : ℕ) → old ≡ modulo_2_64 (length fed) → new ≡ modulo_2_64 (old + length taken) → new ≡ modulo_2_64 (length (fed ++ taken))
@@ -92,7 +92,7 @@ ends (octet ∷ next ∷ octets) some =
     let rest = ends (next ∷ octets) (omega arith) in
     record { before = octet ∷ rest.before; last = rest.last; whole = ap (λ x. octet ∷ x) rest.whole }
 
-module _ (size : ℕ) (fed rest : List ℕ) (journal : List Item) (given taken : Marks) (old : Ear) (channels : List Live) (s : Stands size fed rest journal given taken old channels)
+module _ (size : ℕ) (fed rest : List ℕ) (journal : List Item) (given taken : Marks) (old : Ear) (channels : List Live) (s : IsEar size fed rest journal given taken old channels)
     (decoder : DecoderState) (used : ℕ) (octets : List ℕ) (used_is : used ≡ modulo_2_64 (old.used + length octets)) (max : decoder.tracker.max ≡ old.decoder.tracker.max) where
   -- the ear once the decoder has read the octets
   abbrev read : Ear

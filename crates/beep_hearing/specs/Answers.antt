@@ -6,7 +6,7 @@ use Rattle.beep_channel.specs.Held.{Live}
 use Rattle.beep_standing.specs.Standing.{Marks}
 use Rattle.beep_hearing.specs.declared.heard.Heard.{Heard}
 use Rattle.beep_hearing.specs.declared.ear.Ear.{Ear}
-use Rattle.beep_hearing.specs.Hears.{Stands, Goes, Arrives, EndsZero, Breaks}
+use Rattle.beep_hearing.specs.Hears.{IsEar, Goes, Arrives, EndsZero, Breaks}
 
 -- what the answer says of the octets used
 abbrev pub Answers : Heard → ℕ → List ℕ → List ℕ → List Item → Marks → Marks → Ear → List Live
@@ -26,7 +26,7 @@ Answers Heard.NoMemory size octets fed journal given taken ear channels =
 abbrev pub IsHeld : Ear → List Live → Type 0
 IsHeld ear channels =
     ∥ ((size : ℕ) × (fed : List ℕ) × (rest : List ℕ) × (journal : List Item) × (given : Marks)
-    × (taken : Marks) × Stands size fed rest journal given taken ear channels) ∥₁
+    × (taken : Marks) × IsEar size fed rest journal given taken ear channels) ∥₁
 
 -- they do, where no rule was broken and no message of channel zero waits
 abbrev pub IsReached : Ear → List Live → Type 0

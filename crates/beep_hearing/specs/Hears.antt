@@ -60,7 +60,7 @@ IsZeroTaken journal taken =
     taken 0 ≡ map mark_modulo_2_64 (marks Side.Received (zero_history journal))
 
 -- an ear and the live channels stand for the octets that were fed and for a journal
-pub record Stands (size : ℕ) (fed rest : List ℕ) (journal : List Item) (given taken : Marks)
+pub record IsEar (size : ℕ) (fed rest : List ℕ) (journal : List Item) (given taken : Marks)
     (ear : Ear) (channels : List Live) : Type 0 where
   pub hears : Hears fed rest journal ear
   pub live : AreLiveBy size journal given taken channels
@@ -142,7 +142,7 @@ pub record Brings (size : ℕ) (octets fed : List ℕ) (journal gained : List It
   pub rest : List ℕ
   pub taken_now : Marks
   pub same : SameAbove taken taken_now
-  pub stands : Stands size (fed ++ octets) rest (gained ++ journal) given taken_now ear channels
+  pub stands : IsEar size (fed ++ octets) rest (gained ++ journal) given taken_now ear channels
 
 -- these octets brought some items
 pub record Goes (size : ℕ) (octets fed : List ℕ) (journal : List Item) (given taken : Marks)

@@ -38,7 +38,7 @@ impl Ear {
     ghost use Rattle.beep_frame.specs.Modulo.{modulo_2_64};
     ghost use Rattle.beep_hearing.specs.declared.heard.Heard.{Heard as HeardValue};
     ghost use Rattle.beep_hearing.specs.declared.stopped.Stopped.{Stopped as StoppedValue};
-    ghost use Rattle.beep_hearing.specs.Hears.{Hears, Stands, Waits, Passes};
+    ghost use Rattle.beep_hearing.specs.Hears.{Hears, IsEar, Waits, Passes};
     ghost use Rattle.beep_hearing.specs.Answers.{Answers, IsHeld, IsReached};
     ghost use Rattle.beep_hearing.specs.Left.{IfUnder, IsWhole, MayPass, Gathers, heard_by, last_place, stopped_at};
 
@@ -234,7 +234,7 @@ impl Ear {
         ensures progress { result.1 ≡ HeardValue.More → 0 < result.0 }
         ensures answers { (size : ℕ) (fed rest : List ℕ) (journal : List Item)
             (given taken : Marks)
-            → Stands size fed rest journal given taken self.old lives.old
+            → IsEar size fed rest journal given taken self.old lives.old
             → Answers result.1 size (take result.0 bytes.now) fed journal given taken
             self.new lives.new }
     {
@@ -291,7 +291,7 @@ impl Ear {
         ensures within { result.0 ≤ length bytes.now }
         ensures answers { (size : ℕ) (fed rest : List ℕ) (journal : List Item)
             (given taken : Marks)
-            → Stands size fed rest journal given taken self.old lives.old
+            → IsEar size fed rest journal given taken self.old lives.old
             → Answers result.1 size (take result.0 bytes.now) fed journal given taken
             self.new lives.new }
         ensures all { result.1 ≡ HeardValue.More → result.0 ≡ length bytes.now }

@@ -3,7 +3,7 @@ use Rattle.std.proofs.Common.{◌≡◌, ℕ, ◌+◌, max, List, ◌∷◌, ref
 use Rattle.beep_frame.specs.declared.head.Head.{Head}
 use Rattle.beep_frame.specs.declared.seq.Seq.{Seq}
 use Rattle.beep_seq.specs.Sending.{after_seq}
-use Rattle.beep_seq.specs.Receiving.{Receiver, Stands, full_edge, full_of}
+use Rattle.beep_seq.specs.Receiving.{Receiver, IsReceiver, full_edge, full_of}
 use Rattle.beep_history.specs.declared.journal.Side.{Side}
 use Rattle.beep_history.specs.Journal.{Item, passed, told, other}
 use Rattle.beep_history.specs.Marks.{passed_octets}
@@ -36,7 +36,7 @@ edge-told Side.Sent past seq = refl
 
 -- a full SEQ sets the edge a window past what was taken
 pub arrivals-told : (window : Receiver) (size : ℕ) (side : Side) (taken : ℕ) (past : List Item) (seq : Seq)
-    → Stands window size (arrivals side taken past) → seq.window ≡ (full_of window).1
+    → IsReceiver window size (arrivals side taken past) → seq.window ≡ (full_of window).1
     → arrivals side taken (told (other side) seq ∷ past) ≡ record (arrivals side taken past) { edge = full_edge size (arrivals side taken past) }
 arrivals-told window size side taken past seq s full =
     ap (λ (n : ℕ). record (arrivals side taken past) { edge = n }) (edge-told side past seq ∙ edge)

@@ -9,7 +9,7 @@ ghost use Rattle.beep_history.specs.declared.journal.Side.{Side};
 ghost use Rattle.beep_frame.specs.declared.seq.Seq.{Seq};
 ghost use Rattle.beep_frame.specs.Frame.{is_reply};
 ghost use Rattle.beep_seq.specs.Sending.{after_seq};
-ghost use Rattle.beep_seq.specs.Receiving.{Receiver, Stands, full_edge, full_of};
+ghost use Rattle.beep_seq.specs.Receiving.{Receiver, IsReceiver, full_edge, full_of};
 ghost use Rattle.beep_history.specs.Journal.{Item, passed, told, other, mirrored};
 ghost use Rattle.beep_history.specs.Windows.{departures, greatest_edge, arrivals};
 ghost use Rattle.beep_history.specs.Marks.{Request, requests, waiting, is_whole, is_answered, reply, frames, passed_octets, position_of, marks};
@@ -105,7 +105,7 @@ pub fn items_give_the_counts_of_windows()
         ≡ record (arrivals side taken past) { received = passed_octets side past + head.size } }
     ensures advertised { (window : Receiver) (size : ℕ) (side : Side) (taken : ℕ)
         (past : List Item) (seq : Seq)
-        → Stands window size (arrivals side taken past) → seq.window ≡ (full_of window).1
+        → IsReceiver window size (arrivals side taken past) → seq.window ≡ (full_of window).1
         → arrivals side taken (told (other side) seq ∷ past)
         ≡ record (arrivals side taken past) { edge = full_edge size (arrivals side taken past) } }
 {}

@@ -12,8 +12,8 @@ use Rattle.beep_history.specs.Broken.{first_of, shape_rules, octet_rules, broken
 use Rattle.beep_history.specs.Windows.{greatest_edge, window_edge}
 use Rattle.beep_history.proofs.RulesLemmas.{octets-between, exchange-shape}
 use Rattle.beep_history.proofs.KeptLemmas.{pass}
-use Rattle.beep_exchange.specs.Stands.{Stands}
-use Rattle.beep_exchange.specs.Stands as stands
+use Rattle.beep_exchange.specs.Exchange.{IsExchange}
+use Rattle.beep_exchange.specs.Exchange as stands
 use Rattle.beep_judge.specs.declared.flow.Flow.{Flow}
 use Rattle.beep_judge.specs.declared.life.Life.{Life}
 use Rattle.beep_judge.specs.Flows.{IsFlow}
@@ -98,7 +98,7 @@ module _ (side : Side) (past : List Item) (head : Head) where
 -- ---- the items
 
 module _ (life : Life) (past : List Item) (s : IsLife life past) where
-  pub began-in : (exchange : stands.Life) (head : Head) → broken_rule Side.Received past head ≡ None → Stands exchange (began Side.Received head ∷ past)
+  pub began-in : (exchange : stands.Life) (head : Head) → broken_rule Side.Received past head ≡ None → IsExchange exchange (began Side.Received head ∷ past)
       → IsLife (record { exchange = exchange; read = life.read; room = life.room; written = life.written; window = life.window; stamp = life.stamp }) (began Side.Received head ∷ past)
   began-in exchange head none x =
       let within = keeps-window Side.Received past head none in
@@ -112,7 +112,7 @@ module _ (life : Life) (past : List Item) (s : IsLife life past) where
         window = s.window;
       }
 
-  pub began-out : (exchange : stands.Life) (head : Head) → Stands exchange (began Side.Sent head ∷ past)
+  pub began-out : (exchange : stands.Life) (head : Head) → IsExchange exchange (began Side.Sent head ∷ past)
       → IsLife (record { exchange = exchange; read = life.read; room = life.room; written = life.written; window = life.window; stamp = life.stamp }) (began Side.Sent head ∷ past)
   began-out exchange head x =
       record {
@@ -125,19 +125,19 @@ module _ (life : Life) (past : List Item) (s : IsLife life past) where
       }
 
   pub began-in-at : (side : Side) → side ≡ Side.Received → (exchange : stands.Life) (head : Head) → broken_rule side past head ≡ None
-      → Stands exchange (began Side.Received head ∷ past)
+      → IsExchange exchange (began Side.Received head ∷ past)
       → IsLife (record { exchange = exchange; read = life.read; room = life.room; written = life.written; window = life.window; stamp = life.stamp }) (began side head ∷ past)
   began-in-at Side.Received e exchange head none x = began-in exchange head none x
   began-in-at Side.Sent e exchange head none x = cc
 
-  pub began-out-at : (side : Side) → side ≡ Side.Sent → (exchange : stands.Life) (head : Head) → Stands exchange (began Side.Sent head ∷ past)
+  pub began-out-at : (side : Side) → side ≡ Side.Sent → (exchange : stands.Life) (head : Head) → IsExchange exchange (began Side.Sent head ∷ past)
       → IsLife (record { exchange = exchange; read = life.read; room = life.room; written = life.written; window = life.window; stamp = life.stamp }) (began side head ∷ past)
   began-out-at Side.Received e exchange head x = cc
   began-out-at Side.Sent e exchange head x = began-out exchange head x
 
 -- ---- a new life
 
-pub new-life : (zero : Bool) (exchange : stands.Life) (read written : Flow) (stamp : ℕ) → Stands exchange (if zero then opening else [])
+pub new-life : (zero : Bool) (exchange : stands.Life) (read written : Flow) (stamp : ℕ) → IsExchange exchange (if zero then opening else [])
     → ((side : Side) → IsFlow read side []) → ((side : Side) → IsFlow read side opening)
     → ((side : Side) → IsFlow written side []) → ((side : Side) → IsFlow written side opening)
     → IsLife (record { exchange = exchange; read = read; room = 4096; written = written; window = 4096; stamp = stamp }) (if zero then opening else [])

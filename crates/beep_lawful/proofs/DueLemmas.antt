@@ -5,7 +5,7 @@ use Rattle.beep_frame.specs.declared.rule.Rule.{Rule}
 use Rattle.beep_frame.specs.declared.seq.Seq.{Seq}
 use Rattle.beep_seq.specs.Wire.{wire_number, count_from}
 use Rattle.beep_seq.specs.Due.{is_seq_due}
-use Rattle.beep_seq.specs.Receiving.{Receiver, Stands, full_seq, due_seq}
+use Rattle.beep_seq.specs.Receiving.{Receiver, IsReceiver, full_seq, due_seq}
 use Rattle.beep_history.specs.declared.journal.Side.{Side}
 use Rattle.beep_history.specs.Journal.{Item}
 use Rattle.beep_history.specs.Marks.{passed_octets}
@@ -63,7 +63,7 @@ at-most : (a b : ℕ) → a ≤ b → nat_le a b ≡ true
 at-most a b h = grind (arith, nat_tests)
 
 module _ (terms : Terms) (tunes : Tuning) (journal past : List Item) (number taken : ℕ) (window : Receiver)
-    (stands : Stands window terms.window (arrivals Side.Received taken past)) (greeted : is_greeted journal ≡ true)
+    (stands : IsReceiver window terms.window (arrivals Side.Received taken past)) (greeted : is_greeted journal ≡ true)
     (opens : is_seq_due terms.window taken (greatest_edge Side.Received past) ≡ true) where
   -- it says what is so, and is called for
   full-right : is_right_seq terms tunes journal past (full terms.window taken number (passed_octets Side.Received past)) ≡ true
@@ -114,7 +114,7 @@ full-lawful terms tunes journal seq apart unbroken right tuning after there =
     by a b c d e f p q r s t u = rw (p, q, r, s, t, u) refl
 
 pub due-lawful : (terms : Terms) (tunes : Tuning) (journal : List Item) (number taken : ℕ) (window : Receiver) (seq : Seq) → IsLawful terms tunes journal
-    → Stands window terms.window (arrivals Side.Received taken (history number journal)) → due terms.window taken number journal ≡ Some seq
+    → IsReceiver window terms.window (arrivals Side.Received taken (history number journal)) → due terms.window taken number journal ≡ Some seq
     → is_apart journal ≡ false → is_tuning tunes journal ≡ false → breaks_after_end tunes journal ≡ false
     → unlawful_seq terms tunes journal seq ≡ None
 due-lawful terms tunes journal number taken window seq l stands e apart tuning after =

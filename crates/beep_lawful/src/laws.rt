@@ -4,7 +4,7 @@ ghost use Rattle.std.specs.Prelude.{◌≡◌, ◌≤◌, ℕ, List, ◌∷◌, 
 ghost use Rattle.beep_frame.specs.declared.head.Head.{Head};
 ghost use Rattle.beep_frame.specs.declared.seq.Seq.{Seq};
 ghost use Rattle.beep_seq.specs.Wire.{wire_number};
-ghost use Rattle.beep_seq.specs.Receiving.{Receiver, Stands};
+ghost use Rattle.beep_seq.specs.Receiving.{Receiver, IsReceiver};
 ghost use Rattle.beep_history.specs.declared.journal.Side.{Side};
 ghost use Rattle.beep_history.specs.Journal.{Item, began, passed, told};
 ghost use Rattle.beep_history.specs.Marks.{passed_octets};
@@ -49,7 +49,7 @@ pub fn a_lawful_seq_moves_no_edge_left()
 pub fn what_is_due_is_lawful()
     ensures { (terms : Terms) (tunes : Tuning) (journal : List Item) (number taken : ℕ)
         (window : Receiver) (seq : Seq) → IsLawful terms tunes journal
-        → Stands window terms.window (arrivals Side.Received taken (history number journal))
+        → IsReceiver window terms.window (arrivals Side.Received taken (history number journal))
         → due terms.window taken number journal ≡ Some seq
         → is_apart journal ≡ false → is_tuning tunes journal ≡ false
         → breaks_after_end tunes journal ≡ false

@@ -4,8 +4,8 @@ use Rattle.std.proofs.lemmas.List.{take-append-le, drop-append-le, take_all, rev
 use Rattle.std.proofs.Math.Seq.{drop-append_seam}
 use Rattle.std.specs.List.{slice_range}
 use Rattle.beep_wires.specs.Log.{Event}
-use Rattle.beep_memory.specs.declared.told.Deed.{Deed}
-use Rattle.beep_memory.specs.declared.told.Mark.{Mark}
+use Rattle.beep_memory.specs.declared.events.Deed.{Deed}
+use Rattle.beep_memory.specs.declared.events.Mark.{Mark}
 use Rattle.beep_memory.specs.Kept.{entry_as, events_from, Rises}
 
 rises_over : (at : ℕ) (marks : List Mark) (last : ℕ) → Rises at marks last → at ≤ last

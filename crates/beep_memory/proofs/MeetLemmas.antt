@@ -75,7 +75,7 @@ module _ (f : Peer → Peer) (w w2 : Wiring) (link : ℕ) (peers : w2.peers ≡ 
     reads-more more = ap reads_of here ∙ more ∙ ap next_count (sym (ap reads_of is))
 
   pub others-same : ((other : ℕ) → (other ≡ link → ⊥) → entries_of other w2.story ≡ entries_of other w.story) → SameBeside link (link_at w) (link_at w2)
-  others-same told = λ other ne. ap₂ link_of (told other ne) (ap (λ ps. slice_get ps other) peers ∙ get-beside f w.peers link other ne)
+  others-same story = λ other ne. ap₂ link_of (story other ne) (ap (λ ps. slice_get ps other) peers ∙ get-beside f w.peers link other ne)
 
   pub given-same : length w2.peers ≡ length w.peers
   given-same = ap length peers ∙ length-changed f w.peers link
@@ -83,9 +83,9 @@ module _ (f : Peer → Peer) (w w2 : Wiring) (link : ℕ) (peers : w2.peers ≡ 
 untold : (w w2 : Wiring) (link : ℕ) → w2.story ≡ w.story → (other : ℕ) → (other ≡ link → ⊥) → entries_of other w2.story ≡ entries_of other w.story
 untold w w2 link same other ne = ap (entries_of other) same
 
-told-one : (w w2 : Wiring) (link : ℕ) (event : Event) → event.link ≡ link → w2.story ≡ event ∷ w.story
+story-one : (w w2 : Wiring) (link : ℕ) (event : Event) → event.link ≡ link → w2.story ≡ event ∷ w.story
     → (other : ℕ) → (other ≡ link → ⊥) → entries_of other w2.story ≡ entries_of other w.story
-told-one w w2 link event same told other ne = ap (entries_of other) told ∙ entries-beside other event w.story (λ e. ne (sym e ∙ same))
+story-one w w2 link event same story other ne = ap (entries_of other) story ∙ entries-beside other event w.story (λ e. ne (sym e ∙ same))
 
 over-end : (gifts : List Gift) (room : ℕ) → is_over gifts ≡ gives_end {E = Failed} (Ok (got_from gifts room))
 over-end [] room = refl
@@ -131,7 +131,7 @@ module _ (w w2 : Wiring) (link : ℕ) (buf filled : List ℕ) (alive : (link_at 
 
   pub read-others : (r : Result Got Failed) → Reads link r buf filled w w2 → SameBeside link (link_at w) (link_at w2)
   read-others (Ok got) reads =
-      others-same (λ p. peer_read p (length buf)) w w2 link (ap (λ v. v.peers) reads.3) (told-one w w2 link _ refl (ap (λ v. v.story) reads.3))
+      others-same (λ p. peer_read p (length buf)) w w2 link (ap (λ v. v.peers) reads.3) (story-one w w2 link _ refl (ap (λ v. v.story) reads.3))
   read-others (Err e) reads = others-same peer_unread w w2 link (ap (λ v. v.peers) reads.2) (untold w w2 link (ap (λ v. v.story) reads.2))
 
   pub read-counts : (r : Result Got Failed) → Reads link r buf filled w w2 → counts_of w2 ≡ record (counts_of w) { quiets = w2.quiets }
@@ -169,7 +169,7 @@ module _ (w w2 : Wiring) (link : ℕ) (bytes : List ℕ) (alive : (link_at w lin
 
   pub write-others : (r : Result ℕ Failed) → Writes link r bytes w w2 → SameBeside link (link_at w) (link_at w2)
   write-others (Ok n) writes =
-      others-same (λ p. peer_written p (take n bytes)) w w2 link (ap (λ v. v.peers) writes.2) (told-one w w2 link _ refl (ap (λ v. v.story) writes.2))
+      others-same (λ p. peer_written p (take n bytes)) w w2 link (ap (λ v. v.peers) writes.2) (story-one w w2 link _ refl (ap (λ v. v.story) writes.2))
   write-others (Err e) writes = others-same peer_unwritten w w2 link (ap (λ v. v.peers) writes.1) (untold w w2 link (ap (λ v. v.story) writes.1))
 
   pub write-counts : (r : Result ℕ Failed) → Writes link r bytes w w2 → counts_of w2 ≡ counts_of w

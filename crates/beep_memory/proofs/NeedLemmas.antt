@@ -75,9 +75,9 @@ module _ (f : Peer → Peer) (peers : List Peer) (waiting : List Stock) (events 
     omega (arith, holds.2, length-changed f peers link),
   )
 
-  pub holds-told : (event : Event) (room2 cost : ℕ) → event.link ≡ link → peer_need (f p) + cost ≤ peer_need p → room ≤ room2 + cost
+  pub holds-noted : (event : Event) (room2 cost : ℕ) → event.link ≡ link → peer_need (f p) + cost ≤ peer_need p → room ≤ room2 + cost
       → Holds (changed f peers link) waiting (event ∷ events) room2
-  holds-told event room2 cost same less left = (
+  holds-noted event room2 cost same less left = (
     omega (arith, holds.0, need-changed f peers link p is),
     subst (λ (n : ℕ). are_before n (event ∷ events) ≡ true) (sym (length-changed f peers link))
         (before-more event (length peers) events (omega (arith, within-some peers link p is)) holds.1),
@@ -156,12 +156,12 @@ module _ (peers : List Peer) (waiting : List Stock) (events : List Event) (room 
         let p = open-peer peers link alive in
         omega (arith, holds.0, read-need p.0 p.1, need-within peers link p.0 p.1)
 
-    pub read-holds : (event : Event) (room2 : ℕ) (new : List Peer) (told : List Event) → event.link ≡ link → room ≤ room2 + got_need got
-        → new ≡ changed (λ p. peer_read p size) peers link → told ≡ event ∷ events → Holds new waiting told room2
-    read-holds event room2 new told same left after noted =
+    pub read-holds : (event : Event) (room2 : ℕ) (new : List Peer) (noted_events : List Event) → event.link ≡ link → room ≤ room2 + got_need got
+        → new ≡ changed (λ p. peer_read p size) peers link → noted_events ≡ event ∷ events → Holds new waiting noted_events room2
+    read-holds event room2 new noted_events same left after noted =
         let p = open-peer peers link alive in
         subst₂ (λ (ps : List Peer) (es : List Event). Holds ps waiting es room2) (sym after) (sym noted)
-        (holds-told (λ q. peer_read q size) peers waiting events room holds link p.0 p.1 event room2 (got_need got) same (read-need p.0 p.1) left)
+        (holds-noted (λ q. peer_read q size) peers waiting events room holds link p.0 p.1 event room2 (got_need got) same (read-need p.0 p.1) left)
 
   module _ (bytes : List ℕ) (n : ℕ) (is : n ≡ min (room_of (slice_get peers link)) (length bytes)) (some : 0 < n) where
     took : (p : Peer) → slice_get peers link ≡ Some p → n ≡ min p.room (length bytes)
@@ -177,12 +177,12 @@ module _ (peers : List Peer) (waiting : List Stock) (events : List Event) (room 
         let p = open-peer peers link alive in
         omega (arith, took-cost, holds.0, need-of-write p.0 bytes n (took p.0 p.1) some, need-within peers link p.0 p.1)
 
-    pub write-holds : (event : Event) (room2 : ℕ) (new : List Peer) (told : List Event) → event.link ≡ link → room ≤ room2 + max (length (take n bytes)) 1
-        → new ≡ changed (λ p. peer_written p (take n bytes)) peers link → told ≡ event ∷ events → Holds new waiting told room2
-    write-holds event room2 new told same left after noted =
+    pub write-holds : (event : Event) (room2 : ℕ) (new : List Peer) (noted_events : List Event) → event.link ≡ link → room ≤ room2 + max (length (take n bytes)) 1
+        → new ≡ changed (λ p. peer_written p (take n bytes)) peers link → noted_events ≡ event ∷ events → Holds new waiting noted_events room2
+    write-holds event room2 new noted_events same left after noted =
         let p = open-peer peers link alive in
         subst₂ (λ (ps : List Peer) (es : List Event). Holds ps waiting es room2) (sym after) (sym noted)
-        (holds-told (λ q. peer_written q (take n bytes)) peers waiting events room holds link p.0 p.1 event room2 n same
+        (holds-noted (λ q. peer_written q (take n bytes)) peers waiting events room holds link p.0 p.1 event room2 n same
         (need-of-write p.0 bytes n (took p.0 p.1) some) (omega (arith, left, took-cost)))
 
 -- ---- an accept or a dial that isn't refused
@@ -207,10 +207,10 @@ give-holds peers old new waiting rest events room planned refused holds same tes
     subst₂ (λ (ps : List Peer) (ss : List Stock). Holds ps ss events room) (sym after) (sym moved)
     (holds-given peers waiting events room here (second-false planned _ _ all) few)
 
-pub add-holds : (peers : List Peer) (old kept new : List Stock) (events told : List Event) (room room2 need given size : ℕ) (gifts : List Gift) (stock : Stock)
-    → Holds peers old events room → kept ≡ old → new ≡ kept ++ stock ∷ [] → told ≡ events → stock ≡ record { gifts = gifts; room = size }
-    → given ≡ gifts_need gifts → need ≡ given + size + 1 → room + need ≤ room2 → Holds peers new told room2
-add-holds peers old kept new events told room room2 need given size gifts stock holds same pushed quiet is takes all more =
+pub add-holds : (peers : List Peer) (old kept new : List Stock) (events noted_events : List Event) (room room2 need given size : ℕ) (gifts : List Gift) (stock : Stock)
+    → Holds peers old events room → kept ≡ old → new ≡ kept ++ stock ∷ [] → noted_events ≡ events → stock ≡ record { gifts = gifts; room = size }
+    → given ≡ gifts_need gifts → need ≡ given + size + 1 → room + need ≤ room2 → Holds peers new noted_events room2
+add-holds peers old kept new events noted_events room room2 need given size gifts stock holds same pushed quiet is takes all more =
     let here : Holds peers kept events room = subst (λ (ss : List Stock). Holds peers ss events room) (sym same) holds in
     let cost : stock_need stock ≡ need = ap stock_need is ∙ (omega (arith, takes, all)) in
     subst₂ (λ (ss : List Stock) (es : List Event). Holds peers ss es room2) (sym pushed) (sym quiet)

@@ -40,7 +40,7 @@ ends (Got.Bytes n) = false
 ends Got.Quiet = false
 ends Got.End = true
 
--- what is told to have come fits a buffer of this length
+-- what came fits a buffer of this length
 abbrev pub GotFits : Got → ℕ → Type 0
 GotFits (Got.Bytes n) room = (0 < n) × (n ≤ room)
 GotFits Got.Quiet room = Unit {0}

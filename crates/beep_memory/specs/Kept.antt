@@ -4,8 +4,8 @@
 use Rattle.std.specs.Prelude.{◌≡◌, ℕ, ◌≤◌, List, [], ◌∷◌, reverse}
 use Rattle.std.specs.List.{slice_range}
 use Rattle.beep_wires.specs.Log.{Entry, read, wrote, quiet, ended, Event}
-use Rattle.beep_memory.specs.declared.told.Deed.{Deed}
-use Rattle.beep_memory.specs.declared.told.Mark.{Mark}
+use Rattle.beep_memory.specs.declared.events.Deed.{Deed}
+use Rattle.beep_memory.specs.declared.events.Mark.{Mark}
 
 -- the events, the latest first, and how many more, and how many octets in them, find room
 pub record Story : Type 0 where

@@ -3,11 +3,11 @@
 #![tactic(auto)]
 
 mod asks;
+mod events;
 mod gives;
 mod giving;
 mod mem_link;
 mod mem_wires;
-mod told;
 
 pub use gives::{Give, Gives};
 pub use mem_wires::{LINKS_MAX, MemWires};

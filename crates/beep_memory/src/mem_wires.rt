@@ -7,9 +7,9 @@ ghost use Rattle.beep_memory.specs.Gifts.{is_some, GotFits, entry_got, got_need,
 ghost use Rattle.beep_memory.specs.Wiring.{has_none, opened, written_of};
 
 use crate::asks::{Ask, Asks};
+use crate::events::{Deed, Events};
 use crate::gives::{Gives, sum_within};
 use crate::mem_link::*;
-use crate::told::{Deed, Told};
 use beep_octets::{NoMemory, Octets};
 use beep_wires::{Failed, Fails, Got, WireError, Wires, next_count};
 use std::alloc::Global;
@@ -28,7 +28,7 @@ pub struct MemWires {
     links: Vec<MemLink>,
     waiting: Vec<MemStock>,
     asks: Asks,
-    told: Told,
+    events: Events,
     fails: Fails,
     calls: u64,
     accept_faults: u64,
@@ -45,7 +45,7 @@ impl Model for MemWires {
       peers = w.links.items;
       waiting = w.waiting.items;
       asked = w.asks.asked;
-      story = w.told.events;
+      story = w.events.events;
       fails = w.fails;
       calls = w.calls;
       accepts = w.accept_faults;
@@ -53,7 +53,7 @@ impl Model for MemWires {
       quiets = w.quiets;
     } };
 
-    ghost invariant = { λ w. Holds w.links.items w.waiting.items w.told.events w.told.room };
+    ghost invariant = { λ w. Holds w.links.items w.waiting.items w.events.events w.events.room };
 }
 
 impl MemWires {
@@ -70,7 +70,7 @@ impl MemWires {
             links: Vec::new(alloc),
             waiting: Vec::new(alloc),
             asks: Asks::new(alloc),
-            told: Told::new(alloc),
+            events: Events::new(alloc),
             fails,
             calls: 0,
             accept_faults: 0,
@@ -98,7 +98,7 @@ impl MemWires {
         let Some(need) = log_need(given, room) else {
             return Err(NoMemory)
         };
-        self.told.reserve_more(need)?;
+        self.events.reserve_more(need)?;
         self.waiting
             .push_reserved(MemStock::new(gives, written, room));
         Ok(())
@@ -153,7 +153,7 @@ impl MemWires {
             return Err(Failed);
         }
         let got = read_at(&mut self.links, at, buf);
-        note_read(&mut self.told, link, got, buf);
+        note_read(&mut self.events, link, got, buf);
         self.quiets = quiets_after(self.quiets, got);
         Ok(got)
     }
@@ -172,7 +172,7 @@ impl MemWires {
             return Err(Failed);
         }
         let n = write_at(&mut self.links, at, bytes);
-        self.told.note(link, Deed::Wrote, &bytes[..n]);
+        self.events.note(link, Deed::Wrote, &bytes[..n]);
         Ok(n)
     }
 
@@ -218,17 +218,17 @@ fn quiets_after(quiets: u64, got: Got) -> u64
     }
 }
 
-fn note_read(told: &mut Told, link: u32, got: Got, buf: &[u8])
+fn note_read(story: &mut Events, link: u32, got: Got, buf: &[u8])
     requires within { GotFits got (length buf.now) }
-    requires room { got_need got ≤ told.old.room }
-    ensures noted { told.new.events
-        ≡ record { link = link; entry = entry_got got buf.now } ∷ told.old.events }
-    ensures room { told.old.room ≤ told.new.room + got_need got }
+    requires room { got_need got ≤ story.old.room }
+    ensures noted { story.new.events
+        ≡ record { link = link; entry = entry_got got buf.now } ∷ story.old.events }
+    ensures room { story.old.room ≤ story.new.room + got_need got }
 {
     match got {
-        Got::Bytes(n) => told.note(link, Deed::Read, &buf[..n]),
-        Got::Quiet => told.note(link, Deed::Quiet, &[]),
-        Got::End => told.note(link, Deed::Ended, &[]),
+        Got::Bytes(n) => story.note(link, Deed::Read, &buf[..n]),
+        Got::Quiet => story.note(link, Deed::Quiet, &[]),
+        Got::End => story.note(link, Deed::Ended, &[]),
     }
 }
 
@@ -237,7 +237,7 @@ impl Wires for MemWires {
     ghost use Rattle.beep_memory.specs.Wiring.{link_at, counts_of, no_lender, wiring_shut};
     ghost use Rattle.beep_wires.specs.Links.{accept as accept_of, dial as dial_of, IsFresh, SameBeside, LeavesLinks, asked_by, Asks as Asked, given_after, Faults};
     ghost use Rattle.beep_wires.specs.Got.{GotWithin, read_entries, write_entries, gives_end, Quiets};
-    ghost use Rattle.beep_wires.specs.Log.{Logs, Tells, entries_of};
+    ghost use Rattle.beep_wires.specs.Log.{Logs, Enters, entries_of};
     ghost use Rattle.beep_memory.specs.Answers.{Answers, Reads, Writes};
 
     ghost state = { link_at };
@@ -300,7 +300,7 @@ impl Wires for MemWires {
         ensures within { GotWithin result buf.new }
         ensures logged { Logs (link_at self.old link).log (link_at self.new link).log
             (read_entries result buf.new) }
-        ensures told { Tells link (Some self.old.story) (Some self.new.story)
+        ensures entered { Enters link (Some self.old.story) (Some self.new.story)
             (read_entries result buf.new) }
         ensures still_open { (link_at self.new link).is_open ≡ true }
         ensures end { (link_at self.new link).has_ended ≡ gives_end result }
@@ -326,7 +326,7 @@ impl Wires for MemWires {
         ensures within { IfOk result (λ n. (0 < n) × (n ≤ length bytes.now)) }
         ensures logged { Logs (link_at self.old link).log (link_at self.new link).log
             (write_entries result bytes.now) }
-        ensures told { Tells link (Some self.old.story) (Some self.new.story)
+        ensures entered { Enters link (Some self.old.story) (Some self.new.story)
             (write_entries result bytes.now) }
         ensures still_open { (link_at self.new link).is_open ≡ true }
         ensures end { (link_at self.new link).has_ended ≡ (link_at self.old link).has_ended }

@@ -299,20 +299,39 @@ impl Reader {
 
     /// Takes octets of a piece where none of them has begun: one that a letter stands for, or those
     /// at the front that stand for themselves.
+    fn fresh_front(&mut self, side: Side, octets: &[u8]) -> Result<usize, NoMemory>
+        requires { self.old.mode ≡ Mode.Piece side Part.Fresh }
+        ensures within { IfOk result (λ count. count ≤ length octets.now) }
+        ensures went { IfOk result (λ count. run (Some (state_of self.old)) (take count octets.now)
+            ≡ Some (state_of self.new)) }
+    {
+        if self.piece.len() < MAX_PIECE {
+            if let Some(octet) = lettered(octets) {
+                self.piece.extend(&[octet])?;
+                return Ok(2);
+            }
+        }
+        self.plain(octets)
+    }
+
+    /// Takes octets of a piece from the front, none anywhere else.
     fn front(&mut self, octets: &[u8]) -> Result<usize, NoMemory>
         ensures within { IfOk result (λ count. count ≤ length octets.now) }
         ensures went { IfOk result (λ count. run (Some (state_of self.old)) (take count octets.now)
             ≡ Some (state_of self.new)) }
     {
         match self.mode {
-            Mode::Piece(_, Part::Fresh) => match lettered(octets) {
-                Some(octet) if self.piece.len() < MAX_PIECE => {
-                    self.piece.extend(&[octet])?;
-                    Ok(2)
-                }
-                _ => self.plain(octets),
-            },
-            _ => Ok(0),
+            Mode::Piece(side, Part::Fresh) => self.fresh_front(side, octets),
+            Mode::First(..)
+            | Mode::Start
+            | Mode::Line(_)
+            | Mode::Piece(_, Part::Slash | Part::High(_))
+            | Mode::Quiet
+            | Mode::Ended
+            | Mode::Status
+            | Mode::Code
+            | Mode::Digits(_)
+            | Mode::Over(_) => Ok(0),
         }
     }
 

@@ -48,7 +48,7 @@ pub record Receiver : Type 0 where
   pub untaken : ℕ
 
 -- the window has this size, and is what these counts make of it
-pub record Stands (window : Receiver) (size : ℕ) (counts : Arrivals) : Type 0 where
+pub record IsReceiver (window : Receiver) (size : ℕ) (counts : Arrivals) : Type 0 where
   pub sized : window.size ≡ size
   pub is_window : IsWindow size
   pub next : window.next ≡ wire_number counts.received

@@ -36,7 +36,7 @@ pub record Sender : Type 0 where
 
 -- the window is what these counts make of it; fewer than 2^32 octets wait, so a number names one of
 -- their counts
-pub record Stands (window : Sender) (counts : Departures) : Type 0 where
+pub record IsSender (window : Sender) (counts : Departures) : Type 0 where
   pub number : window.last_ackno ≡ wire_number counts.acknowledged
   pub waiting : counts.acknowledged + window.unacked ≡ counts.sent
   pub room : window.room ≡ open_after counts

@@ -2,7 +2,7 @@
 ghost use Rattle.std.specs.Prelude.{ℕ, ◌^◌, ◌<◌, ◌≤◌, ◌↔◌, IsTrue};
 ghost use Rattle.beep_seq.specs.Wire.{count_from, IsFirstFrom};
 ghost use Rattle.beep_seq.specs.Due.{breaks_bad_ack, HasCountBetween};
-ghost use Rattle.beep_seq.specs.Receiving.{Receiver, Arrivals, full_edge, Stands};
+ghost use Rattle.beep_seq.specs.Receiving.{Receiver, Arrivals, full_edge, IsReceiver};
 
 /// A number on the wire stands for the first count that has it.
 pub fn count_from_is_the_first()
@@ -20,6 +20,6 @@ pub fn bad_ack_is_no_count_between()
 
 /// A full SEQ never moves the edge to the left.
 pub fn edge_never_moves_left()
-    ensures { (window : Receiver) (size : ℕ) (counts : Arrivals) → Stands window size counts
+    ensures { (window : Receiver) (size : ℕ) (counts : Arrivals) → IsReceiver window size counts
         → counts.edge ≤ full_edge size counts }
 {}

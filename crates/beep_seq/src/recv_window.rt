@@ -1,7 +1,7 @@
 //! The window of this end, which its SEQs open (RFC 3081, section 3.1).
 ghost use Rattle.std.specs.Prelude.{◌≡◌, ◌+◌, ◌-◌, ◌≤◌, ◌↔◌, ℕ, IsTrue};
 ghost use Rattle.beep_seq.specs.Wire.{wire_number};
-ghost use Rattle.beep_seq.specs.Receiving.{Arrivals, no_arrivals, full_edge, full_seq, due_seq, full_of, due_of, Stands};
+ghost use Rattle.beep_seq.specs.Receiving.{Arrivals, no_arrivals, full_edge, full_seq, due_seq, full_of, due_of, IsReceiver};
 
 use crate::limits::{INITIAL_WINDOW, MAX_WINDOW, MIN_WINDOW};
 use crate::seq_no::SeqNo;
@@ -39,7 +39,7 @@ impl RecvWindow {
     pub fn new(size: u32) -> RecvWindow
         requires least { MIN_WINDOW ≤ size }
         requires greatest { size ≤ MAX_WINDOW }
-        ensures { Stands result size no_arrivals }
+        ensures { IsReceiver result size no_arrivals }
     {
         RecvWindow {
             size,
@@ -52,7 +52,7 @@ impl RecvWindow {
     /// The sequence number that the next frame is to have.
     pub fn expect(&self) -> u32
         ensures value { result ≡ self.now.next }
-        ensures counted { (size : ℕ) (counts : Arrivals) → Stands self.now size counts
+        ensures counted { (size : ℕ) (counts : Arrivals) → IsReceiver self.now size counts
             → result ≡ wire_number counts.received }
     {
         self.next.get()
@@ -61,7 +61,7 @@ impl RecvWindow {
     /// Whether a frame of `n` octets stays within the window.
     pub fn fits(&self, n: u32) -> bool
         ensures value { IsTrue result ↔ (n ≤ self.now.room) }
-        ensures counted { (size : ℕ) (counts : Arrivals) → Stands self.now size counts
+        ensures counted { (size : ℕ) (counts : Arrivals) → IsReceiver self.now size counts
             → IsTrue result ↔ (counts.received + n ≤ counts.edge) }
     {
         n <= self.room
@@ -75,8 +75,8 @@ impl RecvWindow {
           room = self.old.room - n;
           untaken = self.old.untaken + n;
         } }
-        ensures counted { (size : ℕ) (counts : Arrivals) → Stands self.old size counts
-            → Stands self.new size (record counts { received = counts.received + n }) }
+        ensures counted { (size : ℕ) (counts : Arrivals) → IsReceiver self.old size counts
+            → IsReceiver self.new size (record counts { received = counts.received + n }) }
     {
         self.next = self.next.plus(n);
         self.room -= n;
@@ -87,8 +87,8 @@ impl RecvWindow {
     pub fn taken(&mut self, n: u32)
         requires waits { n ≤ self.old.untaken }
         ensures value { self.new ≡ record self.old { untaken = self.old.untaken - n } }
-        ensures counted { (size : ℕ) (counts : Arrivals) → Stands self.old size counts
-            → Stands self.new size (record counts { taken = counts.taken + n }) }
+        ensures counted { (size : ℕ) (counts : Arrivals) → IsReceiver self.old size counts
+            → IsReceiver self.new size (record counts { taken = counts.taken + n }) }
     {
         self.untaken -= n;
     }
@@ -97,7 +97,7 @@ impl RecvWindow {
     /// window.
     pub fn due(&self) -> Option<(u32, u32)>
         ensures value { result ≡ due_of self.now }
-        ensures counted { (size : ℕ) (counts : Arrivals) → Stands self.now size counts
+        ensures counted { (size : ℕ) (counts : Arrivals) → IsReceiver self.now size counts
             → result ≡ due_seq size counts }
     {
         let gained = self.size - self.room - self.untaken;
@@ -110,11 +110,11 @@ impl RecvWindow {
     /// The ackno and window of the SEQ that opens the whole window, whether it is due or not.
     pub fn full(&self) -> (u32, u32)
         ensures value { result ≡ full_of self.now }
-        ensures counted { (size : ℕ) (counts : Arrivals) → Stands self.now size counts
+        ensures counted { (size : ℕ) (counts : Arrivals) → IsReceiver self.now size counts
             → result ≡ full_seq size counts }
 
         // Its ackno and window lead to the edge of a whole window past what was taken.
-        ensures edge { (size : ℕ) (counts : Arrivals) → Stands self.now size counts
+        ensures edge { (size : ℕ) (counts : Arrivals) → IsReceiver self.now size counts
             → counts.received + result.1 ≡ full_edge size counts }
         ensures within { self.now.room + self.now.untaken ≤ self.now.size }
     {
@@ -124,8 +124,8 @@ impl RecvWindow {
     /// Notes that the SEQ of `full` was sent.
     pub fn told(&mut self)
         ensures value { self.new ≡ record self.old { room = self.old.size - self.old.untaken } }
-        ensures counted { (size : ℕ) (counts : Arrivals) → Stands self.old size counts
-            → Stands self.new size (record counts { edge = full_edge size counts }) }
+        ensures counted { (size : ℕ) (counts : Arrivals) → IsReceiver self.old size counts
+            → IsReceiver self.new size (record counts { edge = full_edge size counts }) }
     {
         self.room = self.size - self.untaken;
     }

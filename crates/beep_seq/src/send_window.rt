@@ -1,7 +1,7 @@
 //! The window of the peer, as a sender sees it (RFC 3081, section 3.1).
 ghost use Rattle.std.specs.Prelude.{◌≡◌, ◌+◌, ◌-◌, ◌≤◌, ◌↔◌, IsOk, OnOk, OnErr, is_err};
 ghost use Rattle.beep_seq.specs.Due.{breaks_bad_ack, HasCountBetween};
-ghost use Rattle.beep_seq.specs.Sending.{Departures, no_departures, after_seq, open_after, Stands};
+ghost use Rattle.beep_seq.specs.Sending.{Departures, no_departures, after_seq, open_after, IsSender};
 
 use crate::limits::INITIAL_WINDOW;
 use crate::seq_no::SeqNo;
@@ -33,7 +33,7 @@ impl Model for SendWindow {
 impl SendWindow {
     /// The window of a life in which nothing was sent.
     pub fn new() -> SendWindow
-        ensures { Stands result no_departures }
+        ensures { IsSender result no_departures }
     {
         SendWindow {
             last_ackno: SeqNo::new(0),
@@ -45,7 +45,7 @@ impl SendWindow {
     /// The open octets: how many may be sent before the peer opens its window further.
     pub fn room(&self) -> u32
         ensures value { result ≡ self.now.room }
-        ensures counted { (counts : Departures) → Stands self.now counts
+        ensures counted { (counts : Departures) → IsSender self.now counts
             → result ≡ open_after counts }
     {
         self.room
@@ -58,8 +58,8 @@ impl SendWindow {
           unacked = self.old.unacked + n;
           room = self.old.room - n;
         } }
-        ensures counted { (counts : Departures) → Stands self.old counts
-            → Stands self.new (record counts { sent = counts.sent + n }) }
+        ensures counted { (counts : Departures) → IsSender self.old counts
+            → IsSender self.new (record counts { sent = counts.sent + n }) }
     {
         self.unacked += n;
         self.room -= n;
@@ -68,13 +68,13 @@ impl SendWindow {
     /// Obeys a SEQ with this `ackno` and `window`, also one that moves the window's end to the
     /// left.
     pub fn acked(&mut self, ackno: u32, window: u32) -> Result<(), BadAck>
-        ensures ok { (counts : Departures) → Stands self.old counts
-            → OnOk result (Stands self.new (after_seq counts ackno window)) }
+        ensures ok { (counts : Departures) → IsSender self.old counts
+            → OnOk result (IsSender self.new (after_seq counts ackno window)) }
 
         // The ackno is the number of a count from the last ackno to the next octet to be sent.
-        ensures accepted { (counts : Departures) → Stands self.old counts
+        ensures accepted { (counts : Departures) → IsSender self.old counts
             → IsOk result ↔ HasCountBetween counts.acknowledged counts.sent ackno }
-        ensures refused { (counts : Departures) → Stands self.old counts
+        ensures refused { (counts : Departures) → IsSender self.old counts
             → is_err result ≡ breaks_bad_ack counts.acknowledged counts.sent ackno }
         ensures err { OnErr result (self.new ≡ self.old) }
     {

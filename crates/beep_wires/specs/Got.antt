@@ -5,7 +5,7 @@ use Rattle.beep_wires.specs.declared.links.Got.{Got}
 use Rattle.beep_wires.specs.Counts.{Rose}
 use Rattle.beep_wires.specs.Log.{Entry, read, wrote, quiet, ended}
 
--- what is told to have come fits the buffer
+-- what came fits the buffer
 abbrev pub GotWithin : {E : Type 0} → Result Got E → List ℕ → Type 0
 GotWithin (Ok (Got.Bytes n)) buf = (0 < n) × (n ≤ length buf)
 GotWithin (Ok Got.Quiet) buf = Unit {0}

@@ -6,7 +6,7 @@ use Rattle.beep_wires.specs.declared.links.WireError.{WireError}
 use Rattle.beep_wires.specs.Counts.{Rose}
 use Rattle.beep_wires.specs.Log.{Entry}
 
--- a link's log where it is told, whether it was given and isn't shut, whether a read gave its end,
+-- a link's log where it is known, whether it was given and isn't shut, whether a read gave its end,
 -- how many of its reads and writes failed, and how many reads there were
 pub record Link : Type 0 where
   pub log : Option (List Entry)
@@ -57,7 +57,7 @@ asked_by ask (Ok link) = record { ask = ask; link = Some link } ∷ []
 asked_by ask (Err WireError.Failed) = record { ask = ask; link = None } ∷ []
 asked_by ask (Err WireError.NoMemory) = []
 
--- the list of these, where it is told, grew by so much
+-- the list of these, where it is known, grew by so much
 abbrev pub Asks : Option (List Asked) → Option (List Asked) → List Asked → Type 0
 Asks None new more = Unit {0}
 Asks (Some old) None more = ⊥

@@ -15,7 +15,7 @@ pub record Event : Type 0 where
   pub link : ℕ
   pub entry : Entry
 
--- a log that is told grew by these entries, the latest first
+-- a log that is known grew by these entries, the latest first
 abbrev pub Logs : Option (List Entry) → Option (List Entry) → List Entry → Type 0
 Logs None new more = Unit {0}
 Logs (Some old) None more = ⊥
@@ -24,11 +24,11 @@ Logs (Some old) (Some new) more = new ≡ more ++ old
 abbrev pub events_of : ℕ → List Entry → List Event
 events_of link entries = map (λ e. record { link = link; entry = e }) entries
 
--- what is told of all links grew by these entries of one of them
-abbrev pub Tells : ℕ → Option (List Event) → Option (List Event) → List Entry → Type 0
-Tells link None new more = Unit {0}
-Tells link (Some old) None more = ⊥
-Tells link (Some old) (Some new) more = new ≡ events_of link more ++ old
+-- the story of all links, where it is known, grew by these entries of one of them
+abbrev pub Enters : ℕ → Option (List Event) → Option (List Event) → List Entry → Type 0
+Enters link None new more = Unit {0}
+Enters link (Some old) None more = ⊥
+Enters link (Some old) (Some new) more = new ≡ events_of link more ++ old
 
 -- the entries of one link
 abbrev pub entries_of : ℕ → List Event → List Entry
@@ -36,7 +36,7 @@ entries_of link [] = []
 entries_of link (event ∷ events) =
     if event.link == link then event.entry ∷ entries_of link events else entries_of link events
 
--- the log of a link is its part of what is told of all
+-- the log of a link is its part of the story of all
 abbrev pub IsPart : ℕ → Option (List Event) → Option (List Entry) → Type 0
 IsPart link (Some story) (Some log) = log ≡ entries_of link story
 IsPart link (Some story) None = Unit {0}

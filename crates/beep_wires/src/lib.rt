@@ -2,7 +2,7 @@
 //! the first two in memory whose failures are planned, for tests and for the plain programs.
 //!
 //! A source, a sink or a link fails only where its count of faults rises. What stands behind it, a
-//! file or a wire, is told where it is known, and nothing is claimed of it elsewhere.
+//! file or a wire, is shown where it is known, and nothing is claimed of it elsewhere.
 #![tactic(auto)]
 
 mod count;

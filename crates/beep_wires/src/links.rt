@@ -2,7 +2,7 @@
 ghost use Rattle.std.specs.Prelude.{◌≡◌, ◌<◌, ◌≤◌, ℕ, Option, true, false, List, length, IfOk, OnErr};
 ghost use Rattle.std.specs.Borrow.{GName};
 ghost use Rattle.beep_wires.specs.Counts.{next_count, Rose};
-ghost use Rattle.beep_wires.specs.Log.{Event, Logs, Tells, IsPart};
+ghost use Rattle.beep_wires.specs.Log.{Event, Logs, Enters, IsPart};
 
 use crate::failed::Failed;
 
@@ -38,10 +38,10 @@ pub trait Wires {
     /// How many links were given, and the counts that belong to none.
     ghost counts: { Self → Counts };
 
-    /// The accepts and dials that gave a link or failed, the latest first, where they are told.
+    /// The accepts and dials that gave a link or failed, the latest first, where they are known.
     ghost asked: { Self → Option (List Asked) };
 
-    /// The logs of all links in one, the latest first, where it is told.
+    /// The logs of all links in one, the latest first, where it is known.
     ghost story: { Self → Option (List Event) };
 
     /// The reference that the calls are passed on to, if they are.
@@ -82,7 +82,7 @@ pub trait Wires {
         ensures within { GotWithin result buf.new }
         ensures logged { Logs (state self.old link).log (state self.new link).log
             (read_entries result buf.new) }
-        ensures told { Tells link (story self.old) (story self.new) (read_entries result buf.new) }
+        ensures entered { Enters link (story self.old) (story self.new) (read_entries result buf.new) }
         ensures still_open { (state self.new link).is_open ≡ true }
         ensures end { (state self.new link).has_ended ≡ gives_end result }
         ensures failed { OnErr result
@@ -103,7 +103,7 @@ pub trait Wires {
         ensures within { IfOk result (λ n. (0 < n) × (n ≤ length bytes.now)) }
         ensures logged { Logs (state self.old link).log (state self.new link).log
             (write_entries result bytes.now) }
-        ensures told { Tells link (story self.old) (story self.new)
+        ensures entered { Enters link (story self.old) (story self.new)
             (write_entries result bytes.now) }
         ensures still_open { (state self.new link).is_open ≡ true }
         ensures end { (state self.new link).has_ended ≡ (state self.old link).has_ended }

@@ -8,7 +8,7 @@ use crate::failed::Failed;
 
 /// What octets are written to.
 pub trait Sink {
-    /// The octets that were written, where it tells them, and how many calls failed.
+    /// The octets that were written, where they are known, and how many calls failed.
     ghost state: { Self → SinkState };
 
     /// Writes the front of `bytes`, and answers how many octets. Taking none is a fault.

@@ -10,7 +10,7 @@ use crate::failed::Failed;
 
 /// What octets are read from, until it has ended.
 pub trait Source {
-    /// Its octets, where it tells them, and what came of the calls so far.
+    /// Its octets, where they are known, and what came of the calls so far.
     ghost state: { Self → SourceState };
 
     /// Reads into the front of `buf`, and answers how many octets. 0 is the end of the input.

@@ -1,4 +1,4 @@
-use Rattle.beep_exchange.proofs.StandsLemmas.{told-any}
+use Rattle.beep_exchange.proofs.ExchangeLemmas.{told-any}
 use Rattle.beep_exchange.proofs.laws.a_seq_changes_nothing.Goals as goal
 
 pub returns : goal.returns

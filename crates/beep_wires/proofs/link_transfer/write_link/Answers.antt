@@ -15,12 +15,12 @@ loop-at-preserved g c = record {
   same_asked = c.in-Ok.ensures.same_asked ∙ c.loop-at.invariant.same_asked;
   same_lent = c.in-Ok.ensures.same_lent ∙ c.loop-at.invariant.same_lent;
   empty = λ none. absurd (omega arith);
-  wrote = wrote_more _ _ _ _ _ c.loop-at.at c.loop-at.invariant.wrote _ c.in-Ok.ensures.logged c.in-Ok.ensures.told;
+  wrote = wrote_more _ _ _ _ _ c.loop-at.at c.loop-at.invariant.wrote _ c.in-Ok.ensures.logged c.in-Ok.ensures.entered;
 }
 
 pub returns-in-Err-clause-front : goal.returns-in-Err-clause-front
 returns-in-Err-clause-front g c =
-    wrote_front _ _ _ _ _ c.loop-at.at c.loop-at.invariant.wrote c.in-Err.ensures.logged c.in-Err.ensures.told
+    wrote_front _ _ _ _ _ c.loop-at.at c.loop-at.invariant.wrote c.in-Err.ensures.logged c.in-Err.ensures.entered
 
 pub returns-in-Err-clause-others : goal.returns-in-Err-clause-others
 returns-in-Err-clause-others g c = λ other ne. c.in-Err.ensures.others other ne ∙ c.loop-at.invariant.others other ne

@@ -1,7 +1,7 @@
 -- The judge of what is kept, at a history.
 use Rattle.std.proofs.Common.{◌≡◌, ◌∙◌}
 use Rattle.beep_exchange.specs.Kept.{judged}
-use Rattle.beep_exchange.proofs.StandsLemmas.{judged-received}
+use Rattle.beep_exchange.proofs.ExchangeLemmas.{judged-received}
 use Rattle.beep_exchange.proofs.exchange.Exchange.judge_in.Goals as goal
 
 pub returns-clause-stands : goal.returns-clause-stands

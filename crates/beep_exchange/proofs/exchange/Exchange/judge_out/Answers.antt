@@ -1,7 +1,7 @@
 -- The judge of what is kept, at a history.
 use Rattle.std.proofs.Common.{◌≡◌, ◌∙◌}
 use Rattle.beep_exchange.specs.Kept.{judged}
-use Rattle.beep_exchange.proofs.StandsLemmas.{judged-sent}
+use Rattle.beep_exchange.proofs.ExchangeLemmas.{judged-sent}
 use Rattle.beep_exchange.proofs.exchange.Exchange.judge_out.Goals as goal
 
 pub returns-clause-stands : goal.returns-clause-stands

@@ -1,6 +1,6 @@
 -- On channel zero both directions were opened, and else both are fresh.
 use Rattle.std.proofs.Common.{◌∙◌}
-use Rattle.beep_exchange.proofs.StandsLemmas.{stands-fresh, stands-opening}
+use Rattle.beep_exchange.proofs.ExchangeLemmas.{stands-fresh, stands-opening}
 use Rattle.beep_exchange.proofs.exchange.Exchange.new.Goals as goal
 use Rattle.beep_exchange.proofs.exchange.Exchange.new.Goals.{then-zero, else-zero}
 

@@ -1,8 +1,8 @@
 -- A request that begins has room, and the header joins the history.
 use Rattle.std.proofs.Common.{◌≡◌, None, sym, subst}
 use Rattle.beep_exchange.specs.Kept.{judged}
-use Rattle.beep_exchange.specs.Stands.{Life}
-use Rattle.beep_exchange.proofs.StandsLemmas.{judged-room, note-in}
+use Rattle.beep_exchange.specs.Exchange.{Life}
+use Rattle.beep_exchange.proofs.ExchangeLemmas.{judged-room, note-in}
 use Rattle.beep_exchange.proofs.exchange.Exchange.note_in.Goals as goal
 
 pub begin-requires : goal.begin-requires

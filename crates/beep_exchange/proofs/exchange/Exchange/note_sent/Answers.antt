@@ -1,6 +1,6 @@
 -- The frame joins the history: of a reply, the side that asked keeps what it says.
 use Rattle.std.proofs.Common.{◌∙◌, sym, refl}
-use Rattle.beep_exchange.proofs.StandsLemmas.{note-sent}
+use Rattle.beep_exchange.proofs.ExchangeLemmas.{note-sent}
 use Rattle.beep_exchange.proofs.exchange.Exchange.note_sent.Goals as goal
 
 pub returns-then-is_reply-clause-stands : goal.returns-then-is_reply-clause-stands

@@ -13,7 +13,7 @@ use Rattle.beep_hearing.specs.declared.heard.Heard.{Heard}
 use Rattle.beep_hearing.specs.declared.ear.Ear.{Ear}
 use Rattle.beep_history.specs.Journal.{Item}
 use Rattle.beep_standing.specs.Standing.{Marks}
-use Rattle.beep_hearing.specs.Hears.{Goes, Stands}
+use Rattle.beep_hearing.specs.Hears.{Goes, IsEar}
 use Rattle.beep_hearing.specs.Left.{MayPass}
 use Rattle.beep_hearing.specs.Answers.{Answers}
 use Rattle.beep_hearing.proofs.StepLemmas.{goes_more, breaks_stream}
@@ -30,7 +30,7 @@ begin-requires c = record {
 
 pub pass-requires : goal.pass-requires
 pass-requires c = record {
-  may = ∥∥₁_map {A = (size : ℕ) × (fed : List ℕ) × (rest : List ℕ) × (journal : List Item) × (given : Marks) × (taken : Marks) × Stands size fed rest journal given taken c.args.self.now c.args.lives.now}
+  may = ∥∥₁_map {A = (size : ℕ) × (fed : List ℕ) × (rest : List ℕ) × (journal : List Item) × (given : Marks) × (taken : Marks) × IsEar size fed rest journal given taken c.args.self.now c.args.lives.now}
       {B = MayPass (record c.args.self.now { decoder = c.feed-count.new.self; used = modulo_2_64 (c.args.self.now.used + c.feed-count.result.0) }) c.args.lives.now}
       c.requires.held (λ s.
       let f = fed_of s.1 s.6.hears.is_fed.frames s.2 (under_way Side.Received s.3) in

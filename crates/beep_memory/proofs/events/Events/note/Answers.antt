@@ -1,7 +1,7 @@
 use Rattle.std.proofs.Common.{◌∙◌, ◌∷◌, ap}
 use Rattle.beep_memory.specs.Kept.{entry_as}
 use Rattle.beep_memory.proofs.KeptLemmas.{noted-rises, noted-events}
-use Rattle.beep_memory.proofs.told.Told.note.Goals as goal
+use Rattle.beep_memory.proofs.events.Events.note.Goals as goal
 
 pub invariant_of-self : goal.invariant_of-self
 invariant_of-self c =

@@ -25,12 +25,12 @@ pub(crate) struct Mark {
 
 /// The entries of all links, one after another.
 #[derive(Debug, Drop)]
-pub(crate) struct Told {
+pub(crate) struct Events {
     octets: Octets,
     marks: Vec<Mark>,
 }
 
-impl Model for Told {
+impl Model for Events {
     ghost use Rattle.std.specs.Prelude.{◌-◌, length, min, reverse, vec_len, vec_capacity};
     ghost use Rattle.beep_memory.specs.Kept.{Story, events_from, Rises};
 
@@ -44,14 +44,14 @@ impl Model for Told {
     ghost invariant = { λ t. Rises 0 t.marks.items (length t.octets.octets) };
 }
 
-impl Told {
+impl Events {
     ghost use Rattle.beep_memory.specs.Kept.{entry_as};
 
     /// Nothing has happened, and there is no room. It takes no memory.
-    pub(crate) fn new(alloc: Global) -> Told
+    pub(crate) fn new(alloc: Global) -> Events
         ensures { result.events ≡ [] }
     {
-        Told {
+        Events {
             octets: Octets::new(alloc),
             marks: Vec::new(alloc),
         }

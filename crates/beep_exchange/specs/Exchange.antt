@@ -50,7 +50,7 @@ pub record Life : Type 0 where
   pub given : Given
 
 -- the exchange is what this history leaves, and no rule of the exchange was broken in it
-pub record Stands (life : Life) (past : List Item) : Type 0 where
+pub record IsExchange (life : Life) (past : List Item) : Type 0 where
   pub unbroken : KeepsExchangeRules past
   pub received : life.received ≡ kept_of Side.Received past
   pub sent : life.sent ≡ kept_of Side.Sent past

@@ -14,7 +14,7 @@ use Rattle.beep_history.proofs.SoundLemmas.{Sound, IsDue}
 use Rattle.beep_history.proofs.PassedLemmas.{sound}
 use Rattle.beep_exchange.specs.Kept.{Kept, begins, judged, shape_tests, limit_tests, breaks_empty_answer, breaks_too_many_requests, fresh, began_kept, passed_kept, replied_kept}
 use Rattle.beep_exchange.specs.declared.given.Given.{Given}
-use Rattle.beep_exchange.specs.Stands.{Life, Stands, kept_of}
+use Rattle.beep_exchange.specs.Exchange.{Life, IsExchange, kept_of}
 use Rattle.beep_exchange.proofs.JudgedLemmas.{judged-is}
 use Rattle.beep_exchange.proofs.NotedLemmas.{began-kept, began-other, passed-kept, request-other, replied-kept}
 
@@ -40,7 +40,7 @@ passed-other asker past head payload s true r due old e =
     ap (λ (k : Kept). replied_kept k head) e ∙ sym (replied-kept asker past head payload s r (due refl))
 passed-other asker past head payload s false r due old e = e ∙ sym (request-other asker past head payload r)
 
-module _ (life : Life) (past : List Item) (s : Stands life past) where
+module _ (life : Life) (past : List Item) (s : IsExchange life past) where
   pub judged-received : (head : Head) → judged life.received life.sent head ≡ exchange_rule Side.Received past head
   judged-received head = rw (s.received, s.sent) (judged-is Side.Received past head s.unbroken)
 
@@ -48,7 +48,7 @@ module _ (life : Life) (past : List Item) (s : Stands life past) where
   judged-sent head = rw (s.received, s.sent) (judged-is Side.Sent past head s.unbroken)
 
   pub began-received : (head : Head) → life.received.under_way ≡ None → judged life.received life.sent head ≡ None
-      → Stands (record life { received = began_kept life.received head }) (began Side.Received head ∷ past)
+      → IsExchange (record life { received = began_kept life.received head }) (began Side.Received head ∷ past)
   began-received head idle none = record {
     unbroken = (ap (λ (k : Kept). k.under_way) (sym s.received) ∙ idle, sym (judged-received head) ∙ none, s.unbroken);
     received = ap (λ (k : Kept). began_kept k head) s.received ∙ sym (began-kept Side.Received past head (sound Side.Received past s.unbroken));
@@ -56,7 +56,7 @@ module _ (life : Life) (past : List Item) (s : Stands life past) where
   }
 
   pub began-sent : (head : Head) → life.sent.under_way ≡ None → judged life.sent life.received head ≡ None
-      → Stands (record life { sent = began_kept life.sent head }) (began Side.Sent head ∷ past)
+      → IsExchange (record life { sent = began_kept life.sent head }) (began Side.Sent head ∷ past)
   began-sent head idle none = record {
     unbroken = (ap (λ (k : Kept). k.under_way) (sym s.sent) ∙ idle, sym (judged-sent head) ∙ none, s.unbroken);
     received = s.received ∙ sym (began-other Side.Sent past head);
@@ -64,7 +64,7 @@ module _ (life : Life) (past : List Item) (s : Stands life past) where
   }
 
   pub passed-received : (head : Head) (payload : List ℕ) → life.received.under_way ≡ Some head → length payload ≡ head.size
-      → Stands (record life {
+      → IsExchange (record life {
         received = passed_kept life.received;
         sent = if is_reply head.kind then replied_kept life.sent head else life.sent;
       }) (passed Side.Received head payload ∷ past)
@@ -78,7 +78,7 @@ module _ (life : Life) (past : List Item) (s : Stands life past) where
       }
 
   pub passed-sent : (head : Head) (payload : List ℕ) → life.sent.under_way ≡ Some head → length payload ≡ head.size
-      → Stands (record life {
+      → IsExchange (record life {
         sent = passed_kept life.sent;
         received = if is_reply head.kind then replied_kept life.received head else life.received;
       }) (passed Side.Sent head payload ∷ past)
@@ -91,15 +91,15 @@ module _ (life : Life) (past : List Item) (s : Stands life past) where
         sent = ap passed_kept s.sent ∙ sym (passed-kept Side.Sent past head payload under);
       }
 
-  pub told-any : (by : Side) (seq : Seq) → Stands life (told by seq ∷ past)
+  pub told-any : (by : Side) (seq : Seq) → IsExchange life (told by seq ∷ past)
   told-any by seq = record { unbroken = s.unbroken; received = s.received; sent = s.sent }
 
 -- ---- a new life
 
-pub stands-fresh : (life : Life) → life.received ≡ fresh → life.sent ≡ fresh → Stands life []
+pub stands-fresh : (life : Life) → life.received ≡ fresh → life.sent ≡ fresh → IsExchange life []
 stands-fresh life e f = record { unbroken = tt; received = e; sent = f }
 
-pub stands-opening : (life : Life) → life.received ≡ passed_kept (began_kept fresh implied) → life.sent ≡ passed_kept (began_kept fresh implied) → Stands life opening
+pub stands-opening : (life : Life) → life.received ≡ passed_kept (began_kept fresh implied) → life.sent ≡ passed_kept (began_kept fresh implied) → IsExchange life opening
 unfolding exchange_rule
 stands-opening life e f = record {
   unbroken = (refl, refl, (refl, refl, (refl, refl, (refl, refl, tt))));
@@ -109,19 +109,19 @@ stands-opening life e f = record {
 
 -- ---- the calls, by the parts of the exchange
 
-module _ (r s : Kept) (g : Given) (now : Life) (view : record { received = r; sent = s; given = g } ≡ now) (past : List Item) (old : Stands now past) where
-  here : Stands (record { received = r; sent = s; given = g }) past
-  here = subst (λ (life : Life). Stands life past) (sym view) old
+module _ (r s : Kept) (g : Given) (now : Life) (view : record { received = r; sent = s; given = g } ≡ now) (past : List Item) (old : IsExchange now past) where
+  here : IsExchange (record { received = r; sent = s; given = g }) past
+  here = subst (λ (life : Life). IsExchange life past) (sym view) old
 
   pub note-in : (r' : Kept) (head : Head) → r' ≡ began_kept r head → now.received.under_way ≡ None → judged now.received now.sent head ≡ None
-      → Stands (record { received = r'; sent = s; given = g }) (began Side.Received head ∷ past)
+      → IsExchange (record { received = r'; sent = s; given = g }) (began Side.Received head ∷ past)
   note-in r' head e idle none =
       let idle' : r.under_way ≡ None = subst (λ (life : Life). life.received.under_way ≡ None) (sym view) idle in
       let none' : judged r s head ≡ None = subst (λ (life : Life). judged life.received life.sent head ≡ None) (sym view) none in
       rw e (began-received (record { received = r; sent = s; given = g }) past here head idle' none')
 
   pub note-out : (s' : Kept) (head : Head) → s' ≡ began_kept s head → now.sent.under_way ≡ None → judged now.sent now.received head ≡ None
-      → Stands (record { received = r; sent = s'; given = g }) (began Side.Sent head ∷ past)
+      → IsExchange (record { received = r; sent = s'; given = g }) (began Side.Sent head ∷ past)
   note-out s' head e idle none =
       let idle' : s.under_way ≡ None = subst (λ (life : Life). life.sent.under_way ≡ None) (sym view) idle in
       let none' : judged s r head ≡ None = subst (λ (life : Life). judged life.sent life.received head ≡ None) (sym view) none in
@@ -129,7 +129,7 @@ module _ (r s : Kept) (g : Given) (now : Life) (view : record { received = r; se
 
   pub note-whole : (r' s' : Kept) (h head : Head) (payload : List ℕ) → r' ≡ passed_kept r → s' ≡ (if is_reply h.kind then replied_kept s h else s)
       → r.under_way ≡ Some h → now.received.under_way ≡ Some head → length payload ≡ head.size
-      → Stands (record { received = r'; sent = s'; given = g }) (passed Side.Received head payload ∷ past)
+      → IsExchange (record { received = r'; sent = s'; given = g }) (passed Side.Received head payload ∷ past)
   note-whole r' s' h head payload e f under begun size =
       let begun' : r.under_way ≡ Some head = subst (λ (life : Life). life.received.under_way ≡ Some head) (sym view) begun in
       let same : h ≡ head = (let g : Some h ≡ Some head = sym under ∙ begun' in cc) in
@@ -137,7 +137,7 @@ module _ (r s : Kept) (g : Given) (now : Life) (view : record { received = r; se
 
   pub note-sent : (r' s' : Kept) (h head : Head) (payload : List ℕ) → s' ≡ passed_kept s → r' ≡ (if is_reply h.kind then replied_kept r h else r)
       → s.under_way ≡ Some h → now.sent.under_way ≡ Some head → length payload ≡ head.size
-      → Stands (record { received = r'; sent = s'; given = g }) (passed Side.Sent head payload ∷ past)
+      → IsExchange (record { received = r'; sent = s'; given = g }) (passed Side.Sent head payload ∷ past)
   note-sent r' s' h head payload e f under begun size =
       let begun' : s.under_way ≡ Some head = subst (λ (life : Life). life.sent.under_way ≡ Some head) (sym view) begun in
       let same : h ≡ head = (let g : Some h ≡ Some head = sym under ∙ begun' in cc) in
