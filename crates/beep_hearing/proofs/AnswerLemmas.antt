@@ -22,7 +22,7 @@ use Rattle.beep_standing.specs.Standing.{Marks, AreLiveBy}
 use Rattle.beep_standing.proofs.ArriveLemmas.{idle-each, is-each}
 use Rattle.beep_hearing.specs.declared.heard.Heard.{Heard}
 use Rattle.beep_hearing.specs.declared.ear.Ear.{Ear}
-use Rattle.beep_hearing.specs.Hears.{IsEar, Passes}
+use Rattle.beep_hearing.specs.Hears.{IsEar, PassesBy}
 use Rattle.beep_hearing.specs.Answers.{Answers}
 use Rattle.beep_hearing.specs.Left.{HasRoom, IfUnderOf, IfUnder, MayPass, Gathers, IsWhole, heard_by, last_place, stopped_at}
 use Rattle.beep_hearing.proofs.StepLemmas.{goes_head, goes_seq, goes_above, goes_part, goes_zero, breaks_head, breaks_seq}
@@ -134,7 +134,7 @@ module _ (size : ℕ) (fed rest : List ℕ) (journal : List Item) (given taken :
       → ((gives.head.channel == 0) ≡ true → gives.head.more ≡ true → (heard ≡ Heard.More) × (new ≡ record now { under = None; heard = true; text = new.text })
       × Gathers now.text new.text gives.payload
       × ((size : ℕ) (journal : List Item) (given taken : Marks) → AreLiveBy size journal given taken channels → under_way Side.Received journal ≡ Some gives.head
-      → Passes size (passed Side.Received gives.head gives.payload ∷ journal) given taken later))
+      → PassesBy size (passed Side.Received gives.head gives.payload ∷ journal) given taken later))
       → ((gives.head.channel == 0) ≡ true → gives.head.more ≡ false → (heard ≡ Heard.Zero gives.head) × (new ≡ record now { waits = Some gives.head; text = new.text })
       × Gathers now.text new.text gives.payload × (later ≡ channels))
       → Answers heard size octets fed journal given taken new later

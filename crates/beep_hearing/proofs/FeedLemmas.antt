@@ -1,5 +1,6 @@
 -- What octets make of an ear, one piece after another.
-use Rattle.std.proofs.Common.{◌≡◌, ℕ, ◌+◌, List, [], ◌∷◌, ◌++◌, length, take, drop, ◌-◌, refl, sym, ap, subst, subst₂, ◌∙◌, append_assoc, append-nil}
+use Rattle.std.proofs.Common.{◌≡◌, ℕ, ◌+◌, Bool, true, false, ◌||◌, List, [], ◌∷◌, ◌++◌, length, take, drop, ◌-◌, refl, sym, ap, subst, subst₂, ◌∙◌, append_assoc, append-nil}
+use Rattle.std.specs.List.{list_any}
 use Rattle.std.proofs.Math.Logic.{∥∥₁_map}
 use Rattle.std.proofs.lemmas.List.{take_rest}
 use Rattle.std.proofs.Math.Seq.{take-add}
@@ -11,7 +12,7 @@ use Rattle.beep_channel.specs.Held.{Live}
 use Rattle.beep_standing.specs.Standing.{Marks, AreLiveBy}
 use Rattle.beep_hearing.specs.declared.heard.Heard.{Heard}
 use Rattle.beep_hearing.specs.declared.ear.Ear.{Ear}
-use Rattle.beep_hearing.specs.Hears.{IsEar, Waits, BreaksAt, MayJoin, Join, Brings, Goes, Arrives}
+use Rattle.beep_hearing.specs.Hears.{IsEar, Waits, BreaksAt, MayJoin, Join, Brings, Goes, Arrives, ends_zero}
 use Rattle.beep_hearing.specs.Answers.{Answers, IsHeld}
 
 -- nothing was used
@@ -21,6 +22,7 @@ goes_none size fed rest journal given taken ear channels s = record {
   gained = [];
   brings = record {
     join = tt;
+    quiet = refl;
     rest = rest;
     taken_now = taken;
     same = λ n above. refl;
@@ -41,6 +43,7 @@ goes_roomed size octets fed journal given taken ear channels later g room = reco
   gained = g.gained;
   brings = record {
     join = g.brings.join;
+    quiet = g.brings.quiet;
     rest = g.brings.rest;
     taken_now = g.brings.taken_now;
     same = g.brings.same;
@@ -55,6 +58,16 @@ join_all [] gained journal both first = first
 join_all (item ∷ later) gained journal both first =
     (subst (MayJoin item) (sym (append_assoc later gained journal)) both.0, join_all later gained journal both.1 first)
 
+-- no message of channel zero ends in both
+quiet_all : (later gained : List Item) → list_any ends_zero later ≡ false → list_any ends_zero gained ≡ false → list_any ends_zero (later ++ gained) ≡ false
+quiet_all [] gained both first = first
+quiet_all (item ∷ later) gained both first = of (ends_zero item) refl both (λ rest. quiet_all later gained rest first)
+  where
+    of : (b : Bool) → ends_zero item ≡ b → (b || list_any ends_zero later) ≡ false → (list_any ends_zero later ≡ false → list_any ends_zero (later ++ gained) ≡ false)
+        → (ends_zero item || list_any ends_zero (later ++ gained)) ≡ false
+    of true e both others = absurd (let g : true ≡ false = both in cc)
+    of false e both others = rw e (others both)
+
 module _ (size : ℕ) (one two fed : List ℕ) (journal : List Item) (given taken : Marks) (ear : Ear) (channels : List Live) (g : Goes size one fed journal given taken ear channels)
     (new : Ear) (later : List Live) where
   abbrev mid : Marks
@@ -63,6 +76,7 @@ module _ (size : ℕ) (one two fed : List ℕ) (journal : List Item) (given take
   brings_both : (gained : List Item) → Brings size two (fed ++ one) (g.gained ++ journal) gained given mid new later → Brings size (one ++ two) fed journal (gained ++ g.gained) given taken new later
   brings_both gained b = record {
     join = join_all gained g.gained journal b.join g.brings.join;
+    quiet = quiet_all gained g.gained b.quiet g.brings.quiet;
     rest = b.rest;
     taken_now = b.taken_now;
     same = λ n above. b.same n above ∙ g.brings.same n above;
@@ -88,6 +102,7 @@ module _ (size : ℕ) (one two fed : List ℕ) (journal : List Item) (given take
   answers_both (Heard.Zero head) h = record {
     gained = h.gained ++ g.gained;
     join = join_all h.gained g.gained journal h.join g.brings.join;
+    quiet = quiet_all h.gained g.gained h.quiet g.brings.quiet;
     payload = h.payload;
     taken_now = h.taken_now;
     same = λ n above. h.same n above ∙ g.brings.same n above;
@@ -98,6 +113,7 @@ module _ (size : ℕ) (one two fed : List ℕ) (journal : List Item) (given take
       record {
         gained = h.gained ++ g.gained;
         join = join_all h.gained g.gained journal h.join g.brings.join;
+        quiet = quiet_all h.gained g.gained h.quiet g.brings.quiet;
         before = one ++ h.before;
         octet = h.octet;
         rest = h.rest;

@@ -4,3 +4,4 @@ pub mod HearLemmas
 pub mod TextLemmas
 pub mod AnswerLemmas
 pub mod DropLemmas
+pub mod WaitLemmas

@@ -1,5 +1,5 @@
 -- What one step of a decoder makes of an ear and of the journal for which it stands.
-use Rattle.std.proofs.Common.{◌≡◌, ℕ, ◌+◌, ◌-◌, ◌^◌, ◌<◌, ◌==◌, inl, inr, Bool, true, false, nat_lt, if◌then◌else◌, List, [], ◌∷◌, ◌++◌, length, map, Option, None, Some, refl, sym, ap, subst, subst₂, ◌∙◌, append_assoc, append-nil, arith, length-append, lt-ltb}
+use Rattle.std.proofs.Common.{◌≡◌, ℕ, ◌+◌, ◌-◌, ◌^◌, ◌<◌, ◌==◌, inl, inr, Bool, true, false, ◌&&◌, ◌||◌, nat_lt, if◌then◌else◌, List, [], ◌∷◌, ◌++◌, length, map, Option, None, Some, refl, sym, ap, subst, subst₂, ◌∙◌, append_assoc, append-nil, arith, length-append, lt-ltb}
 use Rattle.std.specs.List.{flat_map}
 use Rattle.std.proofs.lemmas.List.{append_cancel_left}
 use Rattle.beep_octets.specs.Held.{Held}
@@ -25,7 +25,7 @@ use Rattle.beep_journal.proofs.JournalLemmas.{above-zero}
 use Rattle.beep_channel.specs.Held.{Live}
 use Rattle.beep_standing.specs.Standing.{Marks, AreLiveBy}
 use Rattle.beep_hearing.specs.declared.ear.Ear.{Ear}
-use Rattle.beep_hearing.specs.Hears.{IsText, IsFed, IsEar, BreaksAt, Goes, Arrives, EndsZero, Passes, Breaks}
+use Rattle.beep_hearing.specs.Hears.{IsText, IsFed, IsEar, BreaksAt, Goes, Arrives, EndsZero, PassesBy, Breaks, ends_zero}
 use Rattle.beep_hearing.specs.Left.{HasRoom, stopped_at, last_place}
 
 used_more : (fed taken : List ℕ) (old new : ℕ) → old ≡ modulo_2_64 (length fed) → new ≡ modulo_2_64 (old + length taken) → new ≡ modulo_2_64 (length (fed ++ taken))
@@ -113,6 +113,7 @@ module _ (size : ℕ) (fed rest : List ℕ) (journal : List Item) (given taken :
     gained = [];
     brings = record {
       join = tt;
+      quiet = refl;
       rest = rest ++ octets;
       taken_now = taken;
       same = λ n above. refl;
@@ -139,6 +140,7 @@ module _ (size : ℕ) (fed rest : List ℕ) (journal : List Item) (given taken :
     gained = began Side.Received head ∷ [];
     brings = record {
       join = ((refl, gives.is_head, gives.first, fine), tt);
+      quiet = refl;
       rest = rest ++ octets;
       taken_now = taken;
       same = λ n above. refl;
@@ -165,6 +167,7 @@ module _ (size : ℕ) (fed rest : List ℕ) (journal : List Item) (given taken :
     gained = told Side.Received seq ∷ [];
     brings = record {
       join = ((refl, gives.is_seq, gives.none, fine), tt);
+      quiet = refl;
       rest = [];
       taken_now = taken;
       same = λ n above. refl;
@@ -212,6 +215,16 @@ module _ (size : ℕ) (fed rest : List ℕ) (journal : List Item) (given taken :
       used_is = now_used;
     }
 
+    quiet-above : (head.channel == 0) ≡ false → (ends_zero (passed Side.Received head payload) || false) ≡ false
+    quiet-above above = rw above refl
+
+    quiet-part : head.more ≡ true → (ends_zero (passed Side.Received head payload) || false) ≡ false
+    quiet-part more = rw more (none (head.channel == 0))
+      where
+        none : (b : Bool) → ((b && false) || false) ≡ false
+        none true = refl
+        none false = refl
+
     pub goes_above : (number : ℕ) (later : List Live) → head.channel ≡ number → (head.channel == 0) ≡ false → AreLiveBy size (passed Side.Received head payload ∷ journal) given taken later
         → Arrives number size octets fed journal given taken (record read { under = None; heard = true }) later
     goes_above number later named above live = record {
@@ -222,6 +235,7 @@ module _ (size : ℕ) (fed rest : List ℕ) (journal : List Item) (given taken :
       above = subst (λ (n : ℕ). (n == 0) ≡ false) named above;
       brings = record {
         join = ((refl, subst₂ (λ (h : Head) (p : List ℕ). IsFrame (framed h p)) head_is payload_is gives.is_frame, frame_known), tt);
+        quiet = quiet-above above;
         rest = [];
         taken_now = taken;
         same = λ n above. refl;
@@ -246,12 +260,13 @@ module _ (size : ℕ) (fed rest : List ℕ) (journal : List Item) (given taken :
 
     pub goes_part : (text : Held) (later : List Live) → (head.channel == 0) ≡ true → head.more ≡ true
         → IsText text (gathered Side.Received (zero_history journal) ++ payload)
-        → Passes size (passed Side.Received head payload ∷ journal) given taken later
+        → PassesBy size (passed Side.Received head payload ∷ journal) given taken later
         → Goes size octets fed journal given taken (record read { under = None; heard = true; text = text }) later
     goes_part text later zero more is passes = record {
       gained = passed Side.Received head payload ∷ [];
       brings = record {
         join = ((refl, subst₂ (λ (h : Head) (p : List ℕ). IsFrame (framed h p)) head_is payload_is gives.is_frame, frame_known), tt);
+        quiet = quiet-part more;
         rest = [];
         taken_now = passes.taken_now;
         same = passes.same;
@@ -276,6 +291,7 @@ module _ (size : ℕ) (fed rest : List ℕ) (journal : List Item) (given taken :
     goes_zero text zero last whole room is = record {
       gained = [];
       join = tt;
+      quiet = refl;
       payload = payload;
       taken_now = taken;
       same = λ n above. refl;
@@ -307,6 +323,7 @@ module _ (size : ℕ) (fed rest : List ℕ) (journal : List Item) (given taken :
     breaks_by before octet cut place_is breaks = record {
       gained = [];
       join = tt;
+      quiet = refl;
       before = before;
       octet = octet;
       rest = rest ++ before;

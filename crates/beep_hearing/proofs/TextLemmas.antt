@@ -1,8 +1,8 @@
 -- What is kept of the octets of channel zero, and what a take leaves.
-use Rattle.std.proofs.Common.{◌≡◌, ◌⊎◌, inl, inr, ℕ, ◌+◌, ◌-◌, ◌<◌, ◌≤◌, ◌==◌, ◌^◌, nat_lt, true, false, Bool, List, ◌∷◌, ◌++◌, length, take, min, Option, refl, sym, ap, ◌∙◌, arith, length-append}
+use Rattle.std.proofs.Common.{◌≡◌, ◌⊎◌, inl, inr, ℕ, ◌+◌, ◌-◌, ◌<◌, ◌≤◌, ◌==◌, ◌^◌, nat_lt, nat_le, true, false, Bool, List, ◌∷◌, ◌++◌, length, take, min, Option, refl, sym, ap, ◌∙◌, arith, length-append}
 use Rattle.std.specs.Prelude.{drop}
 use Rattle.std.proofs.lemmas.Grind.{common_steps}
-use Rattle.std.proofs.lemmas.Bool.{cases_lt}
+use Rattle.std.proofs.lemmas.Bool.{cases_lt, leb-false, lt-leb}
 use Rattle.std.proofs.lemmas.List.{take_all, length-take, length-drop}
 use Rattle.std.proofs.Math.Seq.{take-append-add}
 use Rattle.std.proofs.lemmas.Bool.Decides.{nat_tests}
@@ -16,12 +16,14 @@ use Rattle.beep_frame.specs.Decoding.{DecoderState, WasFed}
 use Rattle.beep_frame.specs.Fed.{fed_of}
 use Rattle.beep_frame.proofs.LawLemmas.{means, length-header_line, length-seq_line}
 use Rattle.beep_text.specs.declared.limits.TheConstants.{MAX_TEXT}
+use Rattle.beep_mgmt.specs.Message.{message_said}
 use Rattle.beep_inbox.specs.declared.part.Part.{Part}
 use Rattle.beep_inbox.specs.Runs.{Run, octets_of, left_runs}
 use Rattle.beep_inbox.specs.Untaken.{IsTaken}
 use Rattle.beep_channel.specs.Held.{Live}
 use Rattle.beep_lives.specs.Lives.{live_at}
 use Rattle.beep_lives.specs.Edits.{Edits, Takes}
+use Rattle.beep_hearing.specs.Hears.{kept_text}
 use Rattle.beep_hearing.specs.Left.{Gathers, untaken_of}
 
 text-more : (limit : ℕ) (text whole payload : List ℕ) → text ≡ take limit whole → text ++ take (limit - length text) payload ≡ take limit (whole ++ payload)
@@ -78,7 +80,7 @@ takes-length part before after old new e =
 
 -- ---- less than a frame is short
 
-trailer-short : (front payload : List ℕ) → length (front ++ payload ++ trailer) ≡ length front + (length payload + 5)
+pub trailer-short : (front payload : List ℕ) → length (front ++ payload ++ trailer) ≡ length front + (length payload + 5)
 trailer-short front payload = omega (arith, length-append (front ++ payload) trailer, length-append front (payload ++ trailer), length-append payload trailer, length-append front payload)
 
 spelling-short : (frame : Frame) → IsFrame frame → length (spelling frame) < 2 ^ 64
@@ -96,3 +98,21 @@ none-left decoder fed frames rest known left was_fed is =
     let short = rest-short rest (means decoder fed frames rest known was_fed).stream.unfinished in
     let same : left ≡ length rest = omega (arith, short, is) in
     ap (λ (n : ℕ). n == 0) same
+
+-- ---- what is kept says what the whole says
+
+kept-long : (octets : List ℕ) → nat_le (length octets) MAX_TEXT ≡ false → nat_le (length (kept_text octets)) MAX_TEXT ≡ false
+kept-long octets long =
+    let above : MAX_TEXT < length octets = leb-false (length octets) MAX_TEXT long in
+    lt-leb (length (kept_text octets)) MAX_TEXT (omega (arith, above, length-take (MAX_TEXT + 1) octets))
+
+kept-whole : (octets : List ℕ) → nat_le (length octets) MAX_TEXT ≡ true → kept_text octets ≡ octets
+kept-whole octets short = take_all (MAX_TEXT + 1) octets (grind (arith, nat_tests, short))
+
+pub kept-says : (octets : List ℕ) → message_said (kept_text octets) ≡ message_said octets
+unfolding message_said
+kept-says octets = of (nat_le (length octets) MAX_TEXT) refl
+  where
+    of : (b : Bool) → nat_le (length octets) MAX_TEXT ≡ b → message_said (kept_text octets) ≡ message_said octets
+    of true short = ap message_said (kept-whole octets short)
+    of false long = rw (kept-long octets long, long) refl

@@ -1,12 +1,16 @@
--- What a feed answers of the octets that it used, for every journal for which the ear stood.
+-- What a feed answers of the octets that it used, for every journal for which the ear stood, and
+-- what callers know of an ear.
 -- The code goes from step to step of its decoder; here no step appears but the last.
-use Rattle.std.specs.Prelude.{◌≡◌, ℕ, List, None}
+use Rattle.std.specs.Prelude.{◌≡◌, ℕ, List, Option, None, Some}
+use Rattle.beep_frame.specs.declared.head.Head.{Head}
+use Rattle.beep_frame.specs.declared.rule.Rule.{Rule}
 use Rattle.beep_history.specs.Journal.{Item}
 use Rattle.beep_channel.specs.Held.{Live}
 use Rattle.beep_standing.specs.Standing.{Marks}
 use Rattle.beep_hearing.specs.declared.heard.Heard.{Heard}
+use Rattle.beep_hearing.specs.declared.stopped.Stopped.{Stopped}
 use Rattle.beep_hearing.specs.declared.ear.Ear.{Ear}
-use Rattle.beep_hearing.specs.Hears.{IsEar, Goes, Arrives, EndsZero, Breaks}
+use Rattle.beep_hearing.specs.Hears.{IsEar, Waits, Goes, Arrives, EndsZero, Breaks}
 
 -- what the answer says of the octets used
 abbrev pub Answers : Heard → ℕ → List ℕ → List ℕ → List Item → Marks → Marks → Ear → List Live
@@ -31,3 +35,15 @@ IsHeld ear channels =
 -- they do, where no rule was broken and no message of channel zero waits
 abbrev pub IsReached : Ear → List Live → Type 0
 IsReached ear channels = ear.broken ≡ None → ear.waits ≡ None → IsHeld ear channels
+
+-- a message of channel zero waits
+abbrev pub IsWaiting : Ear → List Live → Type 0
+IsWaiting ear channels =
+    ∥ ((size : ℕ) × (fed : List ℕ) × (journal : List Item) × (given : Marks) × (taken : Marks)
+    × (head : Head) × (payload : List ℕ)
+    × Waits size fed journal given taken head payload ear channels) ∥₁
+
+-- the rule that was broken and its place
+abbrev pub broken_at : Option Stopped → Option (Rule × ℕ)
+broken_at None = None
+broken_at (Some stopped) = Some (stopped.rule, stopped.place)

@@ -2,7 +2,8 @@
 -- it (RFC 3080, sections 2.2.1 and 2.3.1; RFC 3081, section 3.1).
 -- The code keeps no journal: here the octets so far are those that the journal spells, and then
 -- less than a frame.
-use Rattle.std.specs.Prelude.{◌≡◌, ℕ, ◌+◌, ◌<◌, ◌≤◌, ◌==◌, true, false, List, [], ◌∷◌, ◌++◌, length, take, map, None, Some, is_some, IfSome}
+use Rattle.std.specs.Prelude.{◌≡◌, ℕ, ◌+◌, ◌<◌, ◌≤◌, ◌==◌, Bool, true, false, not, ◌&&◌, List, [], ◌∷◌, ◌++◌, length, take, map, None, Some, is_some, IfSome}
+use Rattle.std.specs.List.{list_any}
 use Rattle.beep_octets.specs.Held.{Held}
 use Rattle.beep_text.specs.declared.limits.TheConstants.{MAX_TEXT}
 use Rattle.beep_frame.specs.declared.head.Head.{Head}
@@ -20,9 +21,9 @@ use Rattle.beep_history.specs.Broken.{under_way}
 use Rattle.beep_journal.specs.Zero.{zero_history, gathered}
 use Rattle.beep_journal.specs.Broken.{none_tunes, broken_head, broken_seq}
 use Rattle.beep_journal.specs.Journal.{Past, spelled, fault_at, TakesOctet}
-use Rattle.beep_lives.specs.Lives.{live_at}
-use Rattle.beep_channel.specs.Held.{Live}
-use Rattle.beep_standing.specs.Standing.{Marks, AreLiveBy}
+use Rattle.beep_lives.specs.Lives.{live_at, numbers}
+use Rattle.beep_channel.specs.Held.{Live, HasRoomOut}
+use Rattle.beep_standing.specs.Standing.{Marks, AreLive, AreLiveBy}
 use Rattle.beep_hearing.specs.declared.ear.Ear.{Ear}
 
 -- ---- what is kept
@@ -120,25 +121,44 @@ abbrev pub Join : List Item → List Item → Type 0
 Join [] journal = Unit {0}
 Join (item ∷ items) journal = MayJoin item (items ++ journal) × Join items journal
 
+-- an item ends a message of channel zero
+abbrev pub ends_zero : Item → Bool
+ends_zero (began side head) = false
+ends_zero (passed side head payload) = head.channel == 0 && not head.more
+ends_zero (told side seq) = false
+
 -- what is taken stays, but in channel zero
 abbrev pub SameAbove : Marks → Marks → Type 0
 SameAbove old new = (n : ℕ) → (0 == n) ≡ false → new n ≡ old n
 
--- the channels stand for the journal, and what arrived in channel zero is taken; what was taken
--- above stays
-pub record Passes (size : ℕ) (journal : List Item) (given taken : Marks) (channels : List Live)
-    : Type 0 where
+-- the channels stand for the journal, by the lives of an earlier part of it, and what arrived in
+-- channel zero is taken; what was taken above stays
+pub record Passes (size : ℕ) (earlier journal : List Item) (given taken : Marks)
+    (channels : List Live) : Type 0 where
   pub taken_now : Marks
   pub same : SameAbove taken taken_now
   pub zero : IsZeroTaken journal taken_now
-  pub live : AreLiveBy size journal given taken_now channels
+  pub live : AreLive size earlier journal given taken_now channels
+
+-- the like between two messages of channel zero
+abbrev pub PassesBy : ℕ → List Item → Marks → Marks → List Live → Type 0
+PassesBy size journal given taken channels = Passes size journal journal given taken channels
+
+-- each channel stays but that of this number, which keeps its room for what is given; and the
+-- numbers stay
+pub record KeepsOthers (number : ℕ) (old new : List Live) : Type 0 where
+  pub order : numbers new ≡ numbers old
+  pub others : (n : ℕ) → (number == n) ≡ false → live_at n new ≡ live_at n old
+  pub room : (before : Live) → live_at number old ≡ Some before
+      → (after : Live) × (live_at number new ≡ Some after) × HasRoomOut before after 0 0
 
 -- ---- what octets make of it
 
--- these octets brought these items
+-- these octets brought these items, of which none ends a message of channel zero
 pub record Brings (size : ℕ) (octets fed : List ℕ) (journal gained : List Item)
     (given taken : Marks) (ear : Ear) (channels : List Live) : Type 0 where
   pub join : Join gained journal
+  pub quiet : list_any ends_zero gained ≡ false
   pub rest : List ℕ
   pub taken_now : Marks
   pub same : SameAbove taken taken_now
@@ -161,22 +181,26 @@ pub record Arrives (number size : ℕ) (octets fed : List ℕ) (journal : List I
   pub brings : Brings size octets fed journal (passed Side.Received head payload ∷ gained) given
       taken ear channels
 
--- the last of these octets ended the last frame of a message of channel zero, which waits
+-- the last of these octets ended the last frame of a message of channel zero, which waits; no item
+-- before it ended one
 pub record EndsZero (head : Head) (size : ℕ) (octets fed : List ℕ) (journal : List Item)
     (given taken : Marks) (ear : Ear) (channels : List Live) : Type 0 where
   pub gained : List Item
   pub join : Join gained journal
+  pub quiet : list_any ends_zero gained ≡ false
   pub payload : List ℕ
   pub taken_now : Marks
   pub same : SameAbove taken taken_now
   pub waits : Waits size (fed ++ octets) (gained ++ journal) given taken_now head payload ear
       channels
 
--- the last of these octets broke this rule, and its number is the place
+-- the last of these octets broke this rule, and its number is the place; no item before it ended a
+-- message of channel zero
 pub record Breaks (rule : Rule) (place size : ℕ) (octets fed : List ℕ) (journal : List Item)
     (given taken : Marks) (ear : Ear) (channels : List Live) : Type 0 where
   pub gained : List Item
   pub join : Join gained journal
+  pub quiet : list_any ends_zero gained ≡ false
   pub before : List ℕ
   pub octet : ℕ
   pub rest : List ℕ

@@ -13,7 +13,7 @@ use Rattle.beep_lives.specs.Lives.{live_at, receiving_of}
 use Rattle.beep_hearing.specs.declared.heard.Heard.{Heard}
 use Rattle.beep_hearing.specs.declared.ear.Ear.{Ear}
 use Rattle.beep_history.specs.Journal.{Item}
-use Rattle.beep_standing.specs.Standing.{Marks, AreLiveBy}
+use Rattle.beep_standing.specs.Standing.{Marks, AreLive}
 use Rattle.beep_hearing.specs.Hears.{IsText, SameAbove}
 
 -- what channel zero holds untaken, as a number that each take lowers
@@ -21,12 +21,13 @@ abbrev pub untaken_of : Option Live → ℕ
 untaken_of None = 0
 untaken_of (Some channel) = octets_of channel.held.inbox + length channel.held.inbox
 
--- the channels stand for the journal; what was taken above zero stays
-pub record Drops (size : ℕ) (journal : List Item) (given taken : Marks) (channels : List Live)
-    : Type 0 where
+-- the channels stand for the journal, by the lives of an earlier part; what was taken above zero
+-- stays
+pub record Drops (size : ℕ) (earlier journal : List Item) (given taken : Marks)
+    (channels : List Live) : Type 0 where
   pub taken_now : Marks
   pub same : SameAbove taken taken_now
-  pub live : AreLiveBy size journal given taken_now channels
+  pub live : AreLive size earlier journal given taken_now channels
 
 -- the number of the octet that was used last
 abbrev pub last_place : ℕ → ℕ

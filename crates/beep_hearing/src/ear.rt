@@ -38,8 +38,8 @@ impl Ear {
     ghost use Rattle.beep_frame.specs.Modulo.{modulo_2_64};
     ghost use Rattle.beep_hearing.specs.declared.heard.Heard.{Heard as HeardValue};
     ghost use Rattle.beep_hearing.specs.declared.stopped.Stopped.{Stopped as StoppedValue};
-    ghost use Rattle.beep_hearing.specs.Hears.{Hears, IsEar, Waits, Passes};
-    ghost use Rattle.beep_hearing.specs.Answers.{Answers, IsHeld, IsReached};
+    ghost use Rattle.beep_hearing.specs.Hears.{Hears, IsEar, Waits, Passes, PassesBy, KeepsOthers};
+    ghost use Rattle.beep_hearing.specs.Answers.{Answers, IsHeld, IsReached, IsWaiting, broken_at};
     ghost use Rattle.beep_hearing.specs.Left.{IfUnder, IsWhole, MayPass, Gathers, heard_by, last_place, stopped_at};
 
     /// An ear to which nothing was fed. It takes room for one payload and for the text of channel
@@ -109,17 +109,77 @@ impl Ear {
         self.decoder.frame()
     }
 
-    /// Notes that the frame of channel zero that waited has passed.
-    pub fn pass_zero(&mut self)
-        ensures { (size : ℕ) (fed : List ℕ) (journal : List Item) (given taken : Marks)
-            (head : HeadValue) (payload : List ℕ) (channels : List Live)
-            → Waits size fed journal given taken head payload self.old channels
-            → Hears fed [] (passed Side.Received head payload ∷ journal) self.new }
+    /// The header of the frame of channel zero that waits.
+    pub fn waiting(&self) -> Option<Head>
+        ensures { result ≡ self.now.waits }
     {
+        self.waits
+    }
+
+    /// The rule that was broken and its place, as each feed answers them.
+    pub fn broken(&self) -> Option<(Rule, u64)>
+        ensures { result ≡ broken_at self.now.broken }
+    {
+        match self.broken {
+            Some(stopped) => Some((stopped.rule, stopped.place)),
+            None => None,
+        }
+    }
+
+    // ---- the frame that waits
+
+    /// The frame of channel zero that waits arrives, and its octets count as taken. What its
+    /// message says is still to be done. It takes no memory.
+    pub fn pass_zero(&mut self, lives: &mut Lives)
+        requires waits { IsWaiting self.old lives.old }
+        ensures hears { (size : ℕ) (fed : List ℕ) (journal : List Item) (given taken : Marks)
+            (head : HeadValue) (payload : List ℕ)
+            → Waits size fed journal given taken head payload self.old lives.old
+            → Hears fed [] (passed Side.Received head payload ∷ journal) self.new }
+        ensures passes { (size : ℕ) (fed : List ℕ) (journal : List Item) (given taken : Marks)
+            (head : HeadValue) (payload : List ℕ)
+            → Waits size fed journal given taken head payload self.old lives.old
+            → Passes size journal (passed Side.Received head payload ∷ journal) given taken
+            lives.new }
+        ensures others { KeepsOthers 0 lives.old lives.new }
+    {
+        let frame = self.decoder.frame();
+        let head = frame.head;
+        hear_frame(lives, &head, frame.payload);
+        drop_untaken(lives);
         self.text.clear();
         self.heard = true;
         self.under = None;
         self.waits = None;
+    }
+
+    /// The message of channel zero that waits is a reply without the form that its request asks
+    /// for. Its last frame passes as in `pass_zero`, and its last octet has broken ZeroReply.
+    pub fn refuse_zero(&mut self, lives: &mut Lives) -> (Rule, u64)
+        requires waits { IsWaiting self.old lives.old }
+        ensures rule { result.0 ≡ RuleValue.ZeroReply }
+        ensures place { (size : ℕ) (fed : List ℕ) (journal : List Item) (given taken : Marks)
+            (head : HeadValue) (payload : List ℕ)
+            → Waits size fed journal given taken head payload self.old lives.old
+            → result.1 ≡ modulo_2_64 (length fed - 1) }
+        ensures stopped { self.new.broken
+            ≡ Some (record { rule = result.0; place = result.1; left = 0 }) }
+
+        ensures passes { (size : ℕ) (fed : List ℕ) (journal : List Item) (given taken : Marks)
+            (head : HeadValue) (payload : List ℕ)
+            → Waits size fed journal given taken head payload self.old lives.old
+            → Passes size journal (passed Side.Received head payload ∷ journal) given taken
+            lives.new }
+        ensures others { KeepsOthers 0 lives.old lives.new }
+    {
+        self.pass_zero(lives);
+        let place = self.used.wrapping_sub(1);
+        self.broken = Some(Stopped {
+            rule: Rule::ZeroReply,
+            place,
+            left: 0,
+        });
+        (Rule::ZeroReply, place)
     }
 
     // ---- one step
@@ -198,7 +258,8 @@ impl Ear {
             × ((size : ℕ) (journal : List Item) (given taken : Marks)
             → AreLiveBy size journal given taken lives.old
             → under_way Side.Received journal ≡ Some head
-            → Passes size (passed Side.Received head payload ∷ journal) given taken lives.new) }
+            → PassesBy size (passed Side.Received head payload ∷ journal) given taken
+            lives.new) }
         ensures last { (head : HeadValue) (payload : List ℕ) → IsWhole head payload self.old
             → (head.channel == 0) ≡ true → head.more ≡ false
             → (result ≡ HeardValue.Zero head)

@@ -9,8 +9,8 @@ ghost use Rattle.beep_history.specs.Marks.{previous};
 ghost use Rattle.beep_history.specs.Broken.{under_way};
 ghost use Rattle.beep_journal.specs.Broken.{none_tunes, broken_head, broken_seq, is_greeting, breaks_zero_reply};
 ghost use Rattle.beep_lives.specs.Lives.{live_at, has_begun, receiving_of};
-ghost use Rattle.beep_standing.specs.Standing.{Marks, AreLiveBy};
-ghost use Rattle.beep_hearing.specs.Hears.{IsZeroTaken, Passes};
+ghost use Rattle.beep_standing.specs.Standing.{Marks, AreLive, AreLiveBy};
+ghost use Rattle.beep_hearing.specs.Hears.{Passes, KeepsOthers};
 
 use beep_frame::{Head, Kind, Rule, Seq};
 use beep_lives::Lives;
@@ -104,6 +104,12 @@ pub(crate) fn hear_frame(lives: &mut Lives, head: &Head, payload: &[u8])
         → head.now.more ≡ true
         → AreLiveBy size (passed Side.Received head.now payload.now ∷ journal) given taken
         lives.new }
+    ensures last { (size : ℕ) (journal : List Item) (given taken : Marks)
+        → AreLiveBy size journal given taken lives.old
+        → under_way Side.Received journal ≡ Some head.now → (head.now.channel == 0) ≡ true
+        → AreLive size journal (passed Side.Received head.now payload.now ∷ journal) given taken
+        lives.new }
+    ensures others { KeepsOthers head.now.channel lives.old lives.new }
     ensures zero { is_some (live_at 0 lives.new) ≡ is_some (live_at 0 lives.old) }
 {
     let Ok(_arrived) = lives.arrive(head, payload) else {
@@ -114,9 +120,10 @@ pub(crate) fn hear_frame(lives: &mut Lives, head: &Head, payload: &[u8])
 /// What arrived in channel zero is taken, and dropped.
 pub(crate) fn drop_untaken(lives: &mut Lives)
     requires live { is_some (live_at 0 lives.old) ≡ true }
-    ensures { (size : ℕ) (journal : List Item) (given taken : Marks)
-        → AreLiveBy size journal given taken lives.old
-        → Passes size journal given taken lives.new }
+    ensures passes { (size : ℕ) (earlier journal : List Item) (given taken : Marks)
+        → AreLive size earlier journal given taken lives.old
+        → Passes size earlier journal given taken lives.new }
+    ensures others { KeepsOthers 0 lives.old lives.new }
 {
     let mut buf = [0u8; PIECE];
     while let Some(_part) = lives.take(0, &mut buf) {}

@@ -2,7 +2,8 @@ use Rattle.std.proofs.Common.{◌≡◌, List, ℕ, length, true}
 use Rattle.std.specs.Prelude.{is_some}
 use Rattle.beep_history.specs.Journal.{Item}
 use Rattle.beep_lives.specs.Lives.{live_at}
-use Rattle.beep_standing.specs.Standing.{Marks, AreLiveBy}
+use Rattle.beep_standing.specs.Standing.{Marks, AreLive}
+use Rattle.beep_hearing.specs.Hears.{KeepsOthers}
 use Rattle.beep_hearing.specs.Left.{Drops, untaken_of}
 use Rattle.beep_hearing.proofs.hear.drop_untaken.Given as goal
 
@@ -10,7 +11,8 @@ abbrev pub invariant-loop-part : goal.invariant-loop-part
 invariant-loop-part l = record {
   live : is_some (live_at 0 l.lives) ≡ true;
   sized : length l.buf ≡ 4096;
-  drops : (size : ℕ) (journal : List Item) (given taken : Marks) → AreLiveBy size journal given taken l.fn.lives → Drops size journal given taken l.lives;
+  drops : (size : ℕ) (earlier journal : List Item) (given taken : Marks) → AreLive size earlier journal given taken l.fn.lives → Drops size earlier journal given taken l.lives;
+  others : KeepsOthers 0 l.fn.lives l.lives;
 }
 
 abbrev pub decreases-loop-part : goal.decreases-loop-part

@@ -8,7 +8,7 @@ use Rattle.beep_history.specs.Journal.{passed}
 use Rattle.beep_lives.specs.Lives.{live_at, receiving_of}
 use Rattle.beep_standing.specs.Standing.{AreLiveBy}
 use Rattle.beep_hearing.specs.declared.heard.Heard.{Heard}
-use Rattle.beep_hearing.specs.Hears.{Passes}
+use Rattle.beep_hearing.specs.Hears.{PassesBy}
 use Rattle.beep_hearing.specs.Left.{Gathers}
 use Rattle.beep_hearing.proofs.AnswerLemmas.{has-room}
 use Rattle.beep_hearing.proofs.ear.Ear.pass.Goals as goal
@@ -73,7 +73,8 @@ returns-clause-part c head payload w zero more =
       refl,
       subst (λ (p : List ℕ). Gathers c.args.self.now.text c.gather.new.text p) e.1 c.gather.ensures,
       λ size journal given taken s begun.
-          subst₂ (λ (h : Head) (p : List ℕ). Passes size (passed Side.Received h p ∷ journal) given taken c.drop_untaken.new.lives) e.0 e.1
-          (c.drop_untaken.ensures size (passed Side.Received c.frame-frame.result.head c.frame-frame.result.payload.now ∷ journal) given taken
+          subst₂ (λ (h : Head) (p : List ℕ). PassesBy size (passed Side.Received h p ∷ journal) given taken c.drop_untaken.new.lives) e.0 e.1
+          (c.drop_untaken.ensures.passes size (passed Side.Received c.frame-frame.result.head c.frame-frame.result.payload.now ∷ journal)
+          (passed Side.Received c.frame-frame.result.head c.frame-frame.result.payload.now ∷ journal) given taken
           (c.hear_frame-2.ensures.part size journal given taken s (begun ∙ ap (λ (h : Head). Some h) (sym e.0)) (ap (λ (h : Head). h.channel == 0) e.0 ∙ zero) (ap (λ (h : Head). h.more) e.0 ∙ more))),
     )
