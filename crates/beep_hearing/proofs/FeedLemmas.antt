@@ -1,9 +1,11 @@
 -- What octets make of an ear, one piece after another.
 use Rattle.std.proofs.Common.{◌≡◌, ℕ, ◌+◌, Bool, true, false, ◌||◌, List, [], ◌∷◌, ◌++◌, length, take, drop, ◌-◌, refl, sym, ap, subst, subst₂, ◌∙◌, append_assoc, append-nil}
+use Rattle.std.proofs.lemmas.Grind.{merely}
 use Rattle.std.specs.List.{list_any}
 use Rattle.std.proofs.Math.Logic.{∥∥₁_map}
 use Rattle.std.proofs.lemmas.List.{take_rest}
 use Rattle.std.proofs.Math.Seq.{take-add}
+use Rattle.beep_frame.specs.declared.head.Head.{Head}
 use Rattle.beep_frame.specs.Modulo.{modulo_2_64}
 use Rattle.beep_history.specs.declared.journal.Side.{Side}
 use Rattle.beep_history.specs.Journal.{Item, passed}
@@ -13,7 +15,7 @@ use Rattle.beep_standing.specs.Standing.{Marks, AreLiveBy}
 use Rattle.beep_hearing.specs.declared.heard.Heard.{Heard}
 use Rattle.beep_hearing.specs.declared.ear.Ear.{Ear}
 use Rattle.beep_hearing.specs.Hears.{IsEar, Waits, BreaksAt, MayJoin, Join, Brings, Goes, Arrives, ends_zero}
-use Rattle.beep_hearing.specs.Answers.{Answers, IsHeld}
+use Rattle.beep_hearing.specs.Answers.{Answers, IsHeld, IsReached, IsWaiting}
 
 -- nothing was used
 pub goes_none : (size : ℕ) (fed rest : List ℕ) (journal : List Item) (given taken : Marks) (ear : Ear) (channels : List Live)
@@ -169,3 +171,26 @@ step_held octets heard ear new channels roomed later more room answers held =
     held_after ear new roomed later octets
     (λ size fed rest journal given taken s. subst (λ (h : Heard). Answers h size octets fed journal given taken new later) more (answers size fed rest journal given taken s))
     (held_roomed ear channels roomed room held)
+
+-- ---- what a caller knows after a feed
+
+module _ (size : ℕ) (octets fed : List ℕ) (journal : List Item) (given taken : Marks) (new : Ear) (later : List Live) where
+  held_goes : Goes size octets fed journal given taken new later → IsHeld new later
+  held_goes g = merely (size, fed ++ octets, g.brings.rest, g.gained ++ journal, given, g.brings.taken_now, g.brings.stands)
+
+  -- something is stood for, where no rule was broken and nothing waits
+  pub answers_reached : (heard : Heard) → Answers heard size octets fed journal given taken new later → IsReached new later
+  answers_reached Heard.More h going none = held_goes h
+  answers_reached (Heard.Arrived number) h going none =
+      merely (size, fed ++ octets, h.brings.rest, passed Side.Received h.head h.payload ∷ h.gained ++ journal, given, h.brings.taken_now, h.brings.stands)
+  answers_reached (Heard.Zero head) h going none = absurd (cc (sym h.waits.waiting ∙ none))
+  answers_reached (Heard.Broken rule place) h going none = absurd (cc (sym h.stopped ∙ going))
+  answers_reached Heard.NoMemory h going none = held_goes h
+
+  -- a message waits where that is the answer
+  pub answers_waiting : (heard : Heard) (head : Head) → heard ≡ Heard.Zero head → Answers heard size octets fed journal given taken new later → IsWaiting new later
+  answers_waiting Heard.More head is h = absurd (cc is)
+  answers_waiting (Heard.Arrived number) head is h = absurd (cc is)
+  answers_waiting (Heard.Zero other) head is h = merely (size, fed ++ octets, h.gained ++ journal, given, h.taken_now, other, h.payload, h.waits)
+  answers_waiting (Heard.Broken rule place) head is h = absurd (cc is)
+  answers_waiting Heard.NoMemory head is h = absurd (cc is)

@@ -5,3 +5,4 @@ pub mod TextLemmas
 pub mod AnswerLemmas
 pub mod DropLemmas
 pub mod WaitLemmas
+pub mod StillLemmas

@@ -356,6 +356,9 @@ impl Ear {
             → Answers result.1 size (take result.0 bytes.now) fed journal given taken
             self.new lives.new }
         ensures all { result.1 ≡ HeardValue.More → result.0 ≡ length bytes.now }
+        ensures reached { IsReached self.new lives.new }
+        ensures waits { (head : HeadValue) → self.old.waits ≡ None
+            → result.1 ≡ HeardValue.Zero head → IsWaiting self.new lives.new }
         ensures waiting { (head : HeadValue) → self.old.broken ≡ None
             → self.old.waits ≡ Some head → (result.0 ≡ 0) × (result.1 ≡ HeardValue.Zero head)
             × (self.new ≡ self.old) × (lives.new ≡ lives.old) }
@@ -381,3 +384,6 @@ impl Ear {
         (at, Heard::More)
     }
 }
+
+#[cfg(test)]
+mod tests;

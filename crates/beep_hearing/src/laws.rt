@@ -7,11 +7,14 @@ ghost use Rattle.beep_standing.specs.Standing.{no_marks};
 ghost use Rattle.beep_hearing.specs.declared.ear.Ear.{Ear};
 ghost use Rattle.beep_mgmt.specs.Message.{message_said};
 ghost use Rattle.beep_hearing.specs.Hears.{Hears, IsEar, kept_text};
+ghost use Rattle.beep_hearing.specs.Answers.{IsReached};
 
 /// A new ear and new channels stand for no octets and for the empty journal.
 pub fn a_new_ear_stands()
-    ensures { (size : ℕ) (ear : Ear) (channels : List Live) → Hears [] [] [] ear
+    ensures empty { (size : ℕ) (ear : Ear) (channels : List Live) → Hears [] [] [] ear
         → AreNew size channels → IsEar size [] [] [] no_marks no_marks ear channels }
+    ensures reached { (size : ℕ) (ear : Ear) (channels : List Live) → Hears [] [] [] ear
+        → AreNew size channels → IsReached ear channels }
 {}
 
 /// What is kept of a message of channel zero says what the whole says.

@@ -1,8 +1,11 @@
 -- One step after another.
-use Rattle.std.proofs.Common.{◌≡◌, ◌+◌, ◌-◌, length, take, drop, sym, subst, ◌∙◌, arith, length-take, length-drop}
+use Rattle.std.proofs.Common.{◌≡◌, ◌+◌, ◌-◌, length, take, drop, Option, None, Some, refl, sym, subst, ◌∙◌, arith, length-take, length-drop}
+use Rattle.std.proofs.Math.Logic.{∥∥₁_elim}
+use denote.Struct.Props.{props}
 use Rattle.beep_hearing.specs.declared.heard.Heard.{Heard}
-use Rattle.beep_hearing.specs.Answers.{Answers}
-use Rattle.beep_hearing.proofs.FeedLemmas.{goes_none, goes_roomed, held_roomed, step_answers, step_held}
+use Rattle.beep_hearing.specs.declared.stopped.Stopped.{Stopped}
+use Rattle.beep_hearing.specs.Answers.{Answers, IsWaiting}
+use Rattle.beep_hearing.proofs.FeedLemmas.{goes_none, goes_roomed, held_roomed, step_answers, step_held, answers_reached, answers_waiting}
 use Rattle.beep_hearing.proofs.ear.Ear.feed.Goals as goal
 
 pub loop-at-init : goal.loop-at-init
@@ -49,3 +52,32 @@ returns-then-not-is_more-clause-answers c size fed rest journal given taken s =
 
 pub returns-clause-answers : goal.returns-clause-answers
 returns-clause-answers c size fed rest journal given taken s = c.loop-at.invariant.goes size fed rest journal given taken s
+
+pub returns-in-Some-clause-reached : goal.returns-in-Some-clause-reached
+returns-in-Some-clause-reached c = c.requires.reached
+
+pub returns-in-Some-clause-waits : goal.returns-in-Some-clause-waits
+returns-in-Some-clause-waits c head none zero = of c.args.self.now.broken refl
+  where
+    of : (broken : Option Stopped) → c.args.self.now.broken ≡ broken → IsWaiting c.args.self.now c.args.lives.now
+    of None going = absurd (cc (sym c.in-Some.is ∙ c.over.ensures.going going none))
+    of (Some stopped) broken = absurd (cc (sym zero ∙ same (sym c.in-Some.is ∙ c.over.ensures.broken stopped broken)))
+      where
+        same : Some c.in-Some.answer ≡ Some (Heard.Broken stopped.rule stopped.place) → c.in-Some.answer ≡ Heard.Broken stopped.rule stopped.place
+        same e = cc
+
+pub returns-in-Err-clause-reached : goal.returns-in-Err-clause-reached
+returns-in-Err-clause-reached c going none = held_roomed c.loop-at.self c.loop-at.lives c.make_room.new.lives c.make_room.ensures.kept c.loop-at.invariant.held
+
+pub returns-then-not-is_more-clause-reached : goal.returns-then-not-is_more-clause-reached
+returns-then-not-is_more-clause-reached c going none =
+    ∥∥₁_elim (held_roomed c.loop-at.self c.loop-at.lives c.make_room.new.lives c.make_room.ensures.kept c.loop-at.invariant.held) (hlevel props) (λ s.
+    answers_reached s.0 _ s.1 s.3 s.4 s.5 c.hear-count.new.self c.hear-count.new.lives c.hear-count.result.1 (c.hear-count.ensures.answers s.0 s.1 s.2 s.3 s.4 s.5 s.6) going none)
+
+pub returns-then-not-is_more-clause-waits : goal.returns-then-not-is_more-clause-waits
+returns-then-not-is_more-clause-waits c head none zero =
+    ∥∥₁_elim (held_roomed c.loop-at.self c.loop-at.lives c.make_room.new.lives c.make_room.ensures.kept c.loop-at.invariant.held) (hlevel props) (λ s.
+    answers_waiting s.0 _ s.1 s.3 s.4 s.5 c.hear-count.new.self c.hear-count.new.lives c.hear-count.result.1 head zero (c.hear-count.ensures.answers s.0 s.1 s.2 s.3 s.4 s.5 s.6))
+
+pub returns-clause-reached : goal.returns-clause-reached
+returns-clause-reached c going none = c.loop-at.invariant.held
