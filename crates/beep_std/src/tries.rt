@@ -1,8 +1,9 @@
 //! One read or write of the system, which a signal may interrupt.
 ghost use Rattle.std.specs.Prelude.{◌<◌, ◌≤◌, length, IfOk};
 ghost use Rattle.std.specs.Io.{ReadsAtMost};
+ghost use Rattle.beep_wires.specs.Got.{GotWithin};
 
-use beep_wires::Failed;
+use beep_wires::{Failed, Got};
 use std::io::{ErrorKind, Read, Write};
 
 /// How many times in a row the system is asked in one call where a signal interrupts it each time:
@@ -22,6 +23,24 @@ pub(crate) fn read_once<R: Read>(from: &mut R, buf: &mut [u8]) -> Result<usize, 
                     return Err(Failed);
                 }
             }
+        }
+    }
+    Err(Failed)
+}
+
+/// Reads a link once, likewise. A read that had to wait too long was quiet.
+pub(crate) fn got_once<R: Read>(from: &mut R, buf: &mut [u8]) -> Result<Got, Failed>
+    ensures { GotWithin result buf.new }
+{
+    for _ in 0..TRIES {
+        match from.read(buf) {
+            Ok(0) => return Ok(Got::End),
+            Ok(n) => return Ok(Got::Bytes(n)),
+            Err(e) => match e.kind() {
+                ErrorKind::Interrupted => {}
+                ErrorKind::WouldBlock | ErrorKind::TimedOut => return Ok(Got::Quiet),
+                _ => return Err(Failed),
+            },
         }
     }
     Err(Failed)
