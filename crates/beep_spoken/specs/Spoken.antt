@@ -2,16 +2,16 @@
 -- (RFC 3080, section 2.3.1).
 -- The code keeps the octets that aren't sent yet. Here each message that was given stands in a
 -- list, so that what a frame says that goes out is known however the message was cut.
-use Rattle.std.specs.Prelude.{◌≡◌, ℕ, Bool, List, [], ◌∷◌, map, Some, slice_get}
-use Rattle.beep_frame.specs.Frame.{is_msg}
+use Rattle.std.specs.Prelude.{◌≡◌, ℕ, List, [], ◌∷◌, map, Some, slice_get}
+use Rattle.beep_frame.specs.declared.kind.Kind.{Kind}
 use Rattle.beep_history.specs.Marks.{Mark, octet, end}
 use Rattle.beep_mgmt.specs.Form.{Form}
 use Rattle.beep_mgmt.specs.Message.{message_text, message_said}
 use Rattle.beep_journal.specs.Laws.{pieces_from, rest_from}
 
--- one message: whether it is a request, and what it says
+-- one message: its kind, and what it says
 pub record Spoken : Type 0 where
-  pub asks : Bool
+  pub kind : Kind
   pub form : Form
 
 -- its octets
@@ -23,24 +23,23 @@ abbrev pub AllSaid : List Spoken → Type 0
 AllSaid [] = Unit {0}
 AllSaid (one ∷ others) = (message_said (text_of one) ≡ Some one.form) × AllSaid others
 
--- of each message that ends among these marks, whether it is a request
-abbrev pub asking : List Mark → List Bool
-asking [] = []
-asking (octet tag value ∷ marks) = asking marks
-asking (end tag ∷ marks) = is_msg tag.kind ∷ asking marks
+-- the kind of each message that ends among these marks
+abbrev pub kinds_of : List Mark → List Kind
+kinds_of [] = []
+kinds_of (octet tag value ∷ marks) = kinds_of marks
+kinds_of (end tag ∷ marks) = tag.kind ∷ kinds_of marks
 
 -- the marks that were given are those of these messages, each of them whole
 pub record AreSpoken (spoken : List Spoken) (given : List Mark) : Type 0 where
   pub octets : pieces_from [] given ≡ map text_of spoken
-  pub kinds : asking given ≡ map (λ one. one.asks) spoken
+  pub kinds : kinds_of given ≡ map (λ one. one.kind) spoken
   pub whole : rest_from [] given ≡ []
   pub said : AllSaid spoken
 
--- the message at a place among those that were given is a request or not, and its octets say its
--- value
-pub record IsSaid (spoken : List Spoken) (place : ℕ) (asks : Bool) (octets : List ℕ) : Type 0 where
+-- the message at a place among those that were given is of this kind, and its octets say its value
+pub record IsSaid (spoken : List Spoken) (place : ℕ) (kind : Kind) (octets : List ℕ) : Type 0 where
   pub one : Spoken
   pub at : slice_get spoken place ≡ Some one
-  pub kind : asks ≡ one.asks
+  pub kind_is : kind ≡ one.kind
   pub octets_are : octets ≡ text_of one
   pub says : message_said octets ≡ Some one.form

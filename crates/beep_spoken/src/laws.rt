@@ -1,7 +1,6 @@
 //! What is given to channel zero is what its frames say as they pass.
 ghost use Rattle.std.specs.Prelude.{◌≡◌, ℕ, ◌++◌, ◌∷◌, [], ◌==◌, List, Some, true, false, length, map, take};
 ghost use Rattle.beep_frame.specs.declared.head.Head.{Head};
-ghost use Rattle.beep_frame.specs.Frame.{is_msg};
 ghost use Rattle.beep_history.specs.declared.journal.Side.{Side};
 ghost use Rattle.beep_history.specs.Journal.{Item, passed};
 ghost use Rattle.beep_history.specs.Marks.{Mark, marks, mark_modulo_2_64};
@@ -21,7 +20,7 @@ pub fn nothing_was_spoken_at_first()
 pub fn what_is_given_is_spoken()
     ensures { (spoken : List Spoken) (given : List Mark) (message : Message) (one : Spoken)
         → AreSpoken spoken given → message.octets ≡ text_of one
-        → message_said (text_of one) ≡ Some one.form → is_msg message.tag.kind ≡ one.asks
+        → message_said (text_of one) ≡ Some one.form → message.tag.kind ≡ one.kind
         → AreSpoken (spoken ++ one ∷ []) (given ++ message_marks message) }
 {}
 
@@ -44,6 +43,6 @@ pub fn a_message_that_passes_says_what_was_spoken()
         → given ≡ map mark_modulo_2_64
         (marks Side.Sent (zero_history (passed Side.Sent head payload ∷ journal))) ++ unsent
         → (head.channel == 0) ≡ true → head.more ≡ false
-        → IsSaid spoken (length (contents Side.Sent journal)) (is_msg head.kind)
+        → IsSaid spoken (length (contents Side.Sent journal)) head.kind
         (gathered Side.Sent (zero_history journal) ++ payload) }
 {}
