@@ -104,6 +104,10 @@ closes number requests = list_any (closes_one number) requests
 abbrev pub is_leaving : List Kept → Bool
 is_leaving requests = list_any (λ kept. is_close_of 0 kept.said) requests
 
+-- one waits that is no close of 0
+abbrev pub asks_otherwise : List Kept → Bool
+asks_otherwise requests = list_any (λ kept. not (is_close_of 0 kept.said)) requests
+
 -- how many starts wait
 abbrev pub count_starts : List Kept → ℕ
 count_starts requests = length (filter (λ kept. is_start kept.said) requests)

@@ -1,12 +1,12 @@
 //! The requests of one side of channel zero that wait for their reply (RFC 3080, sections 2.3.1
 //! and 2.6.1).
-ghost use Rattle.std.specs.Prelude.{◌≡◌, ◌∷◌, ◌++◌, ◌+◌, ◌<◌, ◌≤◌, ◌==◌, [], length, filter, option_map, false, IfOk, OnOk, IsOk};
+ghost use Rattle.std.specs.Prelude.{◌≡◌, ◌∷◌, ◌++◌, ◌+◌, ◌<◌, ◌≤◌, ◌==◌, [], length, filter, not, option_map, false, IfOk, OnOk, IsOk};
 ghost use Rattle.std.specs.List.{list_any};
 ghost use Rattle.std.specs.Option.{option_copied, option_to_list, option_map_or};
 ghost use Rattle.std.specs.VecDeque.{deque_len, deque_capacity};
 ghost use Rattle.beep_mgmt.specs.Form.{form_of};
 ghost use Rattle.beep_decide.specs.Asks.{is_start, is_start_of, is_close_of};
-ghost use Rattle.beep_asked.specs.Kept.{implied_request, oldest, others, fits, after_grant, closes_one, starts, closes, is_leaving, count_starts};
+ghost use Rattle.beep_asked.specs.Kept.{implied_request, oldest, others, fits, after_grant, closes_one, starts, closes, is_leaving, asks_otherwise, count_starts};
 ghost use Rattle.beep_asked.specs.Kept.{clear as cleared};
 ghost use Rattle.beep_asked.specs.Request.{kept_of, all_kept};
 
@@ -48,14 +48,23 @@ impl Waiting {
         Ok(Waiting { list })
     }
 
-    /// Makes room for one more request. It takes memory only where there is none.
-    pub fn reserve(&mut self) -> Result<(), NoMemory>
-        ensures ok { OnOk result (0 < self.new.room) }
-        ensures succeeds { 0 < self.old.room → IsOk result }
+    /// A queue in which nothing waits. It takes no memory.
+    pub fn empty(alloc: Global) -> Waiting
+        ensures { result.requests ≡ [] }
+    {
+        Waiting {
+            list: VecDeque::new(alloc),
+        }
+    }
+
+    /// Makes room for `n` more requests. It takes memory only where there is none for them.
+    pub fn reserve(&mut self, n: usize) -> Result<(), NoMemory>
+        ensures ok { OnOk result (n ≤ self.new.room) }
+        ensures succeeds { n ≤ self.old.room → IsOk result }
         ensures kept { self.new.requests ≡ self.old.requests }
         ensures room { self.old.room ≤ self.new.room }
     {
-        self.list.reserve(1)?;
+        self.list.reserve(n)?;
         Ok(())
     }
 
@@ -163,6 +172,13 @@ impl Waiting {
         has_close_of_zero(&self.list)
     }
 
+    /// Whether one waits that is no close of 0.
+    pub fn asks_otherwise(&self) -> bool
+        ensures { result ≡ asks_otherwise self.now.requests }
+    {
+        has_other(&self.list)
+    }
+
     /// How many starts wait.
     pub fn count_starts(&self) -> usize
         ensures { result ≡ count_starts self.now.requests }
@@ -202,6 +218,14 @@ fn has_close_of_zero(list: &VecDeque<Request>) -> bool
     ensures { result ≡ list_any (λ request. is_close_of 0 (kept_of request).said) list.now.items }
 {
     list.iter().any(|request| request.is_close_of(0))
+}
+
+/// Whether one of them is no close of 0.
+fn has_other(list: &VecDeque<Request>) -> bool
+    ensures { result ≡ list_any (λ request. not (is_close_of 0 (kept_of request).said))
+        list.now.items }
+{
+    list.iter().any(|request| !request.is_close_of(0))
 }
 
 /// How many of them are starts.

@@ -219,7 +219,7 @@ fn grant(alloc: Global, said: &Option<Mgmt>) -> Result<Mgmt, NoMemory> {
 }
 
 fn ask(waiting: &mut Waiting, said: Mgmt, names: bool) -> Result<(), NoMemory> {
-    waiting.reserve()?;
+    waiting.reserve(1)?;
     waiting.push(Request {
         said: Some(said),
         implied: false,
