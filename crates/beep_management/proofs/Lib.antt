@@ -1,0 +1,9 @@
+pub mod ListLemmas
+pub mod ClearLemmas
+pub mod ItemLemmas
+pub mod SameLemmas
+pub mod LivesLemmas
+pub mod ReceivedLemmas
+pub mod SentLemmas
+pub mod GivenLemmas
+pub mod AnswerLemmas

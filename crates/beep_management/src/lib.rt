@@ -1,0 +1,14 @@
+//! What an end keeps of channel zero beside the channel itself (RFC 3080, section 2.3.1): the
+//! requests of both sides that wait, the own requests that aren't sent, the answers that aren't
+//! given, and the channels that are starting.
+#![tactic(auto)]
+
+mod answers;
+pub mod laws;
+mod management;
+mod starting;
+mod wait;
+
+pub use answers::Answer;
+pub use management::{Answered, Management};
+pub use wait::Wait;
