@@ -98,7 +98,14 @@ fn is_refusal(reply: &Option<Mgmt>) -> bool
 {
     match reply {
         Some(Mgmt::Fault { .. }) => true,
-        Some(_) | None => false,
+        Some(
+            Mgmt::Greeting { .. }
+            | Mgmt::Start { .. }
+            | Mgmt::Chosen { .. }
+            | Mgmt::Close { .. }
+            | Mgmt::Okay,
+        )
+        | None => false,
     }
 }
 

@@ -20,7 +20,14 @@ pub(crate) fn close_stamp(channels: &Channels, said: &Option<Mgmt>) -> u64
 {
     match said {
         Some(Mgmt::Close { number, .. }) => channels.stamp_of(*number),
-        Some(_) | None => 0,
+        Some(
+            Mgmt::Greeting { .. }
+            | Mgmt::Start { .. }
+            | Mgmt::Chosen { .. }
+            | Mgmt::Okay
+            | Mgmt::Fault { .. },
+        )
+        | None => 0,
     }
 }
 
