@@ -1,0 +1,97 @@
+-- What a whole request of the peer makes of a session.
+use Rattle.std.proofs.Common.{◌≡◌, ℕ, ◌+◌, ◌<◌, true, false, List, [], ◌∷◌, ◌++◌, length, Option, Some, None, is_some, refl, sym, ap, arith, subst, length-append}
+use Rattle.std.specs.Option.{option_to_list}
+use Rattle.beep_frame.specs.declared.head.Head.{Head}
+use Rattle.beep_frame.specs.Frame.{is_msg}
+use Rattle.beep_mgmt.specs.Form.{Form}
+use Rattle.beep_mgmt.specs.Message.{message_said}
+use Rattle.beep_history.specs.declared.journal.Side.{Side}
+use Rattle.beep_history.specs.Journal.{Item, passed}
+use Rattle.beep_journal.specs.Zero.{zero_history, zero_events, events}
+use Rattle.beep_journal.specs.Life.{is_released}
+use Rattle.beep_channel.specs.Held.{Live}
+use Rattle.beep_decide.specs.declared.limits.TheConstants.{MAX_CHANNELS}
+use Rattle.beep_lives.specs.Lives.{numbers}
+use Rattle.beep_standing.specs.Standing.{Marks, AreLiveBy}
+use Rattle.beep_standing.specs.Moving.{MovesNone}
+use Rattle.beep_standing.proofs.LivesLemmas.{lives-stay}
+use Rattle.beep_hearing.specs.Hears.{Passes}
+use Rattle.beep_asked.specs.Kept.{Kept, new_kept}
+use Rattle.beep_asked.proofs.LawsLemmas.{request-moves, request-releases}
+use Rattle.beep_management.specs.Managed.{Prepared, Managed}
+use Rattle.beep_management.specs.Manages.{Manages}
+use Rattle.beep_management.specs.Moved.{is_live_in}
+use Rattle.beep_management.proofs.ReceivedLemmas.{request-came}
+use Rattle.beep_peer.specs.declared.peer.Peer.{Peer}
+use Rattle.beep_answering.specs.Decided.{IsAnswer}
+use Rattle.beep_peer.specs.Peering.{AreFew, WaitsIn}
+use Rattle.beep_peer.specs.Calls.{IsDone}
+use Rattle.beep_peer.proofs.CarriesLemmas.{carries-same}
+use Rattle.beep_peer.proofs.DoneLemmas.{carries-on, same-count}
+use Rattle.beep_peer.proofs.WaitingLemmas.{ends-request, says-whole, says-now, released-now, zero-now}
+
+-- a channel is granted only where there may be one more
+pub came-few : (old new : Managed) (channels : List Live) (answers : List Prepared) (live starting : ℕ) (channel : Option Live)
+    → new ≡ record old { theirs = new.theirs; answers = answers; granted = old.granted ++ option_to_list channel } → AreFew channels old
+    → live + starting + 1 ≡ length channels + (length old.starting + length old.granted) → (is_some channel ≡ true → live + starting < MAX_CHANNELS)
+    → AreFew channels new
+came-few old new channels answers live starting None are few room free =
+    omega (arith, few, length-append old.granted [], ap (λ m. length m.starting) are, ap (λ m. length m.granted) are)
+came-few old new channels answers live starting (Some channel) are few room free =
+    omega (arith, room, free refl, length-append old.granted (channel ∷ []), ap (λ m. length m.starting) are, ap (λ m. length m.granted) are)
+
+-- a request of the peer that waits was kept, with its answer and the channel that it is to be granted
+pub record HasCame (size : ℕ) (head : Head) (peer : Peer) (new : Managed) : Type 0 where
+  pub request : is_msg head.kind ≡ true
+  pub said : Option Form
+  pub is : said ≡ message_said peer.ear.text.octets
+  pub answer : Prepared
+  pub channel : Option Live
+  pub answers : IsAnswer size said answer channel
+  pub are : new ≡ record peer.management {
+    theirs = new.theirs;
+    answers = peer.management.answers ++ answer ∷ [];
+    granted = peer.management.granted ++ option_to_list channel;
+  }
+  pub theirs : new.theirs.requests ≡ new_kept (is_live_in peer.lives) said ∷ peer.management.theirs.requests
+  pub few : AreFew peer.lives peer.management → AreFew peer.lives new
+
+module _ (size : ℕ) (fed : List ℕ) (journal : List Item) (given taken : Marks) (head : Head) (payload : List ℕ) (peer : Peer)
+    (w : WaitsIn size fed journal given taken head payload peer) (new : Managed) (h : HasCame size head peer new)
+    (channels : List Live) (order : numbers channels ≡ numbers peer.lives)
+    (p : Passes size journal (passed Side.Received head payload ∷ journal) given taken channels) where
+  abbrev now : List Item
+  now = passed Side.Received head payload ∷ journal
+
+  abbrev kept : Kept
+  kept = new_kept (is_live_in peer.lives) h.said
+
+  came-managed : Manages size now given new
+  came-managed = subst (λ (m : Managed). Manages size now given m) (sym h.are) (record {
+    spoken = w.manages.spoken;
+    prepared = w.manages.prepared ++ h.answers.one ∷ [];
+    is = request-came size journal given peer.management head payload w.manages.spoken w.manages.prepared w.manages.is w.waits.zero_is
+        (ends-request size fed journal given taken head payload peer w h.request)
+        (is_live_in peer.lives) kept h.answer h.answers.one (option_to_list h.channel) new.theirs
+        (says-now size fed journal given taken head payload peer w)
+        (ap (new_kept (is_live_in peer.lives)) (says-whole size fed journal given taken head payload peer w h.said h.is))
+        h.answers.is (h.answers.fit kept refl refl) (h.answers.granted kept refl) h.theirs;
+  })
+
+  came-live : AreLiveBy size now given p.taken_now channels
+  came-live =
+      lives-stay size journal given p.taken_now channels (passed Side.Received head payload) p.live
+      (subst (λ (z : List Item). MovesNone (events journal) (zero_events z)) (sym (zero-now size fed journal given taken head payload peer w))
+      (request-moves Side.Received head payload (zero_history journal) (ends-request size fed journal given taken head payload peer w h.request)))
+      w.waits.zero_is
+
+  pub came-done : IsDone size journal now given taken false channels new
+  came-done = record {
+    given_now = given;
+    taken_now = p.taken_now;
+    given_is = carries-same journal now channels channels given p.live.there came-live.there refl;
+    taken_is = carries-on journal now taken taken p.taken_now (carries-same journal now channels channels taken p.live.there came-live.there refl) p.same;
+    holds = record { live = came-live; zero = p.zero; manages = came-managed; few = omega (arith, h.few w.few, same-count peer.lives channels order) };
+    releases = released-now size fed journal given taken head payload peer w (is_released journal)
+        (request-releases Side.Received head payload (zero_history journal) (ends-request size fed journal given taken head payload peer w h.request));
+  }

@@ -1,0 +1,15 @@
+pub mod AnsweredLemmas
+pub mod CameLemmas
+pub mod CarriesLemmas
+pub mod CountLemmas
+pub mod DoneLemmas
+pub mod DrainedLemmas
+pub mod FewLemmas
+pub mod GainLemmas
+pub mod GoneLemmas
+pub mod OwedLemmas
+pub mod ReleaseLemmas
+pub mod SentItemLemmas
+pub mod SpeakLemmas
+pub mod StandingLemmas
+pub mod WaitingLemmas

@@ -1,0 +1,18 @@
+use Rattle.std.proofs.Common.{List, ℕ, length}
+use Rattle.beep_history.specs.Journal.{Item}
+use Rattle.beep_standing.specs.Standing.{Marks}
+use Rattle.beep_peer.specs.Peering.{Holds}
+use Rattle.beep_peer.specs.Calls.{LetsGo}
+use Rattle.beep_peer.specs.Waiting.{IsDrainedAt, AreLetGo}
+use Rattle.beep_peer.proofs.letting.let_go.Given as goal
+
+abbrev pub invariant-loop-answer : goal.invariant-loop-answer
+invariant-loop-answer l = record {
+  goes : (size : ℕ) (journal : List Item) (given taken : Marks) → Holds size journal given taken l.fn.lives l.fn.management
+      → LetsGo size journal given taken l.lives l.management;
+  lets : AreLetGo l.fn.lives l.fn.management l.management;
+  same : (number : ℕ) → IsDrainedAt number l.lives → IsDrainedAt number l.fn.lives;
+}
+
+abbrev pub decreases-loop-answer : goal.decreases-loop-answer
+decreases-loop-answer l = length l.management.answers

@@ -1,0 +1,112 @@
+-- What each call makes of the journal for which a peer stands (RFC 3080, sections 2.2.1 and 2.3.1).
+-- Each speaks of every journal for which the peer stood: none is kept.
+use Rattle.std.specs.Prelude.{◌≡◌, ℕ, ◌==◌, ◌||◌, Bool, true, false, List, [], ◌∷◌, ◌++◌, None, Some}
+use Rattle.std.specs.List.{list_any}
+use Rattle.beep_frame.specs.declared.head.Head.{Head}
+use Rattle.beep_frame.specs.declared.kind.Kind.{Kind}
+use Rattle.beep_history.specs.declared.journal.Side.{Side}
+use Rattle.beep_history.specs.Journal.{Item, began, passed, told}
+use Rattle.beep_journal.specs.Life.{history, is_there, is_released}
+use Rattle.beep_frame.specs.Frame.{framed, seq_frame}
+use Rattle.beep_frame.specs.Spelling.{spelling}
+use Rattle.beep_channel.specs.Held.{Held, Live}
+use Rattle.beep_channel.specs.Stands.{IsNext}
+use Rattle.beep_standing.specs.Standing.{Marks, no_marks, AreLive}
+use Rattle.beep_standing.specs.Due.{has_due, has_ready}
+use Rattle.beep_speaking.specs.declared.emit.Emit.{Emit}
+use Rattle.beep_hearing.specs.Hears.{IsZeroTaken, SameAbove, Join, ends_zero, Breaks}
+use Rattle.beep_management.specs.Managed.{Managed}
+use Rattle.beep_management.specs.Manages.{Manages}
+use Rattle.beep_peer.specs.declared.peer.Peer.{Peer}
+use Rattle.beep_peer.specs.Peering.{AreFew, Holds, Stands, WaitsIn, Carries, is_greeted}
+
+-- answers were let go: what is given to channel zero may be more, and all else stays
+pub record LetsGo (size : ℕ) (journal : List Item) (given taken : Marks) (channels : List Live)
+    (m : Managed) : Type 0 where
+  pub given_now : Marks
+  pub same : SameAbove given given_now
+  pub holds : Holds size journal given_now taken channels m
+
+-- the last frame of an own message of channel zero has passed, and what it says is to be done
+pub record HasGone (size : ℕ) (journal : List Item) (given taken : Marks) (head : Head)
+    (payload : List ℕ) (channels : List Live) (m : Managed) : Type 0 where
+  pub zero_is : (head.channel == 0) ≡ true
+  pub last : head.more ≡ false
+  pub live : AreLive size (began Side.Sent head ∷ journal)
+      (passed Side.Sent head payload ∷ began Side.Sent head ∷ journal) given taken channels
+  pub zero : IsZeroTaken journal taken
+  pub manages : Manages size (began Side.Sent head ∷ journal) given m
+  pub few : AreFew channels m
+
+-- it is done: the channels and what is kept stand for the whole journal, and the session is
+-- released or not
+pub record IsDone (size : ℕ) (before after : List Item) (given taken : Marks) (released : Bool)
+    (channels : List Live) (m : Managed) : Type 0 where
+  pub given_now : Marks
+  pub taken_now : Marks
+  pub given_is : Carries before after given given_now
+  pub taken_is : Carries before after taken taken_now
+  pub holds : Holds size after given_now taken_now channels m
+  pub releases : is_released after ≡ (released || is_released before)
+
+-- the message of channel zero that waited was settled: its last frame has passed, and what it says
+-- is done
+pub record Settles (size : ℕ) (fed : List ℕ) (journal : List Item) (given taken : Marks)
+    (head : Head) (payload : List ℕ) (peer : Peer) : Type 0 where
+  pub given_now : Marks
+  pub taken_now : Marks
+  pub given_is : Carries journal (passed Side.Received head payload ∷ journal) given given_now
+  pub taken_is : Carries journal (passed Side.Received head payload ∷ journal) taken taken_now
+  pub stands : Stands size fed [] (passed Side.Received head payload ∷ journal) given_now
+      taken_now peer
+
+-- ---- what goes out
+
+-- a frame of an own message went out, header and frame at once; where it is one of channel zero,
+-- what it says is still to be done
+pub record HasSent (size : ℕ) (journal : List Item) (given taken : Marks) (head : Head)
+    (payload : List ℕ) (channels : List Live) (m : Managed) : Type 0 where
+  pub above : (head.channel == 0) ≡ false → AreLive size
+      (passed Side.Sent head payload ∷ began Side.Sent head ∷ journal)
+      (passed Side.Sent head payload ∷ began Side.Sent head ∷ journal) given taken channels
+  pub at_zero : (head.channel == 0) ≡ true → AreLive size (began Side.Sent head ∷ journal)
+      (passed Side.Sent head payload ∷ began Side.Sent head ∷ journal) given taken channels
+  pub zero : IsZeroTaken journal taken
+  pub manages : Manages size journal given m
+  pub few : AreFew channels m
+
+-- after it the peer stands for the journal with the frame, and answers may have been let go
+pub record IsSent (size : ℕ) (fed rest : List ℕ) (before after : List Item) (given taken : Marks)
+    (peer : Peer) : Type 0 where
+  pub given_now : Marks
+  pub taken_now : Marks
+  pub given_is : Carries before after given given_now
+  pub taken_is : Carries before after taken taken_now
+  pub stands : Stands size fed rest after given_now taken_now peer
+
+-- the frame is lawful over the history of its life and has the next octets of what was given
+pub record IsLawfulNext (size most : ℕ) (journal : List Item) (given taken : Marks) (head : Head)
+    (payload : List ℕ) : Type 0 where
+  pub old : Held
+  pub new : Held
+  pub next : IsNext size most old new (history head.channel journal) (given head.channel)
+      (taken head.channel) head payload
+
+-- what an emit answers of the journal for which the peer stood, and of the octets before and after:
+-- the SEQ or the frame that went out, or that nothing is due
+abbrev pub Speaks : Emit → ℕ → ℕ → List ℕ → List ℕ → List Item → Marks → Marks → Peer → Peer
+    → List ℕ → List ℕ → Type 0
+Speaks (Emit.Seq seq) size most fed rest journal given taken old new before after =
+    (after ≡ before ++ spelling (seq_frame seq))
+    × (has_due size (taken seq.channel) (history seq.channel journal) ≡ true)
+    × Stands size fed rest (told Side.Sent seq ∷ journal) given taken new
+Speaks (Emit.Data head) size most fed rest journal given taken old new before after =
+    (payload : List ℕ) × (after ≡ before ++ spelling (framed head payload))
+    × IsLawfulNext size most journal given taken head payload
+    × IsSent size fed rest journal
+    (passed Side.Sent head payload ∷ began Side.Sent head ∷ journal) given taken new
+Speaks Emit.Nothing size most fed rest journal given taken old new before after =
+    (new ≡ old) × (after ≡ before)
+    × (is_greeted old.management ≡ true → (n : ℕ) → is_there n journal ≡ true
+    → has_due size (taken n) (history n journal) ≡ false)
+    × ((n : ℕ) → is_there n journal ≡ true → has_ready (given n) (history n journal) ≡ false)

@@ -1,0 +1,20 @@
+//! A peer: what was heard, the live channels and what is kept of channel zero, and what each step
+//! makes of the journal for which they stand (RFC 3080, sections 2.2.1 and 2.3.1; RFC 3081, section
+//! 3.1).
+#![tactic(auto)]
+
+mod grant;
+mod letting;
+mod peer;
+mod settle;
+mod settle_error;
+mod speech;
+mod standing;
+mod went;
+
+pub use letting::let_go;
+pub use peer::Peer;
+pub use settle::{said_in, settle_reply, settle_request};
+pub use settle_error::SettleError;
+pub use speech::speak;
+pub use standing::stand;

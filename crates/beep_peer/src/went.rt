@@ -1,0 +1,35 @@
+//! What the last frame of an own message of channel zero makes of a session, as it goes out (RFC
+//! 3080, section 2.3.1).
+ghost use Rattle.std.specs.Prelude.{◌≡◌, ℕ, ◌∷◌, List};
+ghost use Rattle.beep_frame.specs.declared.head.Head.{Head};
+ghost use Rattle.beep_history.specs.declared.journal.Side.{Side};
+ghost use Rattle.beep_history.specs.Journal.{Item, began, passed};
+ghost use Rattle.beep_standing.specs.Standing.{Marks};
+ghost use Rattle.beep_peer.specs.Calls.{HasGone, IsDone};
+
+use crate::grant::grant;
+use beep_frame::Kind;
+use beep_lives::Lives;
+use beep_management::Management;
+
+/// The last frame of a message of this kind has passed: an own request waits, and an own reply
+/// grants or refuses the oldest request of the peer. True where the session is released.
+pub(crate) fn went(lives: &mut Lives, management: &mut Management, kind: Kind) -> bool
+    requires gone { ∥ ((size : ℕ) × (journal : List Item) × (given : Marks) × (taken : Marks)
+        × (head : Head) × (payload : List ℕ) × (head.kind ≡ kind)
+        × HasGone size journal given taken head payload lives.old management.old) ∥₁ }
+    ensures { (size : ℕ) (journal : List Item) (given taken : Marks) (head : Head)
+        (payload : List ℕ) → head.kind ≡ kind
+        → HasGone size journal given taken head payload lives.old management.old
+        → IsDone size (began Side.Sent head ∷ journal)
+        (passed Side.Sent head payload ∷ began Side.Sent head ∷ journal) given taken result
+        lives.new management.new }
+{
+    if kind.is_msg() {
+        management.pass_act(lives);
+        return false;
+    }
+    let grants = Kind::Rpy.is_same(kind);
+    let answered = management.take_theirs(grants);
+    grants && grant(lives, answered)
+}
