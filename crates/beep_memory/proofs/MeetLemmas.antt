@@ -80,8 +80,8 @@ module _ (f : Peer → Peer) (w w2 : Wiring) (link : ℕ) (peers : w2.peers ≡ 
   pub given-same : length w2.peers ≡ length w.peers
   given-same = ap length peers ∙ length-changed f w.peers link
 
-untold : (w w2 : Wiring) (link : ℕ) → w2.story ≡ w.story → (other : ℕ) → (other ≡ link → ⊥) → entries_of other w2.story ≡ entries_of other w.story
-untold w w2 link same other ne = ap (entries_of other) same
+story-same : (w w2 : Wiring) (link : ℕ) → w2.story ≡ w.story → (other : ℕ) → (other ≡ link → ⊥) → entries_of other w2.story ≡ entries_of other w.story
+story-same w w2 link same other ne = ap (entries_of other) same
 
 story-one : (w w2 : Wiring) (link : ℕ) (event : Event) → event.link ≡ link → w2.story ≡ event ∷ w.story
     → (other : ℕ) → (other ≡ link → ⊥) → entries_of other w2.story ≡ entries_of other w.story
@@ -132,7 +132,7 @@ module _ (w w2 : Wiring) (link : ℕ) (buf filled : List ℕ) (alive : (link_at 
   pub read-others : (r : Result Got Failed) → Reads link r buf filled w w2 → SameBeside link (link_at w) (link_at w2)
   read-others (Ok got) reads =
       others-same (λ p. peer_read p (length buf)) w w2 link (ap (λ v. v.peers) reads.3) (story-one w w2 link _ refl (ap (λ v. v.story) reads.3))
-  read-others (Err e) reads = others-same peer_unread w w2 link (ap (λ v. v.peers) reads.2) (untold w w2 link (ap (λ v. v.story) reads.2))
+  read-others (Err e) reads = others-same peer_unread w w2 link (ap (λ v. v.peers) reads.2) (story-same w w2 link (ap (λ v. v.story) reads.2))
 
   pub read-counts : (r : Result Got Failed) → Reads link r buf filled w w2 → counts_of w2 ≡ record (counts_of w) { quiets = w2.quiets }
   read-counts (Ok got) reads =
@@ -170,7 +170,7 @@ module _ (w w2 : Wiring) (link : ℕ) (bytes : List ℕ) (alive : (link_at w lin
   pub write-others : (r : Result ℕ Failed) → Writes link r bytes w w2 → SameBeside link (link_at w) (link_at w2)
   write-others (Ok n) writes =
       others-same (λ p. peer_written p (take n bytes)) w w2 link (ap (λ v. v.peers) writes.2) (story-one w w2 link _ refl (ap (λ v. v.story) writes.2))
-  write-others (Err e) writes = others-same peer_unwritten w w2 link (ap (λ v. v.peers) writes.1) (untold w w2 link (ap (λ v. v.story) writes.1))
+  write-others (Err e) writes = others-same peer_unwritten w w2 link (ap (λ v. v.peers) writes.1) (story-same w w2 link (ap (λ v. v.story) writes.1))
 
   pub write-counts : (r : Result ℕ Failed) → Writes link r bytes w w2 → counts_of w2 ≡ counts_of w
   write-counts (Ok n) writes =
@@ -190,7 +190,7 @@ module _ (w w2 : Wiring) (link : ℕ) (after : w2 ≡ wiring_shut w link) where
       of (Some p) = refl
 
   pub shut-others : SameBeside link (link_at w) (link_at w2)
-  shut-others = others-same peer_shut w w2 link (ap (λ v. v.peers) after) (untold w w2 link (ap (λ v. v.story) after))
+  shut-others = others-same peer_shut w w2 link (ap (λ v. v.peers) after) (story-same w w2 link (ap (λ v. v.story) after))
 
   pub shut-counts : counts_of w2 ≡ counts_of w
   shut-counts =

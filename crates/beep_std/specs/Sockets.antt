@@ -31,14 +31,14 @@ no_sockets = record { links = []; accepts = 0; dials = 0; quiets = 0 }
 -- ---- what links in general show of them
 
 -- no octet is told
-abbrev pub untold : Option (List Entry)
-untold = None
+abbrev pub unknown : Option (List Entry)
+unknown = None
 
-abbrev pub untold_story : Option (List Event)
-untold_story = None
+abbrev pub unknown_story : Option (List Event)
+unknown_story = None
 
-abbrev pub untold_asks : Option (List Asked)
-untold_asks = None
+abbrev pub unknown_asks : Option (List Asked)
+unknown_asks = None
 
 -- they pass on no call
 abbrev pub no_lender : Option GName
@@ -46,9 +46,9 @@ no_lender = None
 
 abbrev pub link_of : Option Socket → Link
 link_of None =
-    record { log = untold; is_open = false; has_ended = false; faults = 0; reads = 0 }
+    record { log = unknown; is_open = false; has_ended = false; faults = 0; reads = 0 }
 link_of (Some s) = record {
-  log = untold;
+  log = unknown;
   is_open = s.is_open;
   has_ended = s.has_ended;
   faults = s.faults;

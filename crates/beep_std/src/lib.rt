@@ -1,5 +1,5 @@
-//! Standard input as a source, standard output as a sink and TCP as links: the edge of a program, of
-//! whose octets nothing is told.
+//! Standard input as a source, standard output as a sink and TCP as links: the edge of a program,
+//! whose octets no contract knows.
 #![tactic(auto)]
 
 mod listeners;

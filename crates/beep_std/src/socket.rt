@@ -38,7 +38,7 @@ impl Model for Socket {
 }
 
 impl Socket {
-    /// The link of this socket, which sends octets as they are written where the system can do that.
+    /// The link of this socket, which sends octets as they are written where the system can do so.
     pub(crate) fn new(stream: TcpStream) -> Result<Socket, WireError>
         ensures { IfOk result (λ s. s ≡ socket_given) }
     {

@@ -144,7 +144,7 @@ fn next_link(links: &mut Vec<Socket>) -> Result<u32, WireError>
 
 impl<R: Net<Listener = TcpListener, Stream = TcpStream> + Drop> Wires for StdWires<R> {
     ghost use Rattle.std.specs.Prelude.{ℕ};
-    ghost use Rattle.beep_std.specs.Sockets.{link_at, counts_of, untold_asks, untold_story, no_lender, sockets_asked, sockets_read, sockets_written, sockets_shut};
+    ghost use Rattle.beep_std.specs.Sockets.{link_at, counts_of, unknown_asks, unknown_story, no_lender, sockets_asked, sockets_read, sockets_written, sockets_shut};
     ghost use Rattle.beep_wires.specs.Links.{accept as accept_of, dial as dial_of, IsFresh, SameBeside, LeavesLinks, asked_by, Asks, given_after, Faults};
     ghost use Rattle.beep_wires.specs.Got.{GotWithin, read_entries, write_entries, gives_end, Quiets};
     ghost use Rattle.beep_wires.specs.Log.{Logs, Enters};
@@ -153,9 +153,9 @@ impl<R: Net<Listener = TcpListener, Stream = TcpStream> + Drop> Wires for StdWir
 
     ghost counts = { counts_of };
 
-    ghost asked = { λ _. untold_asks };
+    ghost asked = { λ _. unknown_asks };
 
-    ghost story = { λ _. untold_story };
+    ghost story = { λ _. unknown_story };
 
     ghost lent = { λ _. no_lender };
 
@@ -167,12 +167,12 @@ impl<R: Net<Listener = TcpListener, Stream = TcpStream> + Drop> Wires for StdWir
         ensures number { IfOk result (λ link. link ≡ (counts_of self.old).given) }
         ensures fresh { IfOk result (λ link. IsFresh (link_at self.new link)) }
         ensures others { LeavesLinks result (link_at self.old) (link_at self.new) }
-        ensures asks { Asks untold_asks untold_asks (asked_by (accept_of port) result) }
+        ensures asks { Asks unknown_asks unknown_asks (asked_by (accept_of port) result) }
         ensures given { (counts_of self.new).given ≡ given_after (counts_of self.old).given result }
         ensures failed { Faults result (counts_of self.old).accepts (counts_of self.new).accepts }
         ensures dials { (counts_of self.new).dials ≡ (counts_of self.old).dials }
         ensures quiets { (counts_of self.new).quiets ≡ (counts_of self.old).quiets }
-        ensures same_story { untold_story ≡ untold_story }
+        ensures same_story { unknown_story ≡ unknown_story }
         ensures same_lent { no_lender ≡ no_lender }
     {
         let answer = self.accept_link(port);
@@ -188,12 +188,12 @@ impl<R: Net<Listener = TcpListener, Stream = TcpStream> + Drop> Wires for StdWir
         ensures number { IfOk result (λ link. link ≡ (counts_of self.old).given) }
         ensures fresh { IfOk result (λ link. IsFresh (link_at self.new link)) }
         ensures others { LeavesLinks result (link_at self.old) (link_at self.new) }
-        ensures asks { Asks untold_asks untold_asks (asked_by (dial_of host.now port) result) }
+        ensures asks { Asks unknown_asks unknown_asks (asked_by (dial_of host.now port) result) }
         ensures given { (counts_of self.new).given ≡ given_after (counts_of self.old).given result }
         ensures failed { Faults result (counts_of self.old).dials (counts_of self.new).dials }
         ensures accepts { (counts_of self.new).accepts ≡ (counts_of self.old).accepts }
         ensures quiets { (counts_of self.new).quiets ≡ (counts_of self.old).quiets }
-        ensures same_story { untold_story ≡ untold_story }
+        ensures same_story { unknown_story ≡ unknown_story }
         ensures same_lent { no_lender ≡ no_lender }
     {
         let answer = self.dial_link(host, port);
@@ -212,7 +212,7 @@ impl<R: Net<Listener = TcpListener, Stream = TcpStream> + Drop> Wires for StdWir
         ensures within { GotWithin result buf.new }
         ensures logged { Logs (link_at self.old link).log (link_at self.new link).log
             (read_entries result buf.new) }
-        ensures entered { Enters link untold_story untold_story (read_entries result buf.new) }
+        ensures entered { Enters link unknown_story unknown_story (read_entries result buf.new) }
         ensures still_open { (link_at self.new link).is_open ≡ true }
         ensures end { (link_at self.new link).has_ended ≡ gives_end result }
         ensures failed { OnErr result
@@ -223,7 +223,7 @@ impl<R: Net<Listener = TcpListener, Stream = TcpStream> + Drop> Wires for StdWir
         ensures quiets { Quiets result (counts_of self.old).quiets (counts_of self.new).quiets }
         ensures counts { counts_of self.new
             ≡ record (counts_of self.old) { quiets = (counts_of self.new).quiets } }
-        ensures same_asked { untold_asks ≡ untold_asks }
+        ensures same_asked { unknown_asks ≡ unknown_asks }
         ensures same_lent { no_lender ≡ no_lender }
     {
         self.read_link(link, buf)
@@ -237,7 +237,7 @@ impl<R: Net<Listener = TcpListener, Stream = TcpStream> + Drop> Wires for StdWir
         ensures within { IfOk result (λ n. (0 < n) × (n ≤ length bytes.now)) }
         ensures logged { Logs (link_at self.old link).log (link_at self.new link).log
             (write_entries result bytes.now) }
-        ensures entered { Enters link untold_story untold_story (write_entries result bytes.now) }
+        ensures entered { Enters link unknown_story unknown_story (write_entries result bytes.now) }
         ensures still_open { (link_at self.new link).is_open ≡ true }
         ensures end { (link_at self.new link).has_ended ≡ (link_at self.old link).has_ended }
         ensures failed { OnErr result
@@ -246,7 +246,7 @@ impl<R: Net<Listener = TcpListener, Stream = TcpStream> + Drop> Wires for StdWir
         ensures counted { (link_at self.new link).reads ≡ (link_at self.old link).reads }
         ensures others { SameBeside link (link_at self.old) (link_at self.new) }
         ensures same_counts { counts_of self.new ≡ counts_of self.old }
-        ensures same_asked { untold_asks ≡ untold_asks }
+        ensures same_asked { unknown_asks ≡ unknown_asks }
         ensures same_lent { no_lender ≡ no_lender }
     {
         self.write_link(link, bytes)
@@ -259,8 +259,8 @@ impl<R: Net<Listener = TcpListener, Stream = TcpStream> + Drop> Wires for StdWir
         ensures shut { link_at self.new link ≡ record (link_at self.old link) { is_open = false } }
         ensures others { SameBeside link (link_at self.old) (link_at self.new) }
         ensures same_counts { counts_of self.new ≡ counts_of self.old }
-        ensures same_asked { untold_asks ≡ untold_asks }
-        ensures same_story { untold_story ≡ untold_story }
+        ensures same_asked { unknown_asks ≡ unknown_asks }
+        ensures same_story { unknown_story ≡ unknown_story }
         ensures same_lent { no_lender ≡ no_lender }
     {
         self.shut_link(link);

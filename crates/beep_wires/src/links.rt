@@ -82,7 +82,8 @@ pub trait Wires {
         ensures within { GotWithin result buf.new }
         ensures logged { Logs (state self.old link).log (state self.new link).log
             (read_entries result buf.new) }
-        ensures entered { Enters link (story self.old) (story self.new) (read_entries result buf.new) }
+        ensures entered { Enters link (story self.old) (story self.new)
+            (read_entries result buf.new) }
         ensures still_open { (state self.new link).is_open ≡ true }
         ensures end { (state self.new link).has_ended ≡ gives_end result }
         ensures failed { OnErr result
