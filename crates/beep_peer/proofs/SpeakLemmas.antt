@@ -31,7 +31,7 @@ use Rattle.beep_management.proofs.ItemLemmas.{header-stays, seq-stays, above-sta
 use Rattle.beep_speaking.specs.declared.emit.Emit.{Emit}
 use Rattle.beep_speaking.specs.Emits.{Emits, SendsNext, IsReached}
 use Rattle.beep_peer.specs.declared.peer.Peer.{Peer}
-use Rattle.beep_peer.specs.Peering.{AreFew, Holds, Stands, Carries, AreHeld, IsGoing, is_greeted}
+use Rattle.beep_peer.specs.Peering.{AreFew, Holds, IsPeer, Carries, AreHeld, IsGoing, is_greeted}
 use Rattle.beep_peer.specs.Calls.{LetsGo, HasGone, IsDone, HasSent, IsSent, IsLawfulNext, Speaks}
 use Rattle.beep_peer.proofs.GainLemmas.{quiet-events, quiet-managed}
 use Rattle.beep_peer.proofs.SentItemLemmas.{deaf-header, deaf-frame, deaf-seq, deaf-hears, deaf-zero}
@@ -83,7 +83,7 @@ not-true false e = refl
 -- ---- a SEQ
 
 module _ (size most : ℕ) (fed rest : List ℕ) (journal : List Item) (given taken : Marks) (peer : Peer) (new : List Live) (before after : List ℕ)
-    (s : Stands size fed rest journal given taken peer) where
+    (s : IsPeer size fed rest journal given taken peer) where
   pub seq-speaks : (seq : Seq) (greeted : Bool) → Emits most greeted (Emit.Seq seq) peer.lives new before after
       → Speaks (Emit.Seq seq) size most fed rest journal given taken peer (record peer { lives = new }) before after
   seq-speaks seq greeted w = (
@@ -240,7 +240,7 @@ module _ (size : ℕ) (journal : List Item) (given taken : Marks) (head : Head) 
 
 pub held-lives : (size : ℕ) (peer : Peer) → IsGoing size peer → IsReached peer.lives
 held-lives size peer held =
-    ∥∥₁_map {A = (fed : List ℕ) × (rest : List ℕ) × (journal : List Item) × (given : Marks) × (taken : Marks) × Stands size fed rest journal given taken peer}
+    ∥∥₁_map {A = (fed : List ℕ) × (rest : List ℕ) × (journal : List Item) × (given : Marks) × (taken : Marks) × IsPeer size fed rest journal given taken peer}
     {B = (size : ℕ) × (journal : List Item) × (given : Marks) × (taken : Marks) × AreLiveBy size journal given taken peer.lives}
     held (λ s. (size, s.2, s.3, s.4, s.5.holds.live))
 
@@ -248,7 +248,7 @@ pub sent-reached : (most : ℕ) (head : Head) (peer : Peer) (new : List Live) (b
     → ∥ ((size : ℕ) × IsGoing size peer) ∥₁
     → ∥ ((size : ℕ) × (journal : List Item) × (given : Marks) × (taken : Marks) × (payload : List ℕ) × HasSent size journal given taken head payload new peer.management) ∥₁
 sent-reached most head peer new before after w held = ∥∥₁_elim held (hlevel props) (λ g.
-    ∥∥₁_map {A = (fed : List ℕ) × (rest : List ℕ) × (journal : List Item) × (given : Marks) × (taken : Marks) × Stands g.0 fed rest journal given taken peer}
+    ∥∥₁_map {A = (fed : List ℕ) × (rest : List ℕ) × (journal : List Item) × (given : Marks) × (taken : Marks) × IsPeer g.0 fed rest journal given taken peer}
     {B = (size : ℕ) × (journal : List Item) × (given : Marks) × (taken : Marks) × (payload : List ℕ) × HasSent size journal given taken head payload new peer.management}
     g.1 (λ s. (g.0, s.2, s.3, s.4, w.payload, has-sent g.0 most s.0 s.1 s.2 s.3 s.4 peer new before after s.5 head w)))
 

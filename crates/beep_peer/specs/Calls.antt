@@ -18,7 +18,7 @@ use Rattle.beep_hearing.specs.Hears.{IsZeroTaken, SameAbove, Join, ends_zero, Br
 use Rattle.beep_management.specs.Managed.{Managed}
 use Rattle.beep_management.specs.Manages.{Manages}
 use Rattle.beep_peer.specs.declared.peer.Peer.{Peer}
-use Rattle.beep_peer.specs.Peering.{AreFew, Holds, Stands, WaitsIn, Carries, is_greeted}
+use Rattle.beep_peer.specs.Peering.{AreFew, Holds, IsPeer, WaitsIn, Carries, is_greeted}
 
 -- answers were let go: what is given to channel zero may be more, and all else stays
 pub record LetsGo (size : ℕ) (journal : List Item) (given taken : Marks) (channels : List Live)
@@ -57,7 +57,7 @@ pub record Settles (size : ℕ) (fed : List ℕ) (journal : List Item) (given ta
   pub taken_now : Marks
   pub given_is : Carries journal (passed Side.Received head payload ∷ journal) given given_now
   pub taken_is : Carries journal (passed Side.Received head payload ∷ journal) taken taken_now
-  pub stands : Stands size fed [] (passed Side.Received head payload ∷ journal) given_now
+  pub stands : IsPeer size fed [] (passed Side.Received head payload ∷ journal) given_now
       taken_now peer
 
 -- ---- what goes out
@@ -82,7 +82,7 @@ pub record IsSent (size : ℕ) (fed rest : List ℕ) (before after : List Item) 
   pub taken_now : Marks
   pub given_is : Carries before after given given_now
   pub taken_is : Carries before after taken taken_now
-  pub stands : Stands size fed rest after given_now taken_now peer
+  pub stands : IsPeer size fed rest after given_now taken_now peer
 
 -- the frame is lawful over the history of its life and has the next octets of what was given
 pub record IsLawfulNext (size most : ℕ) (journal : List Item) (given taken : Marks) (head : Head)
@@ -99,7 +99,7 @@ abbrev pub Speaks : Emit → ℕ → ℕ → List ℕ → List ℕ → List Item
 Speaks (Emit.Seq seq) size most fed rest journal given taken old new before after =
     (after ≡ before ++ spelling (seq_frame seq))
     × (has_due size (taken seq.channel) (history seq.channel journal) ≡ true)
-    × Stands size fed rest (told Side.Sent seq ∷ journal) given taken new
+    × IsPeer size fed rest (told Side.Sent seq ∷ journal) given taken new
 Speaks (Emit.Data head) size most fed rest journal given taken old new before after =
     (payload : List ℕ) × (after ≡ before ++ spelling (framed head payload))
     × IsLawfulNext size most journal given taken head payload

@@ -30,7 +30,7 @@ pub record Holds (size : ℕ) (journal : List Item) (given taken : Marks) (chann
   pub few : AreFew channels m
 
 -- a peer stands for the octets that it was fed, with this rest of them, and for a journal
-pub record Stands (size : ℕ) (fed rest : List ℕ) (journal : List Item) (given taken : Marks)
+pub record IsPeer (size : ℕ) (fed rest : List ℕ) (journal : List Item) (given taken : Marks)
     (peer : Peer) : Type 0 where
   pub hears : Hears fed rest journal peer.ear
   pub holds : Holds size journal given taken peer.lives peer.management
@@ -79,7 +79,7 @@ AreHeld channels m =
 abbrev pub IsGoing : ℕ → Peer → Type 0
 IsGoing size peer =
     ∥ ((fed : List ℕ) × (rest : List ℕ) × (journal : List Item) × (given : Marks)
-    × (taken : Marks) × Stands size fed rest journal given taken peer) ∥₁
+    × (taken : Marks) × IsPeer size fed rest journal given taken peer) ∥₁
 
 -- it does so while a message of channel zero waits, whose last frame has this header
 abbrev pub IsWaiting : ℕ → Head → Peer → Type 0

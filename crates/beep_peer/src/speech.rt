@@ -6,7 +6,7 @@ ghost use Rattle.beep_history.specs.Journal.{Item, began, passed};
 ghost use Rattle.beep_journal.specs.Life.{is_released};
 ghost use Rattle.beep_standing.specs.Standing.{Marks};
 ghost use Rattle.beep_hearing.specs.Hears.{Hears, ends_zero};
-ghost use Rattle.beep_peer.specs.Peering.{Stands, IsGoing};
+ghost use Rattle.beep_peer.specs.Peering.{IsPeer, IsGoing};
 ghost use Rattle.beep_peer.specs.Calls.{HasSent, IsSent, Speaks};
 
 use crate::letting::let_go;
@@ -24,7 +24,7 @@ pub fn speak(peer: &mut Peer, scratch: &mut Octets, most: u32, out: &mut Octets)
     requires scratch { most ≤ length scratch.old.octets + scratch.old.spare }
     requires going { ∥ ((size : ℕ) × IsGoing size peer.old) ∥₁ }
     ensures speaks { (size : ℕ) (fed rest : List ℕ) (journal : List Item) (given taken : Marks)
-        → Stands size fed rest journal given taken peer.old
+        → IsPeer size fed rest journal given taken peer.old
         → Speaks result size most fed rest journal given taken peer.old peer.new
         out.old.octets out.new.octets }
     ensures ear { peer.new.ear ≡ peer.old.ear }
