@@ -68,7 +68,7 @@ module _ (elements : Bool) (l mid : Lister) (out : Held) (fed : List ℕ) (frame
   passed_first w a =
       record { more = w.more; first_of = record { first = fed ++ w.first; others = w.others; rest = w.rest; octets_are = ap (λ x. fed ++ x) w.piece_is ∙ sym (append_assoc fed w.first w.others); read = w.read }; begins = begins w.more w.adds a }
 
-  -- a write failed, and no memory was wanting
+  -- a write failed, and there was memory enough
   pub passed_short : (listed : Listed) → (listed ≡ Listed.NoMemory → ⊥) → ListsAs listed elements l mid fed frames piece → AppendsPrefix old_text new_text mid.out.octets → PassedShort elements fed frames piece old_text new_text
   passed_short Listed.Whole other w a =
       record { more = w.more; frames_of = all_of w.rest (read_of elements mid (fed ++ piece) (frames ++ w.more) w.rest w.known w.holds); begins = begins w.more w.adds a }

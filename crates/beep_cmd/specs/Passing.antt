@@ -82,7 +82,7 @@ pub record PassedShort (elements : Bool) (fed : List ℕ) (frames : List Frame) 
   pub frames_of : FramesOf (fed ++ piece) (frames ++ more)
   pub begins : BeginsToWrite elements frames more written_old written_new
 
--- memory was wanting for a message within a piece
+-- out of memory for a message within a piece
 pub record PassedFirst (elements : Bool) (fed : List ℕ) (frames : List Frame) (piece : List ℕ)
     (written_old written_new : Option (List ℕ)) : Type 0 where
   pub more : List Frame

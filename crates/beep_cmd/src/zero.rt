@@ -106,7 +106,7 @@ fn append_said(message: &[u8], line: &mut Octets) -> Result<(), NoMemory>
     }
 }
 
-/// Appends that a message says nothing, unless it is memory that was wanting.
+/// Appends that a message says nothing, unless it is out of memory.
 fn append_unreadable(error: MgmtError, line: &mut Octets) -> Result<(), NoMemory>
     ensures { OnOk result ((error ≢ MgmtError.NoMemory)
         × (line.new.octets ≡ line.old.octets ++ codes "unreadable")) }
