@@ -1,0 +1,4 @@
+pub mod PlaceLemmas
+pub mod WholesLemmas
+pub mod ZeroLemmas
+pub mod FormLemmas
