@@ -1,4 +1,5 @@
 pub mod AnsweredLemmas
+pub mod AskedLemmas
 pub mod CameLemmas
 pub mod CarriesLemmas
 pub mod CountLemmas
@@ -7,6 +8,7 @@ pub mod DrainedLemmas
 pub mod FewLemmas
 pub mod GainLemmas
 pub mod GoneLemmas
+pub mod LowestLemmas
 pub mod OwedLemmas
 pub mod ReleaseLemmas
 pub mod SentItemLemmas

@@ -41,7 +41,7 @@ short-of true n most said form is says = grind (arith, nat_tests)
 short-of false n most said form is says = absurd (let none : None ≡ Some form = says in cc)
 
 -- what says a value has no more octets than are read
-said-short : (octets : List ℕ) (form : Form) → message_said octets ≡ Some form → length octets ≤ MAX_TEXT
+pub said-short : (octets : List ℕ) (form : Form) → message_said octets ≡ Some form → length octets ≤ MAX_TEXT
 unfolding message_said
 said-short octets form says = short-of (nat_le (length octets) MAX_TEXT) (length octets) MAX_TEXT (option_and_then form_said (element_said (body_of octets))) form refl says
 

@@ -3,5 +3,6 @@ pub mod Peering
 pub mod Calls
 pub mod Waiting
 pub mod Standing
+pub mod Acts
 -- What proofs alone need.
 pub mod Grants

@@ -11,8 +11,8 @@ ghost use Rattle.beep_peer.specs.Waiting.{IsDrainedAt, HasCome, AreLetGo};
 use beep_lives::Lives;
 use beep_management::{Answer, Management, Wait};
 
-/// Gives the answers that wait for nothing more, in the order of their requests. Where memory is
-/// wanting the rest waits for a later call.
+/// Gives the answers that wait for nothing more, in the order of their requests. Where memory
+/// runs out the rest waits for a later call.
 pub fn let_go(lives: &mut Lives, management: &mut Management)
     requires held { AreHeld lives.old management.old }
     ensures holds { (size : ℕ) (journal : List Item) (given taken : Marks)

@@ -3,17 +3,21 @@
 //! 3.1).
 #![tactic(auto)]
 
+mod acts;
 mod grant;
 mod letting;
 mod peer;
+mod refusals;
 mod settle;
 mod settle_error;
 mod speech;
 mod standing;
 mod went;
 
+pub use acts::start_of;
 pub use letting::let_go;
 pub use peer::Peer;
+pub use refusals::{CloseError, ReleaseError, StartError};
 pub use settle::{said_in, settle_reply, settle_request};
 pub use settle_error::SettleError;
 pub use speech::speak;

@@ -58,7 +58,7 @@ pub fn said_in(alloc: Global, octets: &[u8]) -> Result<Option<Mgmt>, NoMemory>
     }
 }
 
-/// Whether memory was wanting.
+/// Whether it is that memory ran out.
 fn is_memory(error: MgmtError) -> bool
     ensures { result ≡ false → error ≢ MgmtError.NoMemory }
 {

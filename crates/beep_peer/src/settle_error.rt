@@ -8,6 +8,6 @@ pub enum SettleError {
     /// A reply has not the form that its request asks for: this rule is broken, at the last octet
     /// of its last frame. The session is over.
     Broken(Rule, u64),
-    /// Memory was wanting. The message still waits, and may be settled again.
+    /// Out of memory. The message still waits, and may be settled again.
     NoMemory,
 }
