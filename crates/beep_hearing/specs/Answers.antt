@@ -13,8 +13,8 @@ use Rattle.beep_hearing.specs.declared.ear.Ear.{Ear}
 use Rattle.beep_hearing.specs.Hears.{IsEar, Waits, Goes, Arrives, EndsZero, Breaks}
 
 -- what the answer says of the octets used
-abbrev pub Answers : Heard → ℕ → List ℕ → List ℕ → List Item → Marks → Marks → Ear → List Live
-    → Type 0
+abbrev pub Answers : Heard → ℕ → List ℕ → List ℕ → List Item → Marks → Marks
+    → Ear → List Live → Type 0
 Answers Heard.More size octets fed journal given taken ear channels =
     Goes size octets fed journal given taken ear channels
 Answers (Heard.Arrived number) size octets fed journal given taken ear channels =

@@ -94,8 +94,8 @@ pub record IsLawfulNext (size most : ℕ) (journal : List Item) (given taken : M
 
 -- what an emit answers of the journal for which the peer stood, and of the octets before and after:
 -- the SEQ or the frame that went out, or that nothing is due
-abbrev pub Speaks : Emit → ℕ → ℕ → List ℕ → List ℕ → List Item → Marks → Marks → Peer → Peer
-    → List ℕ → List ℕ → Type 0
+abbrev pub Speaks : Emit → ℕ → ℕ → List ℕ → List ℕ → List Item → Marks → Marks
+    → Peer → Peer → List ℕ → List ℕ → Type 0
 Speaks (Emit.Seq seq) size most fed rest journal given taken old new before after =
     (after ≡ before ++ spelling (seq_frame seq))
     × (has_due size (taken seq.channel) (history seq.channel journal) ≡ true)
