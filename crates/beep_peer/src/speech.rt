@@ -1,5 +1,6 @@
 //! What goes out next of a peer (RFC 3080, sections 2.2.1 and 2.3.1; RFC 3081, section 3.1).
 ghost use Rattle.std.specs.Prelude.{◌≡◌, ◌||◌, ◌+◌, ◌<◌, ◌≤◌, ◌∷◌, ℕ, List, true, length};
+ghost use Rattle.beep_octets.specs.Held.{KeepsRoom};
 ghost use Rattle.beep_frame.specs.declared.spelling.TheConstants.{SPELL_ROOM};
 ghost use Rattle.beep_history.specs.declared.journal.Side.{Side};
 ghost use Rattle.beep_history.specs.Journal.{Item, began, passed};
@@ -28,7 +29,7 @@ pub fn speak(peer: &mut Peer, scratch: &mut Octets, most: u32, out: &mut Octets)
         → Speaks result size most fed rest journal given taken peer.old peer.new
         out.old.octets out.new.octets }
     ensures ear { peer.new.ear ≡ peer.old.ear }
-    ensures kept { most ≤ length scratch.new.octets + scratch.new.spare }
+    ensures kept { KeepsRoom scratch.old scratch.new }
 {
     let greeted = peer.is_greeted();
     let emitted = emit_next(&mut peer.lives, scratch, greeted, most, out);

@@ -1,6 +1,7 @@
 //! The frame or SEQ that goes out next.
 ghost use Rattle.std.specs.Prelude.{◌≡◌, ◌+◌, ◌<◌, ◌≤◌, true, false, length, IfSome, IfNone};
 ghost use Rattle.std.specs.List.{list_any};
+ghost use Rattle.beep_octets.specs.Held.{KeepsRoom};
 ghost use Rattle.beep_frame.specs.declared.spelling.TheConstants.{SPELL_ROOM, SEQ_ROOM};
 ghost use Rattle.beep_lives.specs.Lives.{can_send};
 ghost use Rattle.beep_speaking.specs.Emits.{TellsNext, SendsNext, NoSeq, Emits, IsReached};
@@ -35,7 +36,7 @@ pub fn emit_next(
     requires scratch { most ≤ length scratch.old.octets + scratch.old.spare }
     requires reached { IsReached lives.old }
     ensures emits { Emits most greeted result lives.old lives.new out.old.octets out.new.octets }
-    ensures kept { most ≤ length scratch.new.octets + scratch.new.spare }
+    ensures kept { KeepsRoom scratch.old scratch.new }
 {
     if let Some(seq) = tell_next(lives, greeted, out) {
         return Emit::Seq(seq);
@@ -72,7 +73,7 @@ fn send_next(lives: &mut Lives, scratch: &mut Octets, most: u32, out: &mut Octet
         SendsNext most head lives.old lives.new out.old.octets out.new.octets) }
     ensures none { IfNone result (list_any can_send lives.old ≡ false) }
     ensures kept { IfNone result ((lives.new ≡ lives.old) × (out.new ≡ out.old)) }
-    ensures scratch { most ≤ length scratch.new.octets + scratch.new.spare }
+    ensures scratch { KeepsRoom scratch.old scratch.new }
 {
     scratch.clear();
     let Some(head) = lives.cut(most, scratch) else {
