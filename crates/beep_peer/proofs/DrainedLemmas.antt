@@ -8,7 +8,7 @@ use Rattle.beep_lives.specs.Edits.{Edits}
 use Rattle.beep_asked.specs.Kept.{asks_otherwise}
 use Rattle.beep_management.specs.declared.wait.Wait.{Wait}
 use Rattle.beep_management.specs.Managed.{Prepared, Managed}
-use Rattle.beep_peer.specs.Waiting.{IsDrainedAt, HasCome, AllHaveCome, AreLetGo}
+use Rattle.beep_peer.specs.Waiting.{IsDrainedAt, HasCome, AllHaveCome, AreLetGo, KeepsAbove}
 
 -- ---- by place
 
@@ -79,3 +79,15 @@ module _ (before channels : List Live) (first m : Managed) (same : (number : ℕ
 
 pub lets-nothing : (channels : List Live) (m : Managed) → AreLetGo channels m m
 lets-nothing channels m = record { gone = []; split = refl; come = tt; same = refl }
+
+-- ---- the other channels
+
+pub keeps-all : (channels : List Live) → KeepsAbove channels channels
+keeps-all channels = record { order = refl; others = λ n above. refl }
+
+-- one step more of channel zero leaves them
+pub keeps-more : (Step : Live → Live → Type 0) (first old new : List Live) → KeepsAbove first old → Edits 0 Step old new → KeepsAbove first new
+keeps-more Step first old new kept e = record {
+  order = e.order ∙ kept.order;
+  others = λ n above. e.at n ∙ ap (λ (b : Bool). if b then Some e.after else live_at n old) above ∙ kept.others n above;
+}

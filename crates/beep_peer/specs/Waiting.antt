@@ -3,7 +3,7 @@
 -- The code asks the channels that it has; here each number above 0 is asked.
 use Rattle.std.specs.Prelude.{◌≡◌, ℕ, ◌==◌, true, false, List, [], ◌∷◌, ◌++◌, Some}
 use Rattle.beep_channel.specs.Held.{Live, is_held_drained}
-use Rattle.beep_lives.specs.Lives.{live_at}
+use Rattle.beep_lives.specs.Lives.{live_at, numbers}
 use Rattle.beep_asked.specs.Kept.{asks_otherwise}
 use Rattle.beep_management.specs.declared.wait.Wait.{Wait}
 use Rattle.beep_management.specs.Managed.{Prepared, Managed}
@@ -33,3 +33,8 @@ pub record AreLetGo (channels : List Live) (old new : Managed) : Type 0 where
   pub split : old.answers ≡ gone ++ new.answers
   pub come : AllHaveCome gone channels old
   pub same : new ≡ record old { answers = new.answers }
+
+-- the channel of 0 alone is changed, and no life begins or ends
+pub record KeepsAbove (old new : List Live) : Type 0 where
+  pub order : numbers new ≡ numbers old
+  pub others : (n : ℕ) → (0 == n) ≡ false → live_at n new ≡ live_at n old

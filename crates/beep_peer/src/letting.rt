@@ -6,7 +6,7 @@ ghost use Rattle.beep_management.specs.Managed.{first_of};
 ghost use Rattle.beep_management.specs.Values.{prepared_of};
 ghost use Rattle.beep_peer.specs.Peering.{Holds, AreHeld};
 ghost use Rattle.beep_peer.specs.Calls.{LetsGo};
-ghost use Rattle.beep_peer.specs.Waiting.{IsDrainedAt, HasCome, AreLetGo};
+ghost use Rattle.beep_peer.specs.Waiting.{IsDrainedAt, HasCome, AreLetGo, KeepsAbove};
 
 use beep_lives::Lives;
 use beep_management::{Answer, Management, Wait};
@@ -19,6 +19,7 @@ pub fn let_go(lives: &mut Lives, management: &mut Management)
         → Holds size journal given taken lives.old management.old
         → LetsGo size journal given taken lives.new management.new }
     ensures waits { AreLetGo lives.old management.old management.new }
+    ensures kept { KeepsAbove lives.old lives.new }
 {
     while let Some(answer) = next_answer(lives, management) {
         match lives.give_reply(0, answer.kind, answer.octets.as_slice()) {

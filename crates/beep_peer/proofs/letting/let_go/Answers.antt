@@ -5,9 +5,9 @@ use Rattle.beep_outbox.specs.declared.outbox.TheConstants.{MAX_UNLIMITED}
 use Rattle.beep_outbox.specs.Queue.{message_marks}
 use Rattle.beep_channel.specs.Held.{IsReply, next_reply}
 use Rattle.beep_lives.specs.Lives.{live_at}
-use Rattle.beep_lives.specs.Edits.{Edits, Gives, UsesRoom}
+use Rattle.beep_lives.specs.Edits.{Edits, Gives, UsesRoom, KeepsHeld}
 use Rattle.beep_management.specs.Values.{prepared_of}
-use Rattle.beep_peer.proofs.DrainedLemmas.{drained-other, lets-one, lets-nothing}
+use Rattle.beep_peer.proofs.DrainedLemmas.{drained-other, lets-one, lets-nothing, keeps-all, keeps-more}
 use Rattle.beep_peer.proofs.OwedLemmas.{lets-none, lets-held, lets-more, lets-stay, zero-there, answer-may, answer-fits, first-then, first-rest, rest-of}
 use Rattle.beep_peer.proofs.letting.let_go.Goals as goal
 
@@ -16,6 +16,7 @@ loop-answer-init c = record {
   goes = λ size journal given taken h. lets-none size journal given taken c.args.lives.now c.args.management.now h;
   lets = lets-nothing c.args.lives.now c.args.management.now;
   same = λ number drained. drained;
+  kept = keeps-all c.args.lives.now;
 }
 
 pub give_reply-requires-clause-live : goal.give_reply-requires-clause-live
@@ -55,8 +56,13 @@ loop-answer-preserved-in-Ok c =
           c.take_answer-given.ensures.same;
       same = λ number drained. c.loop-answer.invariant.same number
           (drained-other (UsesRoom (length c.as_slice.result.now)) c.loop-answer.lives c.give_reply.new.self number c.in-Ok.ensures.used drained);
+      kept = keeps-more (UsesRoom (length c.as_slice.result.now)) c.args.lives.now c.loop-answer.lives c.give_reply.new.self c.loop-answer.invariant.kept c.in-Ok.ensures.used;
     }
 
 pub returns-in-Err-clause-holds : goal.returns-in-Err-clause-holds
 returns-in-Err-clause-holds c size journal given taken h =
     lets-stay size journal given taken c.loop-answer.lives c.give_reply.new.self c.loop-answer.management (c.loop-answer.invariant.goes size journal given taken h) c.in-Err.ensures.err
+
+pub returns-in-Err-clause-kept : goal.returns-in-Err-clause-kept
+returns-in-Err-clause-kept c =
+    keeps-more KeepsHeld c.args.lives.now c.loop-answer.lives c.give_reply.new.self c.loop-answer.invariant.kept c.in-Err.ensures.err

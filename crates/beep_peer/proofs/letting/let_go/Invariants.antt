@@ -3,7 +3,7 @@ use Rattle.beep_history.specs.Journal.{Item}
 use Rattle.beep_standing.specs.Standing.{Marks}
 use Rattle.beep_peer.specs.Peering.{Holds}
 use Rattle.beep_peer.specs.Calls.{LetsGo}
-use Rattle.beep_peer.specs.Waiting.{IsDrainedAt, AreLetGo}
+use Rattle.beep_peer.specs.Waiting.{IsDrainedAt, AreLetGo, KeepsAbove}
 use Rattle.beep_peer.proofs.letting.let_go.Given as goal
 
 abbrev pub invariant-loop-answer : goal.invariant-loop-answer
@@ -12,6 +12,7 @@ invariant-loop-answer l = record {
       → LetsGo size journal given taken l.lives l.management;
   lets : AreLetGo l.fn.lives l.fn.management l.management;
   same : (number : ℕ) → IsDrainedAt number l.lives → IsDrainedAt number l.fn.lives;
+  kept : KeepsAbove l.fn.lives l.lives;
 }
 
 abbrev pub decreases-loop-answer : goal.decreases-loop-answer
