@@ -1,0 +1,5 @@
+pub mod ChangeLemmas
+pub mod CountLemmas
+pub mod GivenLemmas
+pub mod LooksLemmas
+pub mod TakenLemmas
