@@ -57,8 +57,8 @@ pub fn ask(peer: &mut Peer, number: u32, octets: &[u8]) -> Result<u64, AskError>
     peer.lives.give_ask(number, octets)
 }
 
-/// Gives a message of the reply to the oldest request that a live life owes: a RPY or an ERR, one of
-/// many ANS, or the NUL that ends them. The refusals are tried in the order Full, NoMemory.
+/// Gives a message of the reply to the oldest request that a live life owes: a RPY or an ERR, one
+/// of many ANS, or the NUL that ends them. The refusals are tried in the order Full, NoMemory.
 pub fn give_reply(peer: &mut Peer, number: u32, kind: Kind, octets: &[u8]) -> Result<(), GiveError>
     requires above { 0 < number }
     requires live { IsSome (live_at number peer.old.lives) }

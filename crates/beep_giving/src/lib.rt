@@ -1,5 +1,5 @@
-//! What a program gives and takes in a live life above zero, and what each call makes of the journal
-//! for which a peer stands (RFC 3080, sections 2.1 and 2.6.1).
+//! What a program gives and takes in a live life above zero, and what each call makes of the
+//! journal for which a peer stands (RFC 3080, sections 2.1 and 2.6.1).
 #![tactic(auto)]
 
 mod giving;
