@@ -60,6 +60,13 @@ pub record AreKept (turns : List ℕ) (channels : List Live) (ready due : List B
   pub ascending : IsAscendingFrom 0 channels
   pub zero : is_some (live_at 0 channels) ≡ true
 
+-- ---- room
+
+-- for how many more untaken runs the channel has room
+abbrev pub runs_of : Option Live → Option ℕ
+runs_of None = None
+runs_of (Some channel) = Some channel.runs
+
 -- ---- a received frame
 
 -- the header of the received frame that has begun in the channel and not passed

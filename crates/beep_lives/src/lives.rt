@@ -19,7 +19,7 @@ ghost use Rattle.beep_channel.specs.declared.ask_error.AskError.{AskError as Ask
 ghost use Rattle.beep_channel.specs.Held.{Live, next_ask, next_reply, IsReply, ask_refusal, reply_refusal};
 ghost use Rattle.beep_channel.specs.Stands.{Stands};
 ghost use Rattle.beep_turns.specs.declared.turns.TheConstants.{MAX_CHANNELS};
-ghost use Rattle.beep_lives.specs.Lives.{live_at, numbers, can_send, owes_seq, IsFirstOf, receiving_of, has_begun, lives_judged};
+ghost use Rattle.beep_lives.specs.Lives.{live_at, numbers, can_send, owes_seq, IsFirstOf, runs_of, receiving_of, has_begun, lives_judged};
 ghost use Rattle.beep_lives.specs.Edits.{Begins, Arrives, Obeys, Sends, Tells, Gives, Takes, KeepsHeld, UsesRoom, AreNew, Edits, EditsWhere, Joins, Leaves};
 
 use crate::flags::{first, note, owes_seq, put};
@@ -305,6 +305,7 @@ impl Lives {
         ensures ok { OnOk result (IfSome (live_at number self.new) (λ channel.
             (octets ≤ channel.octets) × (messages ≤ channel.messages))) }
         ensures kept { Edits number KeepsHeld self.old self.new }
+        ensures runs { runs_of (live_at number self.new) ≡ runs_of (live_at number self.old) }
     {
         let Some(i) = self.find(number) else {
             unreachable!()

@@ -1,9 +1,9 @@
 -- Room alone changes.
-use Rattle.std.proofs.Common.{◌≤◌, List, slice_set, ap, arith, IfSome}
+use Rattle.std.proofs.Common.{◌≤◌, ℕ, List, slice_set, Some, sym, ap, ◌∙◌, arith, IfSome}
 use Rattle.beep_channel.specs.Held.{Live, Held}
-use Rattle.beep_lives.specs.Lives.{live_at}
+use Rattle.beep_lives.specs.Lives.{live_at, runs_of}
 use Rattle.beep_lives.proofs.LivesLemmas.{IsHere, here, kept}
-use Rattle.beep_lives.proofs.CallLemmas.{is-after, at-live, on-ok, keeps}
+use Rattle.beep_lives.proofs.CallLemmas.{is-after, was-now, at-live, on-ok, keeps}
 use Rattle.beep_lives.proofs.lives.Lives.reserve.Goals as goal
 
 pub invariant_of-self : goal.invariant_of-self
@@ -41,3 +41,13 @@ returns-clause-kept c =
     let h : IsHere c.args.number c.in-Some.i items b =
     here c.args.number c.in-Some.i c.args.self.now items b c.self.view_is c.in-Some.ensures.some c.index_mut-channel.ensures.value in
     keeps c.args.number c.in-Some.i c.args.self.now items b c.reserve-reserved.new.self c.self.view_is h c.reserve-reserved.ensures.kept c.reserve-reserved.ensures.room
+
+pub returns-clause-runs : goal.returns-clause-runs
+returns-clause-runs c =
+    let items : List Live = c.self.inside.channels.items in
+    let b : Live = c.index_mut-channel.result.now in
+    let h : IsHere c.args.number c.in-Some.i items b =
+    here c.args.number c.in-Some.i c.args.self.now items b c.self.view_is c.in-Some.ensures.some c.index_mut-channel.ensures.value in
+    ap runs_of (is-after c.args.number c.in-Some.i items b c.reserve-reserved.new.self h (ap (λ (x : Held). x.number) c.reserve-reserved.ensures.kept))
+    ∙ ap (λ (n : ℕ). Some n) c.reserve-reserved.ensures.runs
+    ∙ sym (ap runs_of (was-now c.args.number c.in-Some.i c.args.self.now items b c.self.view_is h))
