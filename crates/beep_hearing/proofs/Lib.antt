@@ -6,3 +6,4 @@ pub mod AnswerLemmas
 pub mod DropLemmas
 pub mod WaitLemmas
 pub mod StillLemmas
+pub mod RoomLemmas

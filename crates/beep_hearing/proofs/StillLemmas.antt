@@ -1,5 +1,5 @@
 -- A message of channel zero that is no RPY grants nothing, so that it moves no life.
-use Rattle.std.proofs.Common.{◌≡◌, ℕ, ◌==◌, Bool, true, false, not, ◌&&◌, List, [], ◌∷◌, Option, None, Some, refl, sym, ap, subst, ◌∙◌}
+use Rattle.std.proofs.Common.{◌≡◌, ℕ, ◌==◌, Bool, true, false, not, ◌&&◌, List, [], ◌∷◌, Some, refl, sym, subst, ◌∙◌}
 use Rattle.std.proofs.Math.Logic.{∥∥₁_map}
 use Rattle.beep_frame.specs.declared.head.Head.{Head}
 use Rattle.beep_frame.specs.declared.kind.Kind.{Kind}
@@ -7,7 +7,7 @@ use Rattle.beep_frame.specs.Frame.{same_kind}
 use Rattle.beep_history.specs.declared.journal.Side.{Side}
 use Rattle.beep_history.specs.Journal.{Item, passed, other}
 use Rattle.beep_history.specs.Marks.{position_of}
-use Rattle.beep_journal.specs.Zero.{zero_history, said_to, completes_form, events}
+use Rattle.beep_journal.specs.Zero.{zero_history, said_to, events}
 use Rattle.beep_channel.specs.Held.{Live}
 use Rattle.beep_standing.specs.Standing.{Marks}
 use Rattle.beep_standing.specs.Moving.{MovesNone, GrantedWhere, is_grant}

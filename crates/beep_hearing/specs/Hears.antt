@@ -152,6 +152,20 @@ pub record KeepsOthers (number : ℕ) (old new : List Live) : Type 0 where
   pub room : (before : Live) → live_at number old ≡ Some before
       → (after : Live) × (live_at number new ≡ Some after) × HasRoomOut before after 0 0
 
+-- ---- room for what is given
+
+-- channel zero has room for so many more unsent octets, and for so many more messages
+pub record HasZeroRoom (octets messages : ℕ) (channels : List Live) : Type 0 where
+  pub channel : Live
+  pub at : live_at 0 channels ≡ Some channel
+  pub octets_fit : octets ≤ channel.octets
+  pub messages_fit : messages ≤ channel.messages
+
+-- what it had room for it has room for still
+abbrev pub KeepsZeroRoom : List Live → List Live → Type 0
+KeepsZeroRoom old new =
+    (octets messages : ℕ) → HasZeroRoom octets messages old → HasZeroRoom octets messages new
+
 -- ---- what octets make of it
 
 -- these octets brought these items, of which none ends a message of channel zero

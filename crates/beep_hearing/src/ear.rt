@@ -38,7 +38,7 @@ impl Ear {
     ghost use Rattle.beep_frame.specs.Modulo.{modulo_2_64};
     ghost use Rattle.beep_hearing.specs.declared.heard.Heard.{Heard as HeardValue};
     ghost use Rattle.beep_hearing.specs.declared.stopped.Stopped.{Stopped as StoppedValue};
-    ghost use Rattle.beep_hearing.specs.Hears.{Hears, IsEar, Waits, Passes, PassesBy, KeepsOthers};
+    ghost use Rattle.beep_hearing.specs.Hears.{Hears, IsEar, Waits, Passes, PassesBy, KeepsOthers, KeepsZeroRoom};
     ghost use Rattle.beep_hearing.specs.Answers.{Answers, IsHeld, IsReached, IsWaiting, broken_at};
     ghost use Rattle.beep_hearing.specs.Left.{IfUnder, IsWhole, MayPass, Gathers, heard_by, last_place, stopped_at};
 
@@ -210,6 +210,7 @@ impl Ear {
             → self.new ≡ record self.old { under = Some head.now } }
         ensures stopped { (rule : RuleValue) (place : ℕ) → result ≡ HeardValue.Broken rule place
             → (self.new ≡ stopped_at self.old rule place left) × (lives.new ≡ lives.old) }
+        ensures room { KeepsZeroRoom lives.old lives.new }
     {
         match hear_head(lives, self.heard, head) {
             Some(rule) => self.stop(rule, self.used.wrapping_sub(1), left),
@@ -232,6 +233,7 @@ impl Ear {
         ensures same { result ≡ HeardValue.More → self.new ≡ self.old }
         ensures stopped { (rule : RuleValue) (place : ℕ) → result ≡ HeardValue.Broken rule place
             → (self.new ≡ stopped_at self.old rule place left) × (lives.new ≡ lives.old) }
+        ensures room { KeepsZeroRoom lives.old lives.new }
     {
         match hear_seq(lives, seq) {
             Some(rule) => self.stop(rule, self.used.wrapping_sub(1), left),
@@ -265,6 +267,7 @@ impl Ear {
             → (result ≡ HeardValue.Zero head)
             × (self.new ≡ record self.old { waits = Some head; text = self.new.text })
             × Gathers self.old.text self.new.text payload × (lives.new ≡ lives.old) }
+        ensures room { KeepsZeroRoom lives.old lives.new }
     {
         let frame = self.decoder.frame();
         let head = frame.head;
@@ -298,6 +301,7 @@ impl Ear {
             → IsEar size fed rest journal given taken self.old lives.old
             → Answers result.1 size (take result.0 bytes.now) fed journal given taken
             self.new lives.new }
+        ensures room { KeepsZeroRoom lives.old lives.new }
     {
         let left = self.decoder.left();
         let (count, step) = self.decoder.feed(bytes);
@@ -338,6 +342,7 @@ impl Ear {
         ensures kept { (size : ℕ) (journal : List Item) (given taken : Marks)
             → AreLiveBy size journal given taken lives.old
             → AreLiveBy size journal given taken lives.new }
+        ensures room { KeepsZeroRoom lives.old lives.new }
     {
         match self.under {
             Some(head) => lives.make_room(head.channel),
@@ -365,6 +370,7 @@ impl Ear {
         ensures broken { (stopped : StoppedValue) → self.old.broken ≡ Some stopped
             → (result.0 ≡ 0) × (result.1 ≡ HeardValue.Broken stopped.rule stopped.place)
             × (self.new ≡ self.old) × (lives.new ≡ lives.old) }
+        ensures room { KeepsZeroRoom lives.old lives.new }
     {
         if let Some(answer) = self.over() {
             return (0, answer);

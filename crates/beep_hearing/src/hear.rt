@@ -10,7 +10,7 @@ ghost use Rattle.beep_history.specs.Broken.{under_way};
 ghost use Rattle.beep_journal.specs.Broken.{none_tunes, broken_head, broken_seq, is_greeting, breaks_zero_reply};
 ghost use Rattle.beep_lives.specs.Lives.{live_at, has_begun, receiving_of};
 ghost use Rattle.beep_standing.specs.Standing.{Marks, AreLive, AreLiveBy};
-ghost use Rattle.beep_hearing.specs.Hears.{Passes, KeepsOthers};
+ghost use Rattle.beep_hearing.specs.Hears.{Passes, KeepsOthers, KeepsZeroRoom};
 
 use beep_frame::{Head, Kind, Rule, Seq};
 use beep_lives::Lives;
@@ -32,6 +32,7 @@ pub(crate) fn hear_head(lives: &mut Lives, heard: bool, head: &Head) -> Option<R
         → AreLiveBy size journal given taken lives.old → under_way Side.Received journal ≡ None
         → AreLiveBy size (began Side.Received head.now ∷ journal) given taken lives.new }
     ensures some { IfSome result (λ _. lives.new ≡ lives.old) }
+    ensures room { KeepsZeroRoom lives.old lives.new }
 {
     if lacks_greeting(heard, head) {
         return Some(Rule::NoGreeting);
@@ -78,6 +79,7 @@ pub(crate) fn hear_seq(lives: &mut Lives, seq: &Seq) -> Option<Rule>
         → AreLiveBy size journal given taken lives.old
         → AreLiveBy size (told Side.Received seq.now ∷ journal) given taken lives.new }
     ensures some { IfSome result (λ _. lives.new ≡ lives.old) }
+    ensures room { KeepsZeroRoom lives.old lives.new }
 {
     match lives.acked(seq) {
         Ok(_obeyed) => None,

@@ -2,6 +2,8 @@
 use Rattle.std.proofs.Common.{true, false, sym, ◌∙◌}
 use Rattle.beep_standing.proofs.ArriveLemmas.{judged-by, header-joins}
 use Rattle.beep_hearing.proofs.HearLemmas.{exit-greeting, exit-judged, exit-zero}
+use Rattle.beep_lives.specs.Edits.{Begins}
+use Rattle.beep_hearing.proofs.RoomLemmas.{room-edit}
 use Rattle.beep_hearing.proofs.hear.hear_head.Goals as goal
 
 pub returns-then-lacks_greeting-clause-value : goal.returns-then-lacks_greeting-clause-value
@@ -29,3 +31,6 @@ returns-clause-value c size journal given taken s heard within =
 pub returns-clause-none : goal.returns-clause-none
 returns-clause-none c none size journal given taken s idle =
     header-joins size journal given taken c.args.lives.now c.begin.new.self c.args.head.now s idle c.begin.ensures
+
+pub returns-clause-room : goal.returns-clause-room
+returns-clause-room c = room-edit c.args.head.now.channel (Begins c.args.head.now) c.args.lives.now c.begin.new.self (λ b a s. s.keeps) c.begin.ensures

@@ -1,4 +1,4 @@
-use Rattle.std.proofs.Common.{◌≡◌, ℕ, List, [], refl, sym, subst}
+use Rattle.std.proofs.Common.{ℕ, List, [], refl, sym, subst}
 use Rattle.std.proofs.lemmas.Grind.{merely}
 use Rattle.beep_channel.specs.Held.{Live}
 use Rattle.beep_lives.specs.Edits.{AreNew}

@@ -13,6 +13,7 @@ loop-at-init c =
     let none = c.over.ensures.none c.in_default.is in
     record {
       within = omega arith;
+      room = λ octets messages h. h;
       held = c.requires.reached none.0 none.1;
       goes = λ size fed rest journal given taken s. goes_none size fed rest journal given taken c.args.self.now c.args.lives.now s;
     }
@@ -37,6 +38,7 @@ loop-at-preserved c =
     let more : heard ≡ Heard.More = c.is_more.ensures.0 c.if-not-is_more.false in
     record {
       within = grind (arith, length-take, length-drop, c.hear-count.ensures.within);
+      room = λ octets messages h. c.hear-count.ensures.room octets messages (c.make_room.ensures.room octets messages (c.loop-at.invariant.room octets messages h));
       held = step_held (take count (take (length bytes - at) (drop at bytes))) heard c.loop-at.self c.hear-count.new.self c.loop-at.lives c.make_room.new.lives c.hear-count.new.lives more
           c.make_room.ensures.kept c.hear-count.ensures.answers c.loop-at.invariant.held;
       goes = λ size fed rest journal given taken s.
@@ -81,3 +83,10 @@ returns-then-not-is_more-clause-waits c head none zero =
 
 pub returns-clause-reached : goal.returns-clause-reached
 returns-clause-reached c going none = c.loop-at.invariant.held
+
+pub returns-in-Err-clause-room : goal.returns-in-Err-clause-room
+returns-in-Err-clause-room c octets messages h = c.make_room.ensures.room octets messages (c.loop-at.invariant.room octets messages h)
+
+pub returns-then-not-is_more-clause-room : goal.returns-then-not-is_more-clause-room
+returns-then-not-is_more-clause-room c octets messages h =
+    c.hear-count.ensures.room octets messages (c.make_room.ensures.room octets messages (c.loop-at.invariant.room octets messages h))

@@ -11,6 +11,7 @@ use Rattle.beep_hearing.specs.declared.heard.Heard.{Heard}
 use Rattle.beep_hearing.specs.Hears.{PassesBy}
 use Rattle.beep_hearing.specs.Left.{Gathers}
 use Rattle.beep_hearing.proofs.AnswerLemmas.{has-room}
+use Rattle.beep_hearing.proofs.RoomLemmas.{room-others, room-then}
 use Rattle.beep_hearing.proofs.ear.Ear.pass.Goals as goal
 
 pub frame-frame-requires : goal.frame-frame-requires
@@ -78,3 +79,13 @@ returns-clause-part c head payload w zero more =
           (passed Side.Received c.frame-frame.result.head c.frame-frame.result.payload.now ∷ journal) given taken
           (c.hear_frame-2.ensures.part size journal given taken s (begun ∙ ap (λ (h : Head). Some h) (sym e.0)) (ap (λ (h : Head). h.channel == 0) e.0 ∙ zero) (ap (λ (h : Head). h.more) e.0 ∙ more))),
     )
+
+pub returns-then-head-ne0-clause-room : goal.returns-then-head-ne0-clause-room
+returns-then-head-ne0-clause-room c =
+    room-others c.frame-frame.result.head.channel c.args.lives.now c.hear_frame.new.lives c.hear_frame.ensures.others
+
+pub returns-clause-room : goal.returns-clause-room
+returns-clause-room c =
+    room-then c.args.lives.now c.hear_frame-2.new.lives c.drop_untaken.new.lives
+    (room-others c.frame-frame.result.head.channel c.args.lives.now c.hear_frame-2.new.lives c.hear_frame-2.ensures.others)
+    (room-others 0 c.hear_frame-2.new.lives c.drop_untaken.new.lives c.drop_untaken.ensures.others)
