@@ -1,12 +1,12 @@
 -- The answers of the code, by what they stand for.
-use Rattle.std.proofs.Common.{◌≡◌, ℕ, zero, suc, ◌+◌, ◌<◌, min, List, [], ◌∷◌, ◌++◌, length, map, take, drop, set, get_or, slice_get, Option, None, Some, IfSome, refl, sym, ap, ◌∙◌, arith, add-one, append_assoc}
+use Rattle.std.proofs.Common.{◌≡◌, ℕ, zero, suc, ◌+◌, ◌<◌, ◌≤◌, min, List, [], ◌∷◌, ◌++◌, length, map, take, drop, set, get_or, slice_get, Option, None, Some, IfSome, refl, sym, ap, ◌∙◌, arith, add-one, append_assoc}
 use Rattle.std.proofs.Common.{◌≡◌, ℕ, zero, suc, ◌+◌, ◌<◌, List, [], ◌∷◌, ◌++◌, length, map, take, drop, set, get_or, refl, sym, ap, ◌∙◌, arith}
 use Rattle.std.specs.Option.{option_map_or, option_to_list}
 use Rattle.std.proofs.lemmas.List.{map-set, get_or-map, length-map}
 use Rattle.std.proofs.lemmas.List.Edits.{map_over_more}
 use Rattle.beep_management.specs.declared.answers.Answer.{Answer}
 use Rattle.beep_channel.specs.Held.{Live}
-use Rattle.beep_management.specs.Managed.{Prepared, one_without, numbers_of, lowest}
+use Rattle.beep_management.specs.Managed.{Prepared, one_without, octets_prepared, numbers_of, lowest}
 use Rattle.beep_management.specs.Values.{prepared_of}
 
 -- one more answer is cleared in its place
@@ -20,6 +20,26 @@ cleared-more number old now i one cleared here within so_far at is =
     ∙ map_over_more (one_without number) (map prepared_of old) (map prepared_of now) i (prepared_of one)
     (omega (arith, within, length-map old prepared_of)) so_far
     (ap prepared_of at ∙ sym (get_or-map prepared_of now i one (prepared_of one) here))
+
+-- ---- their octets
+
+-- one more answer is counted
+pub octets-more : (answers : List Answer) (i : ℕ) (one : Answer) → i < length answers → one ≡ get_or answers i one
+    → octets_prepared (take (i + 1) (map prepared_of answers)) ≡ octets_prepared (take i (map prepared_of answers)) + length one.octets.octets
+octets-more answers i one within at = ap (λ (k : ℕ). octets_prepared (take k (map prepared_of answers))) (add-one i) ∙ by answers i within at
+  where
+    by : (answers : List Answer) (i : ℕ) → i < length answers → one ≡ get_or answers i one
+        → octets_prepared (take (suc i) (map prepared_of answers)) ≡ octets_prepared (take i (map prepared_of answers)) + length one.octets.octets
+    by [] i within at = absurd (omega arith)
+    by (first ∷ answers) zero within at = omega (arith, ap (λ (a : Answer). length a.octets.octets) at)
+    by (first ∷ answers) (suc i) within at = omega (arith, by answers i (omega arith) at)
+
+-- the first of them have no more octets than all
+pub octets-within : (answers : List Prepared) (i : ℕ) → octets_prepared (take i answers) ≤ octets_prepared answers
+octets-within [] zero = omega arith
+octets-within [] (suc i) = omega arith
+octets-within (first ∷ answers) zero = omega arith
+octets-within (first ∷ answers) (suc i) = omega (arith, octets-within answers i)
 
 -- ---- the numbers of channels
 

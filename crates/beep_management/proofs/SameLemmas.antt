@@ -13,7 +13,7 @@ use Rattle.beep_spoken.specs.Spoken.{Spoken}
 use Rattle.beep_asked.specs.Kept.{Kept}
 use Rattle.beep_asked.specs.Asked.{AreWaiting}
 use Rattle.beep_management.specs.Managed.{Prepared, Managed, numbers_started, numbers_granted, requests_among, replies_among, one_without, without}
-use Rattle.beep_management.specs.Manages.{unsent, AreActs, ArePrepared, AllFit, AreFresh, IsManaged, Manages}
+use Rattle.beep_management.specs.Manages.{unsent, AreActs, ArePrepared, AllFit, AreFresh, IsManaged}
 use Rattle.beep_management.specs.Steps.{cleared_by, answers_after}
 
 -- ---- room

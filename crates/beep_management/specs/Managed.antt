@@ -4,7 +4,7 @@
 -- The code keeps the same in queues, with room for what comes.
 use Rattle.std.specs.List.{list_any}
 use Rattle.std.specs.Option.{option_map_or}
-use Rattle.std.specs.Prelude.{ℕ, ◌==◌, min, Bool, not, if◌then◌else◌, List, [], ◌∷◌, ◌++◌, map, filter, flat_map, Option, None, Some}
+use Rattle.std.specs.Prelude.{ℕ, ◌+◌, ◌==◌, min, Bool, not, if◌then◌else◌, List, [], ◌∷◌, ◌++◌, length, map, filter, flat_map, Option, None, Some}
 use Rattle.beep_frame.specs.declared.kind.Kind.{Kind}
 use Rattle.beep_frame.specs.Frame.{is_msg, same_kind}
 use Rattle.beep_mgmt.specs.Form.{Form, greeting, start, chosen, close, okay, fault}
@@ -33,6 +33,11 @@ pub record ChannelQueue : Type 0 where
 abbrev pub first_of : List Prepared → Option Prepared
 first_of [] = None
 first_of (answer ∷ answers) = Some answer
+
+-- the octets of these answers together
+abbrev pub octets_prepared : List Prepared → ℕ
+octets_prepared [] = 0
+octets_prepared (answer ∷ answers) = length answer.octets + octets_prepared answers
 
 -- the life of this number has ended: what waits for it waits for nothing
 abbrev pub wait_without : ℕ → Wait → Wait

@@ -1,8 +1,8 @@
 //! The answers to requests of channel zero that aren't given yet, in the order of the requests.
-ghost use Rattle.std.specs.Prelude.{◌≡◌, ◌∷◌, ◌++◌, ◌+◌, ◌<◌, ◌≤◌, [], length, Some, None, option_map, OnOk, IsOk};
+ghost use Rattle.std.specs.Prelude.{◌≡◌, ◌∷◌, ◌++◌, ◌+◌, ◌<◌, ◌≤◌, ◌^◌, [], length, Some, None, option_map, OnOk, IsOk, IfSome, IfNone};
 ghost use Rattle.std.specs.Option.{option_copied, option_to_list};
 ghost use Rattle.std.specs.VecDeque.{deque_len, deque_capacity};
-ghost use Rattle.beep_management.specs.Managed.{wait_without, one_without, first_of};
+ghost use Rattle.beep_management.specs.Managed.{wait_without, one_without, first_of, octets_prepared};
 ghost use Rattle.beep_management.specs.Managed.{without as all_without};
 ghost use Rattle.beep_management.specs.Values.{prepared_of, all_prepared};
 
@@ -87,6 +87,21 @@ impl Answers {
         self.list.push_back_reserved(answer);
     }
 
+    /// How many they are.
+    pub(crate) fn len(&self) -> usize
+        ensures { result ≡ length self.now.list }
+    {
+        self.list.len()
+    }
+
+    /// Their octets together, where a usize counts so many.
+    pub(crate) fn octets(&self) -> Option<usize>
+        ensures some { IfSome result (λ octets. octets ≡ octets_prepared self.now.list) }
+        ensures none { IfNone result (2 ^ 64 ≤ octets_prepared self.now.list) }
+    {
+        sum_octets(&self.list)
+    }
+
     /// The first of them.
     pub(crate) fn first(&self) -> Option<&Answer>
         ensures { option_map prepared_of (option_copied result) ≡ first_of self.now.list }
@@ -109,6 +124,22 @@ impl Answers {
     {
         clear_all(&mut self.list, number);
     }
+}
+
+/// The octets of answers together, where a usize counts so many.
+fn sum_octets(list: &VecDeque<Answer>) -> Option<usize>
+    ensures some { IfSome result (λ octets.
+        octets ≡ octets_prepared (all_prepared list.now.items)) }
+    ensures none { IfNone result (2 ^ 64 ≤ octets_prepared (all_prepared list.now.items)) }
+{
+    let mut octets: usize = 0;
+    for i in 0..list.len() {
+        let Some(more) = octets.checked_add(list[i].octets.len()) else {
+            return None;
+        };
+        octets = more;
+    }
+    Some(octets)
 }
 
 /// Clears each of the answers.

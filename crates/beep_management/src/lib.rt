@@ -6,6 +6,7 @@
 mod answers;
 pub mod laws;
 mod management;
+mod naming;
 mod starting;
 mod wait;
 

@@ -1,16 +1,17 @@
 //! What an end keeps of channel zero beside the channel itself.
-ghost use Rattle.std.specs.Prelude.{◌≡◌, ◌∷◌, ◌++◌, ◌+◌, ◌<◌, ◌≤◌, ◌||◌, [], length, min, true, None, Some, IfOk, IfSome, OnOk, OnErr, if◌then◌else◌};
+ghost use Rattle.std.specs.Prelude.{◌≡◌, ◌∷◌, ◌++◌, ◌+◌, ◌<◌, ◌≤◌, ◌^◌, ◌||◌, [], length, min, true, None, Some, IfOk, IfSome, IfNone, OnOk, OnErr, if◌then◌else◌};
 ghost use Rattle.std.specs.Option.{option_copied, option_map, option_map_or, option_to_list};
 ghost use Rattle.beep_frame.specs.declared.kind.Kind.{Kind as KindValue};
-ghost use Rattle.beep_asked.specs.Kept.{implied_request, names_one, oldest, after_grant};
+ghost use Rattle.beep_asked.specs.Kept.{implied_request, oldest, after_grant};
 ghost use Rattle.beep_asked.specs.Request.{kept_of};
 ghost use Rattle.beep_management.specs.declared.wait.Wait.{Wait as WaitValue};
-ghost use Rattle.beep_management.specs.Managed.{number_started, numbers_of, has_number, lowest, first_of};
+ghost use Rattle.beep_management.specs.Managed.{number_started, numbers_of, has_number, lowest, first_of, octets_prepared};
 ghost use Rattle.beep_management.specs.Values.{prepared_of};
 ghost use Rattle.beep_management.specs.Moved.{is_live_in};
 ghost use Rattle.beep_management.specs.Steps.{answers_after, answers_if, if_granted, KeepsQueue, Becomes, TakesMine, TakesTheirs, PassesAct};
 
 use crate::answers::{Answer, Answers};
+use crate::naming::names_live;
 use crate::starting::Starting;
 use crate::wait::Wait;
 use beep_asked::{Request, Waiting};
@@ -117,6 +118,21 @@ impl Management {
         ensures { option_map prepared_of (option_copied result) ≡ first_of self.now.answers }
     {
         self.answers.first()
+    }
+
+    /// How many answers aren't given.
+    pub fn count_answers(&self) -> usize
+        ensures { result ≡ length self.now.answers }
+    {
+        self.answers.len()
+    }
+
+    /// The octets of those answers together, where a usize counts so many.
+    pub fn octets_of_answers(&self) -> Option<usize>
+        ensures some { IfSome result (λ octets. octets ≡ octets_prepared self.now.answers) }
+        ensures none { IfNone result (2 ^ 64 ≤ octets_prepared self.now.answers) }
+    {
+        self.answers.octets()
     }
 
     // ---- channels that are starting
@@ -377,21 +393,4 @@ fn list_numbers(channels: &Starting, numbers: &mut Vec<u32>) -> Result<(), NoMem
         };
     }
     Ok(())
-}
-
-/// Whether a request is a close of a number above 0 that is live.
-fn names_live(request: &Request, lives: &Lives) -> bool
-    ensures { result ≡ names_one (is_live_in lives.now) (kept_of request.now).said }
-{
-    match &request.said {
-        Some(Mgmt::Close { number, .. }) => 0 < *number && lives.is_live(*number),
-        Some(
-            Mgmt::Greeting { .. }
-            | Mgmt::Start { .. }
-            | Mgmt::Chosen { .. }
-            | Mgmt::Okay
-            | Mgmt::Fault { .. },
-        )
-        | None => false,
-    }
 }
