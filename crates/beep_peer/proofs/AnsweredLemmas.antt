@@ -21,7 +21,7 @@ use Rattle.beep_standing.specs.Standing.{Marks, AreLiveBy}
 use Rattle.beep_standing.specs.Moving.{MovesNone}
 use Rattle.beep_standing.proofs.LivesLemmas.{lives-stay}
 use Rattle.beep_decide.specs.Asks.{is_close_of}
-use Rattle.beep_hearing.specs.Hears.{Passes}
+use Rattle.beep_hearing.specs.Hears.{Passes, KeepsZeroRoom}
 use Rattle.beep_asked.specs.Kept.{Kept, oldest, others, fits, grants}
 use Rattle.beep_asked.specs.Asked.{AreWaiting, EndsReply}
 use Rattle.beep_asked.specs.Granting.{IsGranted}
@@ -44,6 +44,7 @@ use Rattle.beep_peer.proofs.FewLemmas.{does-few}
 use Rattle.beep_peer.proofs.CarriesLemmas.{carries-same, carries-done, zero-after}
 use Rattle.beep_peer.proofs.GoneLemmas.{above-named, one-number, last-split, some-prop, names-prop}
 use Rattle.beep_peer.proofs.DoneLemmas.{carries-on, carries-from, same-count}
+use Rattle.beep_peer.proofs.RoomLemmas.{room-equal, room-cleared, room-done}
 use Rattle.beep_peer.proofs.WaitingLemmas.{zero-now, ends-reply, says-whole, released-now, AnyWaits}
 
 -- ---- forms
@@ -150,7 +151,7 @@ module _ (size : ℕ) (fed : List ℕ) (journal : List Item) (given taken : Mark
           start-has-one size journal given m w.manages.spoken w.manages.prepared d (others m.mine.requests) one (last-split m.mine.requests one at)
 
   module _ (fit : option_map_or (fits head.kind said) (oldest m.mine.requests) false ≡ true) (one : Kept) (channel : Option Live) (new : Managed)
-      (channels : List Live) (order : numbers channels ≡ numbers peer.lives)
+      (channels : List Live) (order : numbers channels ≡ numbers peer.lives) (kept : KeepsZeroRoom peer.lives channels)
       (pass : Passes size journal (passed Side.Received head payload ∷ journal) given taken channels) where
     module _ (later : List Kept) (split : m.mine.requests ≡ later ++ one ∷ []) where
       fit-one : fits head.kind said one ≡ true
@@ -198,6 +199,7 @@ module _ (size : ℕ) (fed : List ℕ) (journal : List Item) (given taken : Mark
           zero = pass.zero;
           manages = record { spoken = w.manages.spoken; prepared = w.manages.prepared; is = refused-managed };
           few = omega (arith, w.few, same-count peer.lives channels order, ap length p.starting, length-append (option_to_list channel) new.starting, ap length p.granted);
+          room = room-equal m.answers new.answers channels p.answers (kept _ _ w.room);
         };
         releases = released-now size fed journal given taken head payload peer w (is_released journal)
             (refusal-releases Side.Received head payload past (answers p.later p.split) p.later one (waited p.later one p.split) refused);
@@ -291,6 +293,9 @@ module _ (size : ℕ) (fed : List ℕ) (journal : List Item) (given taken : Mark
             manages = given-above size now given (marks_after one.said channels given) new (zero-after one.said channels given)
                 (record { spoken = w.manages.spoken; prepared = w.manages.prepared; is = granted-managed });
             few = granted-few;
+            room = room-equal (answers_after one m.answers) new.answers after p.answers
+                (room-done size one.said one.names (some-channel channel) channels after grant-above done _ _
+                (room-cleared one m.answers channels (kept _ _ w.room)));
           };
           releases = released-now size fed journal given taken head payload peer w (is_close_of 0 one.said || is_released journal)
               (grant-releases Side.Received head payload past (answers p.later p.split) p.later one (waited p.later one p.split) granted)
@@ -318,7 +323,7 @@ module _ (head : Head) (peer : Peer) (any : ∥ AnyWaits head peer ∥₁) (repl
       (oldest peer.management.mine.requests)) (λ s. starts-one s.0 s.1 s.2 s.3 s.4 head s.5 peer s.6 reply said is)
 
   module _ (fit : option_map_or (fits head.kind said) (oldest peer.management.mine.requests) false ≡ true) (one : Kept) (channel : Option Live) (new : Managed)
-      (channels : List Live) (order : numbers channels ≡ numbers peer.lives)
+      (channels : List Live) (order : numbers channels ≡ numbers peer.lives) (kept : KeepsZeroRoom peer.lives channels)
       (passes : (size : ℕ) (fed : List ℕ) (journal : List Item) (given taken : Marks) (payload : List ℕ) → WaitsIn size fed journal given taken head payload peer
       → Passes size journal (passed Side.Received head payload ∷ journal) given taken channels)
       (b : Bool) (is_grant : b ≡ same_kind Kind.Rpy head.kind) (p : TakesMine b one channel peer.management new) where
@@ -328,17 +333,17 @@ module _ (head : Head) (peer : Peer) (any : ∥ AnyWaits head peer ∥₁) (repl
     pub any-room : b ≡ true → IfSome channel (λ c. length channels ≤ MAX_CHANNELS)
     any-room allows =
         ∥∥₁_elim any (some-prop (λ (c : Live). length channels ≤ MAX_CHANNELS) (λ c. hlevel props) channel) (λ s.
-        grant-room s.0 s.1 s.2 s.3 s.4 head s.5 peer s.6 reply said is fit one channel new channels order (passes s.0 s.1 s.2 s.3 s.4 s.5 s.6)
+        grant-room s.0 s.1 s.2 s.3 s.4 head s.5 peer s.6 reply said is fit one channel new channels order kept (passes s.0 s.1 s.2 s.3 s.4 s.5 s.6)
         (sym is_grant ∙ allows) (taken-so allows))
 
     pub any-number : b ≡ true → IfSome channel (λ c. number_started one.said ≡ c.held.number ∷ [])
     any-number allows =
         ∥∥₁_elim any (some-prop (λ (c : Live). number_started one.said ≡ c.held.number ∷ []) (λ c. hlevel props) channel) (λ s.
-        grant-number s.0 s.1 s.2 s.3 s.4 head s.5 peer s.6 reply said is fit one channel new channels order (passes s.0 s.1 s.2 s.3 s.4 s.5 s.6)
+        grant-number s.0 s.1 s.2 s.3 s.4 head s.5 peer s.6 reply said is fit one channel new channels order kept (passes s.0 s.1 s.2 s.3 s.4 s.5 s.6)
         (sym is_grant ∙ allows) (taken-so allows))
 
     pub any-above : b ≡ true → NamesAbove one.said one.names
     any-above allows =
         ∥∥₁_elim any (names-prop one.said one.names) (λ s.
-        grant-above s.0 s.1 s.2 s.3 s.4 head s.5 peer s.6 reply said is fit one channel new channels order (passes s.0 s.1 s.2 s.3 s.4 s.5 s.6)
+        grant-above s.0 s.1 s.2 s.3 s.4 head s.5 peer s.6 reply said is fit one channel new channels order kept (passes s.0 s.1 s.2 s.3 s.4 s.5 s.6)
         (sym is_grant ∙ allows) (taken-so allows))

@@ -15,11 +15,13 @@ use Rattle.beep_outbox.specs.Queue.{message_marks}
 use Rattle.beep_channel.specs.Held.{Held, Live, next_ask, ask_refusal}
 use Rattle.beep_decide.specs.declared.limits.TheConstants.{MAX_CHANNELS}
 use Rattle.beep_lives.specs.Lives.{live_at, numbers}
-use Rattle.beep_lives.specs.Edits.{Edits, Gives, KeepsHeld}
+use Rattle.beep_lives.specs.Edits.{Edits, Gives, KeepsHeld, UsesRoom}
 use Rattle.beep_lives.proofs.ListLemmas.{live-number}
 use Rattle.beep_standing.specs.Standing.{Marks, with_marks, AreLiveBy}
 use Rattle.beep_standing.proofs.SendLemmas.{given-joins, room-stays}
-use Rattle.beep_management.specs.Managed.{Managed, number_started}
+use Rattle.beep_hearing.specs.Hears.{HasZeroRoom}
+use Rattle.beep_hearing.proofs.RoomLemmas.{room-edit}
+use Rattle.beep_management.specs.Managed.{Managed, octets_prepared, number_started}
 use Rattle.beep_management.specs.Manages.{Manages, AreFresh}
 use Rattle.beep_management.specs.Steps.{KeepsQueue}
 use Rattle.beep_management.proofs.GivenLemmas.{request-given}
@@ -29,6 +31,7 @@ use Rattle.beep_peer.specs.Peering.{Holds, AreHeld}
 use Rattle.beep_answering.specs.Sent.{IsMessage}
 use Rattle.beep_peer.specs.Acts.{asked_of, GivesZero}
 use Rattle.beep_peer.proofs.OwedLemmas.{said-short}
+use Rattle.beep_peer.proofs.RoomLemmas.{room-equal, room-used}
 
 -- ---- how many channels there are
 
@@ -49,20 +52,24 @@ none-refused c size zero few =
     rw (free, at_zero) refl
 
 -- with room for it, and where fewer wait than may, it is given
-pub surely-given : (old new : List Live) (size room : ℕ) (Done : Type 0) → size ≡ room → Edits 0 KeepsHeld old new → asked_of (live_at 0 old) < MAX_REQUESTS
-    → IfSome (live_at 0 new) (λ channel. (room ≤ channel.octets) × (1 ≤ channel.messages))
+pub surely-given : (old new : List Live) (size waiting count : ℕ) (Done : Type 0) → Edits 0 KeepsHeld old new → asked_of (live_at 0 old) < MAX_REQUESTS
+    → HasZeroRoom (waiting + size) (count + 1) new
     → IfSome (live_at 0 new) (λ channel. size ≤ channel.octets → 0 < channel.messages → ask_refusal channel.held size ≡ None → Done) → Done
-surely-given old new size room Done same e few spare succeeds = of (live_at 0 new) refl spare succeeds
+surely-given old new size waiting count Done e few spare succeeds = of (live_at 0 new) refl succeeds
   where
     asked : asked_of (live_at 0 old) ≡ asked_of (live_at 0 new)
     asked = ap asked_of e.was ∙ ap (λ (h : Held). h.life.given.asked) (sym e.step.held) ∙ ap asked_of (sym (e.at 0))
 
-    of : (o : Option Live) → live_at 0 new ≡ o → IfSome o (λ channel. (room ≤ channel.octets) × (1 ≤ channel.messages))
+    of : (o : Option Live) → live_at 0 new ≡ o
         → IfSome o (λ channel. size ≤ channel.octets → 0 < channel.messages → ask_refusal channel.held size ≡ None → Done) → Done
-    of None at spare succeeds = absurd (let none : None ≡ Some e.after = sym at ∙ e.at 0 in cc)
-    of (Some c) at spare succeeds =
-        succeeds (omega (arith, spare.0, same)) (omega (arith, spare.1))
+    of None at succeeds = absurd (let none : None ≡ Some e.after = sym at ∙ e.at 0 in cc)
+    of (Some c) at succeeds =
+        let one : spare.channel ≡ c = same-some spare.channel c (sym spare.at ∙ at) in
+        succeeds (omega (arith, spare.octets_fit, ap (λ (x : Live). x.octets) one)) (omega (arith, spare.messages_fit, ap (λ (x : Live). x.messages) one))
         (none-refused c size (live-number 0 new c at) (subst (λ (n : ℕ). n < MAX_REQUESTS) (asked ∙ ap asked_of at) few))
+      where
+        same-some : (a b : Live) → Some a ≡ Some b → a ≡ b
+        same-some a b same = cc
 
 -- ---- what room changes
 
@@ -91,17 +98,19 @@ module _ (size : ℕ) (journal : List Item) (given taken : Marks) (old : List Li
       ap (λ (x : Managed). length x.starting) same,
       ap (λ (x : Managed). length x.granted) same,
     );
+    room = room-equal m.answers now.answers new (ap (λ (x : Managed). x.answers) same) (room-edit 0 KeepsHeld old new (λ b a t. t.keeps) e _ _ h.room);
   }
 
   -- ---- what it makes of what is kept
 
   pub given-zero : (reserved : List Live) (peer : Peer) (octets : List ℕ) (form : Form) (names : Bool) (fresh : List Live) → Edits 0 KeepsHeld old reserved
-      → IfSome (live_at 0 reserved) (λ c. Edits 0 (Gives (message_marks (next_ask c.held octets))) reserved peer.lives) → IsMessage octets form
+      → IfSome (live_at 0 reserved) (λ c. Edits 0 (Gives (message_marks (next_ask c.held octets))) reserved peer.lives)
+      → Edits 0 (UsesRoom (length octets)) reserved peer.lives → HasZeroRoom (octets_prepared m.answers + length octets) (length m.answers + 1) reserved → IsMessage octets form
       → peer.management ≡ record m { mine = peer.management.mine; acts = peer.management.acts; starting = m.starting ++ fresh }
       → peer.management.acts.requests ≡ record { said = Some form; implied = false; names = names } ∷ m.acts.requests → KeepsQueue m.mine peer.management.mine
       → length peer.management.acts.requests ≤ peer.management.mine.room → AreFresh size (number_started (Some form)) fresh
       → length old + (length m.starting + length m.granted) + length fresh ≤ MAX_CHANNELS + 1 → GivesZero size journal given taken octets peer
-  given-zero reserved peer octets form names fresh kept edits message becomes acts mine room starts few = of (live_at 0 reserved) refl edits
+  given-zero reserved peer octets form names fresh kept edits used fits message becomes acts mine room starts few = of (live_at 0 reserved) refl edits
     where
       live : AreLiveBy size journal given taken reserved
       live = room-stays size 0 journal journal given taken old reserved h.live true kept
@@ -134,5 +143,7 @@ module _ (size : ℕ) (journal : List Item) (given taken : Marks) (old : List Li
                 ap (λ (x : Managed). length x.granted) becomes,
                 length-append m.starting fresh,
               );
+              room = room-equal m.answers peer.management.answers peer.lives (ap (λ (x : Managed). x.answers) becomes)
+                  (room-used (length octets) (octets_prepared m.answers) (length m.answers) reserved peer.lives used fits);
             };
           }

@@ -1,6 +1,6 @@
 -- Two lists of channels that have the same numbers are equally long.
 use Rattle.std.proofs.Common.{◌≡◌, ℕ, ◌+◌, ◌<◌, ◌≤◌, ◌==◌, nat_lt, Bool, true, false, if◌then◌else◌, List, [], ◌∷◌, length, Option, None, Some, refl, sym, ap, ◌∙◌, arith, subst}
-use Rattle.std.proofs.lemmas.Bool.{eqb-true, eq-eqb, eqb-false, ltb-true, ltb-false}
+use Rattle.std.proofs.lemmas.Bool.{eqb-true, eq-eqb, ltb-true, ltb-false}
 use Rattle.std.specs.Prelude.{is_some}
 use Rattle.beep_channel.specs.Held.{Live}
 use Rattle.beep_lives.specs.Lives.{live_at, IsAscendingFrom}

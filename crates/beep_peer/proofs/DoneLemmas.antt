@@ -52,7 +52,7 @@ pub done-settles : (size : ℕ) (fed : List ℕ) (journal : List Item) (given ta
     → WaitsIn size fed journal given taken head payload peer → (channels : List Live) (m : Managed) (released : Bool)
     → (d : IsDone size journal (passed Side.Received head payload ∷ journal) given taken released channels m)
     → (after : Peer) → Hears fed [] (passed Side.Received head payload ∷ journal) after.ear → after.released ≡ (peer.released || released)
-    → LetsGo size (passed Side.Received head payload ∷ journal) d.given_now d.taken_now after.lives after.management
+    → LetsGo size (passed Side.Received head payload ∷ journal) d.given_now d.taken_now m.answers after.lives after.management
     → Settles size fed journal given taken head payload after
 done-settles size fed journal given taken head payload peer w channels m released d after hears is g = record {
   given_now = g.given_now;

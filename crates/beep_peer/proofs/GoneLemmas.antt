@@ -1,5 +1,5 @@
 -- What the last frame of an own message of channel zero makes of a session, as it goes out.
-use Rattle.std.proofs.Common.{◌≡◌, ℕ, suc, ◌-◌, ◌<◌, ◌≤◌, ◌==◌, Bool, true, false, ◌||◌, List, [], ◌∷◌, ◌++◌, length, Option, Some, None, refl, sym, ap, ◌∙◌, arith, subst, length-append}
+use Rattle.std.proofs.Common.{◌≡◌, ℕ, suc, ◌+◌, ◌-◌, ◌<◌, ◌≤◌, ◌==◌, Bool, true, false, ◌||◌, List, [], ◌∷◌, ◌++◌, length, Option, Some, None, refl, sym, ap, ◌∙◌, arith, subst, length-append}
 use Rattle.std.specs.Prelude.{IfSome}
 use Rattle.std.proofs.Math.Logic.{∥∥₁_elim}
 use denote.Struct.Props.{props}
@@ -37,8 +37,11 @@ use Rattle.beep_management.proofs.SentLemmas.{has-zero, rpy-replies, some-acts, 
 use Rattle.beep_peer.specs.Peering.{AreFew}
 use Rattle.beep_peer.specs.Calls.{HasGone, IsDone}
 use Rattle.beep_peer.specs.Grants.{NamesAbove}
+use Rattle.beep_peer.specs.Left.{channels_left}
+use Rattle.beep_peer.proofs.FallLemmas.{does-left}
 use Rattle.beep_peer.proofs.FewLemmas.{does-few}
 use Rattle.beep_peer.proofs.CarriesLemmas.{carries-same, carries-done, zero-after, sent-zero}
+use Rattle.beep_peer.proofs.RoomLemmas.{room-equal, room-cleared, room-done}
 use Rattle.beep_peer.proofs.ReleaseLemmas.{request-keeps, refusal-keeps, grant-keeps}
 
 -- ---- what a grant may find
@@ -116,6 +119,7 @@ module _ (size : ℕ) (journal : List Item) (given taken : Marks) (head : Head) 
       zero = sent-zero journal head payload taken taken g.zero_is refl g.zero;
       manages = record { spoken = g.manages.spoken; prepared = g.manages.prepared; is = managed };
       few = few;
+      room = room-equal m.answers new.answers channels p.answers g.room;
     };
     releases = request-keeps size before journal given taken channels head payload g.live g.zero_is g.last request;
   }
@@ -164,6 +168,7 @@ module _ (size : ℕ) (journal : List Item) (given taken : Marks) (head : Head) 
         zero = sent-zero journal head payload taken taken g.zero_is refl g.zero;
         manages = record { spoken = g.manages.spoken; prepared = g.manages.prepared; is = managed };
         few = few;
+        room = room-equal m.answers new.answers channels p.answers g.room;
       };
       releases = refusal-keeps size before journal given taken channels head payload g.live g.zero_is g.last reply refuses;
     }
@@ -224,6 +229,12 @@ module _ (size : ℕ) (journal : List Item) (given taken : Marks) (head : Head) 
       some-is None = tt
       some-is (Some c) = refl
 
+      pub grant-left : (after : List Live)
+          → ((size : ℕ) (c : Live) → AreFresh size (number_started one.said) (option_to_list channel) → IfSome channel (λ one. one ≡ c) → Does size one.said one.names c channels after)
+          → channels_left after ≤ channels_left channels + length (number_started one.said)
+      grant-left after does =
+          does-left size one.said one.names (some-channel channel) channels after g.live.ascending (does size (some-channel channel) fresh (some-is channel))
+
       pub grant-gone : (after : List Live) (released : Bool)
           → ((size : ℕ) (c : Live) → AreFresh size (number_started one.said) (option_to_list channel) → IfSome channel (λ one. one ≡ c) → Does size one.said one.names c channels after)
           → released ≡ is_close_of 0 one.said → IsDone size before now given taken released after new
@@ -238,6 +249,8 @@ module _ (size : ℕ) (journal : List Item) (given taken : Marks) (head : Head) 
           manages = given-above size now given (marks_after one.said channels given) new (zero-after one.said channels given)
               (record { spoken = g.manages.spoken; prepared = g.manages.prepared; is = managed });
           few = few;
+          room = room-equal (answers_after one m.answers) new.answers after p.answers
+              (room-done size one.said one.names (some-channel channel) channels after grant-above done _ _ (room-cleared one m.answers channels g.room));
         };
         releases =
             grant-keeps size before journal given taken channels head payload g.live g.zero_is g.last m g.manages.spoken g.manages.prepared d p.later one p.split allows
@@ -316,3 +329,10 @@ module _ (kind : Kind) (channels : List Live) (m : Managed) (out : GoesOut kind 
     out-above =
         ∥∥₁_elim out (names-prop one.said one.names)
         (λ s. grant-above s.0 s.1 s.2 s.3 s.4 s.5 channels m s.7 one channel new (ap (same_kind Kind.Rpy) s.6 ∙ allows) p)
+
+    pub out-left : (after : List Live)
+        → ((size : ℕ) (c : Live) → AreFresh size (number_started one.said) (option_to_list channel) → IfSome channel (λ one. one ≡ c) → Does size one.said one.names c channels after)
+        → channels_left after ≤ channels_left channels + length (number_started one.said)
+    out-left after does =
+        ∥∥₁_elim out (hlevel props)
+        (λ s. grant-left s.0 s.1 s.2 s.3 s.4 s.5 channels m s.7 one channel new (ap (same_kind Kind.Rpy) s.6 ∙ allows) p after does)

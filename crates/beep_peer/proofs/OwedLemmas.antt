@@ -1,5 +1,5 @@
 -- The answers that channel zero owes, and what is left once one is given.
-use Rattle.std.proofs.Common.{◌≡◌, ℕ, ◌<◌, ◌≤◌, nat_le, Bool, true, false, if◌then◌else◌, List, [], ◌∷◌, ◌++◌, length, reverse, Option, Some, None, is_some, option_and_then, refl, sym, ap, ◌∙◌, arith, subst}
+use Rattle.std.proofs.Common.{◌≡◌, ℕ, ◌<◌, ◌≤◌, ◌==◌, nat_le, Bool, true, false, if◌then◌else◌, List, [], ◌∷◌, ◌++◌, length, reverse, Option, Some, None, is_some, option_and_then, refl, sym, ap, ◌∙◌, arith, subst, append-nil, append_assoc}
 use Rattle.std.specs.Prelude.{IfSome, IsSome, option_map}
 use Rattle.std.specs.Option.{option_to_list}
 use Rattle.std.proofs.lemmas.Bool.Decides.{nat_tests}
@@ -16,23 +16,26 @@ use Rattle.beep_mgmt.specs.Said.{form_said}
 use Rattle.beep_mgmt.specs.Message.{message_said}
 use Rattle.beep_history.specs.Journal.{Item}
 use Rattle.beep_outbox.specs.declared.outbox.TheConstants.{MAX_UNLIMITED}
-use Rattle.beep_outbox.specs.Queue.{message_marks}
-use Rattle.beep_channel.specs.Held.{Live, IsReply, next_reply}
+use Rattle.beep_outbox.specs.Queue.{Message, message_marks, marks_of}
+use Rattle.beep_history.specs.Marks.{Mark}
+use Rattle.beep_channel.specs.Held.{Live, IsReply, next_reply, reply_refusal}
 use Rattle.beep_channel.specs.Fits.{is_shaped}
 use Rattle.beep_lives.specs.Lives.{live_at, numbers}
-use Rattle.beep_lives.specs.Edits.{Edits, Gives, KeepsHeld}
+use Rattle.beep_lives.specs.Edits.{Edits, Gives, UsesRoom}
 use Rattle.beep_lives.proofs.ListLemmas.{live-number}
 use Rattle.beep_standing.specs.Standing.{Marks, with_marks}
-use Rattle.beep_standing.proofs.SendLemmas.{with-other, given-joins, room-stays}
+use Rattle.beep_standing.proofs.SendLemmas.{with-same, with-other, given-joins}
 use Rattle.beep_spoken.specs.Spoken.{Spoken, text_of}
 use Rattle.beep_asked.specs.Kept.{Kept, fits}
 use Rattle.beep_management.specs.declared.answers.Answer.{Answer}
-use Rattle.beep_management.specs.Managed.{Prepared, Managed, first_of, replies_among}
+use Rattle.beep_management.specs.Managed.{Prepared, Managed, first_of, octets_prepared, replies_among}
 use Rattle.beep_management.specs.Manages.{Manages, IsPrepared, ArePrepared, AllFit, unsent}
 use Rattle.beep_management.specs.Values.{prepared_of}
 use Rattle.beep_management.proofs.GivenLemmas.{answer-kind, answer-given, owes-answers}
-use Rattle.beep_peer.specs.Peering.{AreFew, Holds, AreHeld}
+use Rattle.beep_peer.specs.Peering.{AreFew, HasRoomFor, Holds, AreHeld}
+use Rattle.beep_peer.specs.Waiting.{AreGiven}
 use Rattle.beep_peer.specs.Calls.{LetsGo}
+use Rattle.beep_peer.proofs.RoomLemmas.{room-first}
 
 -- ---- the octets of an answer
 
@@ -125,17 +128,57 @@ module _ (channels : List Live) (m : Managed) (held : AreHeld channels m) (first
           none-some : {o : Option ℕ} → o ≡ None → is_some o ≡ true → ⊥
           none-some none some = let is : false ≡ true = sym (ap (λ o. is_some o) none) ∙ some in cc
 
+-- with room for it, it is given: channel zero has no limit
+pub surely-let : (channels : List Live) (m : Managed) → AreHeld channels m → (first : Prepared) (answers : List Prepared) → m.answers ≡ first ∷ answers → (octets : List ℕ)
+    → octets ≡ first.octets → IfSome (live_at 0 channels) (λ channel. length octets ≤ channel.octets → 0 < channel.messages
+    → reply_refusal channel.held (length octets) ≡ None → false ≡ true) → false ≡ true
+surely-let channels m held first answers split octets is succeeds = ∥∥₁_elim held (hlevel props) (λ s. by s.4.room)
+  where
+    by : HasRoomFor m.answers channels → false ≡ true
+    by h = of (live_at 0 channels) refl succeeds
+      where
+        of : (o : Option Live) → live_at 0 channels ≡ o → IfSome o (λ channel. length octets ≤ channel.octets → 0 < channel.messages
+            → reply_refusal channel.held (length octets) ≡ None → false ≡ true) → false ≡ true
+        of None at goes = absurd (let none : None ≡ Some h.channel = sym at ∙ h.at in cc)
+        of (Some c) at goes =
+            let one : h.channel ≡ c = cc in
+            let zero : (c.held.number == 0) ≡ true = ap (λ (n : ℕ). n == 0) (live-number 0 channels c at) in
+            goes (omega (arith, h.octets_fit, ap (λ (x : Live). x.octets) one, ap octets_prepared split, ap length is))
+            (omega (arith, h.messages_fit, ap (λ (x : Live). x.messages) one, ap (λ (l : List Prepared). length l) split))
+            (rw zero refl)
+
 -- ---- one answer after another
 
 pub lets-none : (size : ℕ) (journal : List Item) (given taken : Marks) (channels : List Live) (m : Managed) → Holds size journal given taken channels m
-    → LetsGo size journal given taken channels m
-lets-none size journal given taken channels m h = record { given_now = given; same = λ n above. refl; holds = h }
+    → LetsGo size journal given taken m.answers channels m
+lets-none size journal given taken channels m h = record {
+  given_now = given;
+  same = λ n above. refl;
+  gone = [];
+  split = refl;
+  messages = [];
+  are = tt;
+  given_is = sym (append-nil (given 0));
+  holds = h;
+}
 
 pub lets-held : (first-channels channels : List Live) (first m : Managed)
-    → ((size : ℕ) (journal : List Item) (given taken : Marks) → Holds size journal given taken first-channels first → LetsGo size journal given taken channels m)
+    → ((size : ℕ) (journal : List Item) (given taken : Marks) → Holds size journal given taken first-channels first → LetsGo size journal given taken first.answers channels m)
     → AreHeld first-channels first → AreHeld channels m
 lets-held first-channels channels first m goes held =
     ∥∥₁_map held (λ s. let l = goes s.0 s.1 s.2 s.3 s.4 in (s.0, s.1, l.given_now, s.3, l.holds))
+
+given-more : (messages : List Message) (gone : List Prepared) (message : Message) (one : Prepared) → AreGiven messages gone → message.tag.kind ≡ one.kind → message.octets ≡ one.octets
+    → AreGiven (messages ++ message ∷ []) (gone ++ one ∷ [])
+given-more [] [] message one are kind octets = (kind, octets, tt)
+given-more [] (other ∷ gone) message one are kind octets = absurd are
+given-more (first ∷ messages) [] message one are kind octets = absurd are
+given-more (first ∷ messages) (other ∷ gone) message one are kind octets = (are.0, are.1, given-more messages gone message one are.2 kind octets)
+
+marks-last : (messages : List Message) (message : Message) → marks_of (messages ++ message ∷ []) ≡ marks_of messages ++ message_marks message
+marks-last [] message = append-nil (message_marks message)
+marks-last (first ∷ messages) message =
+    ap (λ (ms : List Mark). message_marks first ++ ms) (marks-last messages message) ∙ sym (append_assoc (message_marks first) (marks_of messages) (message_marks message))
 
 few-same : (old new : List Live) (m now : Managed) → numbers new ≡ numbers old → now ≡ record m { answers = now.answers } → AreFew old m → AreFew new now
 few-same old new m now order same few =
@@ -149,41 +192,40 @@ few-same old new m now order same few =
       ap (λ (x : Managed). length x.granted) same,
     )
 
-module _ (size : ℕ) (journal : List Item) (given taken : Marks) (old new : List Live) (m : Managed) (l : LetsGo size journal given taken old m) where
+module _ (size : ℕ) (journal : List Item) (given taken : Marks) (answers : List Prepared) (old new : List Live) (m : Managed)
+    (l : LetsGo size journal given taken answers old m) where
   -- one more is given
   pub lets-more : (now : Managed) (first : Prepared) → m.answers ≡ first ∷ now.answers → now ≡ record m { answers = now.answers }
-      → IfSome (live_at 0 old) (λ c. Edits 0 (Gives (message_marks (next_reply c.held first.kind first.octets))) old new) → LetsGo size journal given taken new now
-  lets-more now first split same edits = of (live_at 0 old) refl edits
+      → IfSome (live_at 0 old) (λ c. Edits 0 (Gives (message_marks (next_reply c.held first.kind first.octets))) old new)
+      → Edits 0 (UsesRoom (length first.octets)) old new → LetsGo size journal given taken answers new now
+  lets-more now first split same edits used = of (live_at 0 old) refl edits
     where
       of : (o : Option Live) → live_at 0 old ≡ o → IfSome o (λ c. Edits 0 (Gives (message_marks (next_reply c.held first.kind first.octets))) old new)
-          → LetsGo size journal given taken new now
+          → LetsGo size journal given taken answers new now
       of None at e = absurd (let none : true ≡ false = l.holds.live.there 0 ∙ ap (λ (o : Option Live). is_some o) at in cc)
       of (Some c) at e =
           let message = next_reply c.held first.kind first.octets in
           record {
             given_now = with_marks 0 (l.given_now 0 ++ message_marks message) l.given_now;
             same = λ n above. with-other 0 n (l.given_now 0 ++ message_marks message) l.given_now above ∙ l.same n above;
+            gone = l.gone ++ first ∷ [];
+            split = l.split ∙ ap (λ (rest : List Prepared). l.gone ++ rest) split ∙ sym (append_assoc l.gone (first ∷ []) now.answers);
+            messages = l.messages ++ message ∷ [];
+            are = given-more l.messages l.gone message first l.are refl refl;
+            given_is =
+                with-same 0 (l.given_now 0 ++ message_marks message) l.given_now
+                ∙ ap (λ (ms : List Mark). ms ++ message_marks message) l.given_is
+                ∙ append_assoc (given 0) (marks_of l.messages) (message_marks message)
+                ∙ ap (λ (ms : List Mark). given 0 ++ ms) (sym (marks-last l.messages message));
             holds = record {
               live = given-joins size 0 journal journal l.given_now taken old new l.holds.live (message_marks message) e;
               zero = l.holds.zero;
               manages = subst (λ (x : Managed). Manages size journal (with_marks 0 (l.given_now 0 ++ message_marks message) l.given_now) x) (sym same)
                   (answer-given size journal l.given_now m first now.answers split message refl refl l.holds.manages.spoken l.holds.manages.prepared l.holds.manages.is);
               few = few-same old new m now e.order same l.holds.few;
+              room = room-first first m.answers now.answers old new split used l.holds.room;
             };
           }
-
-  -- room alone was made
-  pub lets-stay : Edits 0 KeepsHeld old new → LetsGo size journal given taken new m
-  lets-stay e = record {
-    given_now = l.given_now;
-    same = l.same;
-    holds = record {
-      live = room-stays size 0 journal journal l.given_now taken old new l.holds.live true e;
-      zero = l.holds.zero;
-      manages = l.holds.manages;
-      few = few-same old new m m e.order refl l.holds.few;
-    };
-  }
 
 -- ---- what was taken is what was given
 

@@ -1,13 +1,11 @@
 -- What goes out of a peer, for every journal for which it stood.
-use Rattle.std.proofs.Common.{◌≡◌, ℕ, ◌+◌, ◌≤◌, ◌==◌, Bool, true, false, not, ◌&&◌, ◌||◌, List, [], ◌∷◌, ◌++◌, length, map, Option, None, Some, refl, sym, ap, ◌∙◌, subst}
+use Rattle.std.proofs.Common.{◌≡◌, ℕ, ◌+◌, ◌≤◌, ◌==◌, Bool, true, false, not, ◌&&◌, ◌||◌, List, ◌∷◌, length, refl, sym, ap, ◌∙◌, subst}
 use Rattle.std.proofs.Math.Logic.{∥∥₁_elim, ∥∥₁_map}
 use denote.Struct.Props.{props}
 use Rattle.std.proofs.lemmas.List.{length-map}
 use Rattle.std.proofs.lemmas.Bool.{eqb-false, ne_eqb}
 use Rattle.beep_frame.specs.declared.head.Head.{Head}
 use Rattle.beep_frame.specs.declared.seq.Seq.{Seq}
-use Rattle.beep_frame.specs.Frame.{framed, seq_frame}
-use Rattle.beep_frame.specs.Spelling.{spelling}
 use Rattle.beep_history.specs.declared.journal.Side.{Side}
 use Rattle.beep_history.specs.Journal.{Item, began, passed, told}
 use Rattle.beep_journal.specs.Zero.{events}
@@ -16,8 +14,8 @@ use Rattle.beep_journal.specs.Life.{history, is_there, is_released}
 use Rattle.beep_channel.specs.Held.{Live}
 use Rattle.beep_decide.specs.declared.limits.TheConstants.{MAX_CHANNELS}
 use Rattle.beep_lives.specs.Lives.{numbers, can_send, owes_seq}
-use Rattle.beep_lives.specs.Edits.{Edits}
-use Rattle.beep_standing.specs.Standing.{Marks, AreLive, AreLiveBy}
+use Rattle.beep_lives.specs.Edits.{Sends, Tells}
+use Rattle.beep_standing.specs.Standing.{Marks, AreLiveBy}
 use Rattle.beep_standing.specs.Due.{has_due, has_ready}
 use Rattle.beep_standing.proofs.LivesLemmas.{lives-stay}
 use Rattle.beep_standing.proofs.ZeroLemmas.{part-none}
@@ -25,14 +23,14 @@ use Rattle.beep_standing.proofs.SendLemmas.{sent-joins, sent-zero-joins, sent-se
 use Rattle.beep_standing.proofs.DueLemmas.{sent-next, told-due, none-by, channel-due, channel-ready}
 use Rattle.beep_hearing.specs.declared.ear.Ear.{Ear}
 use Rattle.beep_hearing.specs.Hears.{Hears, IsZeroTaken, SameAbove, ends_zero}
-use Rattle.beep_management.specs.Managed.{Managed}
-use Rattle.beep_management.specs.Manages.{Manages}
-use Rattle.beep_management.proofs.ItemLemmas.{header-stays, seq-stays, above-stays, part-stays}
+use Rattle.beep_hearing.proofs.RoomLemmas.{room-edit}
+use Rattle.beep_management.specs.Managed.{Prepared, Managed}
+use Rattle.beep_management.proofs.ItemLemmas.{header-stays, seq-stays}
 use Rattle.beep_speaking.specs.declared.emit.Emit.{Emit}
 use Rattle.beep_speaking.specs.Emits.{Emits, SendsNext, IsReached}
 use Rattle.beep_peer.specs.declared.peer.Peer.{Peer}
 use Rattle.beep_peer.specs.Peering.{AreFew, Holds, IsPeer, Carries, AreHeld, IsGoing, is_greeted}
-use Rattle.beep_peer.specs.Calls.{LetsGo, HasGone, IsDone, HasSent, IsSent, IsLawfulNext, Speaks}
+use Rattle.beep_peer.specs.Calls.{LetsGo, HasGone, IsDone, HasSent, IsSent, Speaks}
 use Rattle.beep_peer.proofs.GainLemmas.{quiet-events, quiet-managed}
 use Rattle.beep_peer.proofs.SentItemLemmas.{deaf-header, deaf-frame, deaf-seq, deaf-hears, deaf-zero}
 
@@ -96,6 +94,7 @@ module _ (size most : ℕ) (fed rest : List ℕ) (journal : List Item) (given ta
         zero = deaf-zero (told Side.Sent seq) journal taken (deaf-seq seq journal) s.holds.zero;
         manages = seq-stays size journal given peer.management Side.Sent seq s.holds.manages;
         few = few-ordered peer.lives new peer.management w.1.tells.order s.holds.few;
+        room = room-edit seq.channel (Tells seq) peer.lives new (λ b a t. t.keeps) w.1.tells _ _ s.holds.room;
       };
       released = s.released ∙ ap has_release (sym (quiet-events journal (told Side.Sent seq) refl));
     },
@@ -121,6 +120,7 @@ module _ (size most : ℕ) (fed rest : List ℕ) (journal : List Item) (given ta
     zero = s.holds.zero;
     manages = s.holds.manages;
     few = few-ordered peer.lives new peer.management w.sends.order s.holds.few;
+    room = room-edit head.channel (Sends most head w.payload) peer.lives new (λ b a t. t.keeps) w.sends _ _ s.holds.room;
   }
 
   pub data-speaks : (head : Head) (later : Peer) (w : SendsNext most head peer.lives new before after)
@@ -162,6 +162,7 @@ module _ (size : ℕ) (journal : List Item) (given taken : Marks) (head : Head) 
     zero = s.zero;
     manages = header-stays size journal given peer.management Side.Sent head s.manages;
     few = s.few;
+    room = s.room;
   }
 
   -- one that ends no message of channel zero leaves all
@@ -183,6 +184,7 @@ module _ (size : ℕ) (journal : List Item) (given taken : Marks) (head : Head) 
     manages = quiet-managed begun size given peer.management (passed Side.Sent head payload) quiet
         (header-stays size journal given peer.management Side.Sent head s.manages);
     few = s.few;
+    room = s.room;
   }
 
   module _ (fed rest : List ℕ) (h : Hears fed rest journal peer.ear) (r : peer.released ≡ is_released journal) where
@@ -191,9 +193,9 @@ module _ (size : ℕ) (journal : List Item) (given taken : Marks) (head : Head) 
         (deaf-hears (began Side.Sent head) journal fed rest peer.ear (deaf-header head journal) h)
 
     -- answers were let go after it
-    pub quiet-sent : (now : Peer) → ends_zero (passed Side.Sent head payload) ≡ false → now.ear ≡ peer.ear → now.released ≡ peer.released
-        → LetsGo size whole given taken now.lives now.management → IsSent size fed rest journal whole given taken now
-    quiet-sent now quiet ear released l = record {
+    pub quiet-sent : (answers : List Prepared) (now : Peer) → ends_zero (passed Side.Sent head payload) ≡ false → now.ear ≡ peer.ear → now.released ≡ peer.released
+        → LetsGo size whole given taken answers now.lives now.management → IsSent size fed rest journal whole given taken now
+    quiet-sent answers now quiet ear released l = record {
       given_now = l.given_now;
       taken_now = taken;
       given_is = carries-above journal whole given given l.given_now (carries-same journal whole given same) l.same;
@@ -211,7 +213,7 @@ module _ (size : ℕ) (journal : List Item) (given taken : Marks) (head : Head) 
     -- what it says is done, and then answers were let go
     pub gone-sent : (releases : Bool) (lives : List Live) (m : Managed) (now : Peer) → IsDone size begun whole given taken releases lives m
         → now.ear ≡ peer.ear → now.released ≡ (releases || peer.released)
-        → ((given_now taken_now : Marks) → Holds size whole given_now taken_now lives m → LetsGo size whole given_now taken_now now.lives now.management)
+        → ((given_now taken_now : Marks) → Holds size whole given_now taken_now lives m → LetsGo size whole given_now taken_now m.answers now.lives now.management)
         → IsSent size fed rest journal whole given taken now
     gone-sent releases lives m now d ear released lets =
         let l = lets d.given_now d.taken_now d.holds in

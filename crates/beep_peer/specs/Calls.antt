@@ -1,7 +1,6 @@
 -- What each call makes of the journal for which a peer stands (RFC 3080, sections 2.2.1 and 2.3.1).
 -- Each speaks of every journal for which the peer stood: none is kept.
-use Rattle.std.specs.Prelude.{◌≡◌, ℕ, ◌==◌, ◌||◌, Bool, true, false, List, [], ◌∷◌, ◌++◌, None, Some}
-use Rattle.std.specs.List.{list_any}
+use Rattle.std.specs.Prelude.{◌≡◌, ℕ, ◌==◌, ◌||◌, Bool, true, false, List, [], ◌∷◌, ◌++◌}
 use Rattle.beep_frame.specs.declared.head.Head.{Head}
 use Rattle.beep_frame.specs.declared.kind.Kind.{Kind}
 use Rattle.beep_history.specs.declared.journal.Side.{Side}
@@ -9,22 +8,29 @@ use Rattle.beep_history.specs.Journal.{Item, began, passed, told}
 use Rattle.beep_journal.specs.Life.{history, is_there, is_released}
 use Rattle.beep_frame.specs.Frame.{framed, seq_frame}
 use Rattle.beep_frame.specs.Spelling.{spelling}
+use Rattle.beep_outbox.specs.Queue.{Message, message_marks, marks_of}
 use Rattle.beep_channel.specs.Held.{Held, Live}
 use Rattle.beep_channel.specs.Stands.{IsNext}
 use Rattle.beep_standing.specs.Standing.{Marks, no_marks, AreLive}
 use Rattle.beep_standing.specs.Due.{has_due, has_ready}
 use Rattle.beep_speaking.specs.declared.emit.Emit.{Emit}
-use Rattle.beep_hearing.specs.Hears.{IsZeroTaken, SameAbove, Join, ends_zero, Breaks}
-use Rattle.beep_management.specs.Managed.{Managed}
+use Rattle.beep_hearing.specs.Hears.{IsZeroTaken, SameAbove}
+use Rattle.beep_management.specs.Managed.{Prepared, Managed}
 use Rattle.beep_management.specs.Manages.{Manages}
 use Rattle.beep_peer.specs.declared.peer.Peer.{Peer}
-use Rattle.beep_peer.specs.Peering.{AreFew, Holds, IsPeer, WaitsIn, Carries, is_greeted}
+use Rattle.beep_peer.specs.Peering.{AreFew, HasRoomFor, Holds, IsPeer, Carries, is_greeted}
+use Rattle.beep_peer.specs.Waiting.{AreGiven}
 
--- answers were let go: what is given to channel zero may be more, and all else stays
-pub record LetsGo (size : ℕ) (journal : List Item) (given taken : Marks) (channels : List Live)
-    (m : Managed) : Type 0 where
+-- the first of these answers were let go: channel zero was given their messages, and all else stays
+pub record LetsGo (size : ℕ) (journal : List Item) (given taken : Marks)
+    (answers : List Prepared) (channels : List Live) (m : Managed) : Type 0 where
   pub given_now : Marks
   pub same : SameAbove given given_now
+  pub gone : List Prepared
+  pub split : answers ≡ gone ++ m.answers
+  pub messages : List Message
+  pub are : AreGiven messages gone
+  pub given_is : given_now 0 ≡ given 0 ++ marks_of messages
   pub holds : Holds size journal given_now taken channels m
 
 -- the last frame of an own message of channel zero has passed, and what it says is to be done
@@ -37,6 +43,7 @@ pub record HasGone (size : ℕ) (journal : List Item) (given taken : Marks) (hea
   pub zero : IsZeroTaken journal taken
   pub manages : Manages size (began Side.Sent head ∷ journal) given m
   pub few : AreFew channels m
+  pub room : HasRoomFor m.answers channels
 
 -- it is done: the channels and what is kept stand for the whole journal, and the session is
 -- released or not
@@ -74,6 +81,7 @@ pub record HasSent (size : ℕ) (journal : List Item) (given taken : Marks) (hea
   pub zero : IsZeroTaken journal taken
   pub manages : Manages size journal given m
   pub few : AreFew channels m
+  pub room : HasRoomFor m.answers channels
 
 -- after it the peer stands for the journal with the frame, and answers may have been let go
 pub record IsSent (size : ℕ) (fed rest : List ℕ) (before after : List Item) (given taken : Marks)
@@ -110,3 +118,15 @@ Speaks Emit.Nothing size most fed rest journal given taken old new before after 
     × (is_greeted old.management ≡ true → (n : ℕ) → is_there n journal ≡ true
     → has_due size (taken n) (history n journal) ≡ false)
     × ((n : ℕ) → is_there n journal ≡ true → has_ready (given n) (history n journal) ≡ false)
+
+-- ---- a peer that begins
+
+-- it stands for the empty journal: nothing was given but this greeting
+pub record Begins (size : ℕ) (greeting : List ℕ) (peer : Peer) : Type 0 where
+  pub message : Message
+  pub is_rpy : message.tag.kind ≡ Kind.Rpy
+  pub is_text : message.octets ≡ greeting
+  pub given : Marks
+  pub given_is : given 0 ≡ message_marks message
+  pub same : SameAbove no_marks given
+  pub stands : IsPeer size [] [] [] given no_marks peer

@@ -4,5 +4,6 @@ pub mod Calls
 pub mod Waiting
 pub mod Standing
 pub mod Acts
+pub mod Left
 -- What proofs alone need.
 pub mod Grants

@@ -1,18 +1,16 @@
 -- When a peer stands for the octets that it was fed, for its journal, and for what was given and
 -- taken in each live life (RFC 3080, sections 2.2.1 and 2.3.1).
 -- The code keeps no journal: it knows the live channels, and what waits on channel zero.
-use Rattle.std.specs.Prelude.{◌≡◌, ℕ, ◌+◌, ◌≤◌, ◌==◌, ◌||◌, ◌&&◌, not, Bool, true, false, List, [], ◌∷◌, length, Option, None, Some, is_some}
+use Rattle.std.specs.Prelude.{◌≡◌, ℕ, ◌+◌, ◌≤◌, ◌==◌, ◌||◌, ◌&&◌, not, Bool, true, false, List, [], length, Option, None, Some, is_some}
 use Rattle.beep_frame.specs.declared.head.Head.{Head}
-use Rattle.beep_history.specs.declared.journal.Side.{Side}
-use Rattle.beep_history.specs.Journal.{Item, passed}
+use Rattle.beep_history.specs.Journal.{Item}
 use Rattle.beep_journal.specs.Life.{is_there, is_released}
 use Rattle.beep_channel.specs.Held.{Live}
 use Rattle.beep_decide.specs.declared.limits.TheConstants.{MAX_CHANNELS}
-use Rattle.beep_standing.specs.Standing.{Marks, AreLive, AreLiveBy}
-use Rattle.beep_hearing.specs.Hears.{Hears, IsZeroTaken, Waits}
-use Rattle.beep_hearing.specs.declared.ear.Ear.{Ear}
+use Rattle.beep_standing.specs.Standing.{Marks, AreLiveBy}
+use Rattle.beep_hearing.specs.Hears.{Hears, IsZeroTaken, Waits, HasZeroRoom}
 use Rattle.beep_asked.specs.Kept.{Kept, oldest}
-use Rattle.beep_management.specs.Managed.{Managed}
+use Rattle.beep_management.specs.Managed.{Prepared, Managed, octets_prepared}
 use Rattle.beep_management.specs.Manages.{Manages}
 use Rattle.beep_peer.specs.declared.peer.Peer.{Peer}
 
@@ -21,13 +19,19 @@ abbrev pub AreFew : List Live → Managed → Type 0
 AreFew channels m =
     length channels + (length m.starting + length m.granted) ≤ MAX_CHANNELS + 1
 
--- the live channels and what is kept of channel zero stand for a journal
+-- channel zero has room for all these answers together: each is given without memory
+abbrev pub HasRoomFor : List Prepared → List Live → Type 0
+HasRoomFor answers channels = HasZeroRoom (octets_prepared answers) (length answers) channels
+
+-- the live channels and what is kept of channel zero stand for a journal, and there is room for the
+-- answers that aren't given
 pub record Holds (size : ℕ) (journal : List Item) (given taken : Marks) (channels : List Live)
     (m : Managed) : Type 0 where
   pub live : AreLiveBy size journal given taken channels
   pub zero : IsZeroTaken journal taken
   pub manages : Manages size journal given m
   pub few : AreFew channels m
+  pub room : HasRoomFor m.answers channels
 
 -- a peer stands for the octets that it was fed, with this rest of them, and for a journal
 pub record IsPeer (size : ℕ) (fed rest : List ℕ) (journal : List Item) (given taken : Marks)
@@ -42,6 +46,7 @@ pub record WaitsIn (size : ℕ) (fed : List ℕ) (journal : List Item) (given ta
   pub waits : Waits size fed journal given taken head payload peer.ear peer.lives
   pub manages : Manages size journal given peer.management
   pub few : AreFew peer.lives peer.management
+  pub room : HasRoomFor peer.management.answers peer.lives
   pub released : peer.released ≡ is_released journal
 
 -- ---- what a peer knows of itself

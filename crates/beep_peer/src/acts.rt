@@ -16,6 +16,7 @@ ghost use Rattle.beep_peer.specs.Acts.{asked_of, first_asked_of, lowest_used, co
 
 use crate::peer::Peer;
 use crate::refusals::{CloseError, ReleaseError, StartError};
+use crate::room::reserve_with;
 use beep_asked::Request;
 use beep_channel::Channel;
 use beep_decide::MAX_CHANNELS;
@@ -146,7 +147,7 @@ impl Peer {
         ensures same { (self.new.ear ≡ self.old.ear)
             × (self.new.released ≡ self.old.released) }
     {
-        self.lives.reserve(0, text.len(), 1)?;
+        reserve_with(&mut self.lives, &self.management, text.len())?;
         self.management.act(
             Request {
                 said: Some(value),

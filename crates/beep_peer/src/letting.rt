@@ -1,24 +1,27 @@
 //! Answers that are given once nothing holds them back (RFC 3080, section 2.3.1.3).
-ghost use Rattle.std.specs.Prelude.{◌≡◌, ◌↔◌, ℕ, ◌==◌, true, false, List, Some, IfSome, IfNone};
+ghost use Rattle.std.specs.Prelude.{◌≡◌, ◌↔◌, ◌≤◌, ℕ, ◌==◌, true, false, List, Some, IfSome, IfNone};
 ghost use Rattle.beep_history.specs.Journal.{Item};
 ghost use Rattle.beep_standing.specs.Standing.{Marks};
 ghost use Rattle.beep_management.specs.Managed.{first_of};
 ghost use Rattle.beep_management.specs.Values.{prepared_of};
 ghost use Rattle.beep_peer.specs.Peering.{Holds, AreHeld};
 ghost use Rattle.beep_peer.specs.Calls.{LetsGo};
-ghost use Rattle.beep_peer.specs.Waiting.{IsDrainedAt, HasCome, AreLetGo, KeepsAbove};
+ghost use Rattle.beep_peer.specs.Left.{left_to_say};
+ghost use Rattle.beep_peer.specs.Waiting.{IsDrainedAt, HasCome, AreLetGo, IsStuck, KeepsAbove};
 
 use beep_lives::Lives;
 use beep_management::{Answer, Management, Wait};
 
-/// Gives the answers that wait for nothing more, in the order of their requests. Where memory
-/// runs out the rest waits for a later call.
+/// Gives the answers that wait for nothing more, in the order of their requests. It takes no
+/// memory.
 pub fn let_go(lives: &mut Lives, management: &mut Management)
     requires held { AreHeld lives.old management.old }
     ensures holds { (size : ℕ) (journal : List Item) (given taken : Marks)
         → Holds size journal given taken lives.old management.old
-        → LetsGo size journal given taken lives.new management.new }
+        → LetsGo size journal given taken management.old.answers lives.new management.new }
     ensures waits { AreLetGo lives.old management.old management.new }
+    ensures stuck { IsStuck lives.new management.new }
+    ensures falls { left_to_say lives.new management.new ≤ left_to_say lives.old management.old }
     ensures kept { KeepsAbove lives.old lives.new }
 {
     while let Some(answer) = next_answer(lives, management) {
@@ -26,7 +29,7 @@ pub fn let_go(lives: &mut Lives, management: &mut Management)
             Ok(()) => {
                 let _given = management.take_answer();
             }
-            Err(_) => return,
+            Err(_) => unreachable!(),
         }
     }
 }

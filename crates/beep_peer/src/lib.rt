@@ -4,10 +4,12 @@
 #![tactic(auto)]
 
 mod acts;
+mod beginning;
 mod grant;
 mod letting;
 mod peer;
 mod refusals;
+mod room;
 mod settle;
 mod settle_error;
 mod speech;

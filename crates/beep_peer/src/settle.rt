@@ -13,6 +13,7 @@ ghost use Rattle.beep_journal.specs.Zero.{zero_history, completes_form};
 ghost use Rattle.beep_seq.specs.declared.limits.TheConstants.{MIN_WINDOW, MAX_WINDOW};
 ghost use Rattle.beep_turns.specs.declared.turns.TheConstants.{MAX_CHANNELS};
 ghost use Rattle.beep_channel.specs.Held.{Live};
+ghost use Rattle.beep_lives.specs.Lives.{numbers};
 ghost use Rattle.beep_standing.specs.Standing.{Marks};
 ghost use Rattle.beep_decide.specs.Asks.{is_close_of};
 ghost use Rattle.beep_decide.specs.Decide.{decide as decided};
@@ -29,10 +30,12 @@ ghost use Rattle.beep_answering.specs.Decided.{NoneTunes, IsSettledBy, IsSettled
 ghost use Rattle.beep_peer.specs.Grants.{NamesAbove};
 ghost use Rattle.beep_peer.specs.Peering.{WaitsIn, IsWaiting};
 ghost use Rattle.beep_peer.specs.Calls.{Settles};
+ghost use Rattle.beep_peer.specs.Waiting.{IsStuck};
 
 use crate::grant::grant;
 use crate::letting::let_go;
 use crate::peer::Peer;
+use crate::room::reserve_with;
 use crate::settle_error::SettleError;
 use beep_answering::{Prepared, Settled, prepare, settled_as};
 use beep_asked::Request;
@@ -102,13 +105,16 @@ pub fn settle_request(
         (payload : List ℕ) → WaitsIn window fed journal given taken head.now payload peer.old
         → WaitsIn window fed journal given taken head.now payload peer.new) }
     ensures same { OnErr result ((peer.new.ear ≡ peer.old.ear)
-        × (peer.new.lives ≡ peer.old.lives) × (peer.new.released ≡ peer.old.released)) }
+        × (numbers peer.new.lives ≡ numbers peer.old.lives)
+        × (peer.new.released ≡ peer.old.released)) }
+    ensures stuck { OnOk result (IsStuck peer.new.lives peer.new.management) }
 {
     let Prepared {
         answer,
         channel,
         settled,
     } = prepare(alloc, standing, window, said.as_ref())?;
+    reserve_with(&mut peer.lives, &peer.management, answer.octets.len())?;
     let names = names_live(peer, &said);
     let request = Request {
         said,
@@ -164,6 +170,7 @@ pub fn settle_reply(
     ensures stopped { IfErr result (λ error. (rule : Rule) (place : ℕ)
         → error ≡ SettleErrorValue.Broken rule place → peer.new.ear.broken
         ≡ Some (record { rule = rule; place = place; left = 0 })) }
+    ensures stuck { OnOk result (IsStuck peer.new.lives peer.new.management) }
 {
     if !peer.management.mine().fits(head.kind, &said) {
         let (rule, place) = peer.ear.refuse_zero(&mut peer.lives);
@@ -185,6 +192,7 @@ fn obey_reply(peer: &mut Peer, head: &Head, said: Option<Mgmt>) -> Settled
         → Settles size fed journal given taken head.now payload peer.new }
     ensures settled { (one : Kept) → oldest peer.old.management.mine.requests ≡ Some one
         → IsSettledAs one (option_map form_of said) result }
+    ensures stuck { IsStuck peer.new.lives peer.new.management }
 {
     let grants = Kind::Rpy.is_same(head.kind);
     let answered = peer.management.take_mine(grants);

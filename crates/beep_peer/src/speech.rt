@@ -1,14 +1,18 @@
 //! What goes out next of a peer (RFC 3080, sections 2.2.1 and 2.3.1; RFC 3081, section 3.1).
-ghost use Rattle.std.specs.Prelude.{◌≡◌, ◌||◌, ◌+◌, ◌<◌, ◌≤◌, ◌∷◌, ℕ, List, true, length};
+ghost use Rattle.std.specs.Prelude.{◌≡◌, ◌≢◌, ◌||◌, ◌+◌, ◌<◌, ◌≤◌, ◌∷◌, ℕ, List, true, length};
 ghost use Rattle.beep_octets.specs.Held.{KeepsRoom};
+ghost use Rattle.beep_frame.specs.declared.head.Head.{Head as HeadValue};
 ghost use Rattle.beep_frame.specs.declared.spelling.TheConstants.{SPELL_ROOM};
 ghost use Rattle.beep_history.specs.declared.journal.Side.{Side};
 ghost use Rattle.beep_history.specs.Journal.{Item, began, passed};
 ghost use Rattle.beep_journal.specs.Life.{is_released};
 ghost use Rattle.beep_standing.specs.Standing.{Marks};
 ghost use Rattle.beep_hearing.specs.Hears.{Hears, ends_zero};
+ghost use Rattle.beep_speaking.specs.declared.emit.Emit.{Emit as EmitValue};
 ghost use Rattle.beep_peer.specs.Peering.{IsPeer, IsGoing};
 ghost use Rattle.beep_peer.specs.Calls.{HasSent, IsSent, Speaks};
+ghost use Rattle.beep_peer.specs.Waiting.{IsStuck};
+ghost use Rattle.beep_peer.specs.Left.{left_to_say};
 
 use crate::letting::let_go;
 use crate::peer::Peer;
@@ -29,6 +33,13 @@ pub fn speak(peer: &mut Peer, scratch: &mut Octets, most: u32, out: &mut Octets)
         → Speaks result size most fed rest journal given taken peer.old peer.new
         out.old.octets out.new.octets }
     ensures ear { peer.new.ear ≡ peer.old.ear }
+    ensures stuck { (head : HeadValue) → result ≡ EmitValue.Data head
+        → IsStuck peer.new.lives peer.new.management }
+    ensures still { IsStuck peer.old.lives peer.old.management
+        → IsStuck peer.new.lives peer.new.management }
+    ensures falls { result ≢ EmitValue.Nothing
+        → left_to_say peer.new.lives peer.new.management
+        < left_to_say peer.old.lives peer.old.management }
     ensures kept { KeepsRoom scratch.old scratch.new }
 {
     let greeted = peer.is_greeted();
@@ -55,6 +66,9 @@ fn gone(peer: &mut Peer, head: &Head)
         (passed Side.Sent head.now payload ∷ began Side.Sent head.now ∷ journal) given taken
         peer.new }
     ensures ear { peer.new.ear ≡ peer.old.ear }
+    ensures stuck { IsStuck peer.new.lives peer.new.management }
+    ensures falls { left_to_say peer.new.lives peer.new.management
+        ≤ left_to_say peer.old.lives peer.old.management }
 {
     if ends_zero(head) {
         let releases = went(&mut peer.lives, &mut peer.management, head.kind);

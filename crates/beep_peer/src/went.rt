@@ -1,11 +1,12 @@
 //! What the last frame of an own message of channel zero makes of a session, as it goes out (RFC
 //! 3080, section 2.3.1).
-ghost use Rattle.std.specs.Prelude.{◌≡◌, ℕ, ◌∷◌, List};
+ghost use Rattle.std.specs.Prelude.{◌≡◌, ◌≤◌, ℕ, ◌∷◌, List};
 ghost use Rattle.beep_frame.specs.declared.head.Head.{Head};
 ghost use Rattle.beep_history.specs.declared.journal.Side.{Side};
 ghost use Rattle.beep_history.specs.Journal.{Item, began, passed};
 ghost use Rattle.beep_standing.specs.Standing.{Marks};
 ghost use Rattle.beep_peer.specs.Calls.{HasGone, IsDone};
+ghost use Rattle.beep_peer.specs.Left.{left_to_say};
 
 use crate::grant::grant;
 use beep_frame::Kind;
@@ -18,12 +19,13 @@ pub(crate) fn went(lives: &mut Lives, management: &mut Management, kind: Kind) -
     requires gone { ∥ ((size : ℕ) × (journal : List Item) × (given : Marks) × (taken : Marks)
         × (head : Head) × (payload : List ℕ) × (head.kind ≡ kind)
         × HasGone size journal given taken head payload lives.old management.old) ∥₁ }
-    ensures { (size : ℕ) (journal : List Item) (given taken : Marks) (head : Head)
+    ensures done { (size : ℕ) (journal : List Item) (given taken : Marks) (head : Head)
         (payload : List ℕ) → head.kind ≡ kind
         → HasGone size journal given taken head payload lives.old management.old
         → IsDone size (began Side.Sent head ∷ journal)
         (passed Side.Sent head payload ∷ began Side.Sent head ∷ journal) given taken result
         lives.new management.new }
+    ensures falls { left_to_say lives.new management.new ≤ left_to_say lives.old management.old }
 {
     if kind.is_msg() {
         management.pass_act(lives);

@@ -9,6 +9,7 @@ use Rattle.beep_standing.specs.Standing.{Marks}
 use Rattle.beep_asked.specs.Kept.{Kept, oldest, fits}
 use Rattle.beep_asked.specs.Request.{kept_of}
 use Rattle.beep_hearing.specs.Hears.{Passes}
+use Rattle.beep_hearing.proofs.RoomLemmas.{room-others}
 use Rattle.beep_answering.specs.Decided.{IsSettledAs}
 use Rattle.beep_peer.specs.Peering.{WaitsIn}
 use Rattle.beep_peer.specs.Calls.{IsDone}
@@ -49,21 +50,21 @@ pub grant_where-released-requires-clause-room : goal.grant_where-released-requir
 grant_where-released-requires-clause-room c =
     any-room c.args.head.now c.args.peer.now (any-waits c.args.head.now c.args.peer.now c.requires.waits) c.requires.reply (option_map form_of c.args.said) c.requires.said
     c.requires.fits (kept_of c.take_mine-answered.result.request) c.take_mine-answered.result.channel c.take_mine-answered.new.self c.pass_zero.new.lives
-    c.pass_zero.ensures.others.order (passes (goal.at.grant_where-released-requires-clause-room c).After-pass_zero)
+    c.pass_zero.ensures.others.order (room-others 0 c.args.peer.now.lives c.pass_zero.new.lives c.pass_zero.ensures.others) (passes (goal.at.grant_where-released-requires-clause-room c).After-pass_zero)
     c.is_same-grants.result c.is_same-grants.ensures c.take_mine-answered.ensures
 
 pub grant_where-released-requires-clause-number : goal.grant_where-released-requires-clause-number
 grant_where-released-requires-clause-number c =
     any-number c.args.head.now c.args.peer.now (any-waits c.args.head.now c.args.peer.now c.requires.waits) c.requires.reply (option_map form_of c.args.said) c.requires.said
     c.requires.fits (kept_of c.take_mine-answered.result.request) c.take_mine-answered.result.channel c.take_mine-answered.new.self c.pass_zero.new.lives
-    c.pass_zero.ensures.others.order (passes (goal.at.grant_where-released-requires-clause-number c).After-pass_zero)
+    c.pass_zero.ensures.others.order (room-others 0 c.args.peer.now.lives c.pass_zero.new.lives c.pass_zero.ensures.others) (passes (goal.at.grant_where-released-requires-clause-number c).After-pass_zero)
     c.is_same-grants.result c.is_same-grants.ensures c.take_mine-answered.ensures
 
 pub grant_where-released-requires-clause-above : goal.grant_where-released-requires-clause-above
 grant_where-released-requires-clause-above c =
     any-above c.args.head.now c.args.peer.now (any-waits c.args.head.now c.args.peer.now c.requires.waits) c.requires.reply (option_map form_of c.args.said) c.requires.said
     c.requires.fits (kept_of c.take_mine-answered.result.request) c.take_mine-answered.result.channel c.take_mine-answered.new.self c.pass_zero.new.lives
-    c.pass_zero.ensures.others.order (passes (goal.at.grant_where-released-requires-clause-above c).After-pass_zero)
+    c.pass_zero.ensures.others.order (room-others 0 c.args.peer.now.lives c.pass_zero.new.lives c.pass_zero.ensures.others) (passes (goal.at.grant_where-released-requires-clause-above c).After-pass_zero)
     c.is_same-grants.result c.is_same-grants.ensures c.take_mine-answered.ensures
 
 is-done : (c : After-grant_where-released) (size : ℕ) (fed : List ℕ) (journal : List Item) (given taken : Marks) (payload : List ℕ)
@@ -73,7 +74,8 @@ is-done : (c : After-grant_where-released) (size : ℕ) (fed : List ℕ) (journa
 is-done c size fed journal given taken payload w =
     answered-done size fed journal given taken c.args.head.now payload c.args.peer.now w c.requires.reply (option_map form_of c.args.said) c.requires.said
     c.requires.fits (kept_of c.take_mine-answered.result.request) c.take_mine-answered.result.channel c.take_mine-answered.new.self c.pass_zero.new.lives
-    c.pass_zero.ensures.others.order (c.pass_zero.ensures.passes size fed journal given taken c.args.head.now payload w.waits)
+    c.pass_zero.ensures.others.order (room-others 0 c.args.peer.now.lives c.pass_zero.new.lives c.pass_zero.ensures.others)
+    (c.pass_zero.ensures.passes size fed journal given taken c.args.head.now payload w.waits)
     c.is_same-grants.result c.is_same-grants.ensures c.take_mine-answered.ensures c.grant_where-released.new.lives c.grant_where-released.result
     c.grant_where-released.ensures.done c.grant_where-released.ensures.kept c.grant_where-released.ensures.released
 

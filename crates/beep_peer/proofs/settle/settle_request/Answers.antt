@@ -1,22 +1,61 @@
 -- A whole request of the peer is kept with its answer, passes, and what may go of the answers goes.
-use Rattle.std.proofs.Common.{Bool, false, Option, [], ◌∷◌, ◌++◌, option_map, sym, ap, ◌∙◌, subst}
+use Rattle.std.proofs.Common.{Bool, false, Option, Result, Ok, Err, OnErr, List, ℕ, ◌+◌, length, [], ◌∷◌, ◌++◌, option_map, sym, ap, ◌∙◌, subst}
 use Rattle.std.proofs.Math.Bool.{or-false}
 use Rattle.std.proofs.Math.Logic.{∥∥₁_map}
 use Rattle.beep_mgmt.specs.Form.{Form, form_of}
 use Rattle.beep_history.specs.declared.journal.Side.{Side}
-use Rattle.beep_history.specs.Journal.{passed}
+use Rattle.beep_history.specs.Journal.{Item, passed}
+use Rattle.beep_standing.specs.Standing.{Marks}
+use Rattle.beep_hearing.proofs.RoomLemmas.{room-others}
 use Rattle.beep_management.specs.Values.{prepared_of}
 use Rattle.beep_answering.specs.Decided.{IsAnswer}
-use Rattle.beep_peer.proofs.DoneLemmas.{done-settles}
+use Rattle.beep_peer.specs.declared.peer.Peer.{Peer}
+use Rattle.beep_peer.specs.Peering.{WaitsIn, IsWaiting}
+use Rattle.beep_peer.proofs.DoneLemmas.{done-settles, same-count}
+use Rattle.beep_peer.proofs.RoomLemmas.{room-equal, room-last}
 use Rattle.beep_peer.proofs.WaitingLemmas.{ear-waits}
-use Rattle.beep_peer.proofs.CameLemmas.{came-few, HasCame, came-done}
-use Rattle.beep_peer.proofs.settle.settle_request.Goals.{After-pass_zero}
+use Rattle.beep_peer.proofs.CameLemmas.{came-few, HasCame, came-done, waits-roomed, waits-still, waiting-roomed, zero-waiting}
+use Rattle.beep_peer.proofs.settle.settle_request.Goals.{After-reserve_with, After-pass_zero}
 use Rattle.beep_peer.proofs.settle.settle_request.Goals as goal
 
-pub pass_zero-requires : goal.pass_zero-requires
-pass_zero-requires c = record { waits = ear-waits c.args.window c.args.head.now c.args.peer.now c.requires.waits }
+pub reserve_with-requires : goal.reserve_with-requires
+reserve_with-requires c = record { live = zero-waiting c.args.window c.args.head.now c.args.peer.now c.requires.waits }
 
-has-came : (c : After-pass_zero) → HasCame c.args.window c.args.head.now c.args.peer.now c.came.new.self
+-- the peer, once room was made
+abbrev roomed : After-reserve_with → Peer
+roomed c = record c.args.peer.now { lives = c.reserve_with.new.lives }
+
+roomed-waits : (c : After-reserve_with) (fed : List ℕ) (journal : List Item) (given taken : Marks) (payload : List ℕ)
+    → WaitsIn c.args.window fed journal given taken c.args.head.now payload c.args.peer.now → WaitsIn c.args.window fed journal given taken c.args.head.now payload (roomed c)
+roomed-waits c fed journal given taken payload w =
+    waits-roomed c.args.window fed journal given taken c.args.head.now payload c.args.peer.now w c.reserve_with.new.lives c.reserve_with.ensures.kept c.reserve_with.ensures.runs
+
+roomed-waiting : (c : After-reserve_with) → IsWaiting c.args.window c.args.head.now (roomed c)
+roomed-waiting c =
+    waiting-roomed c.args.window c.args.head.now c.args.peer.now c.reserve_with.new.lives c.reserve_with.ensures.kept c.reserve_with.ensures.runs c.requires.waits
+
+after-error : {A E P : Type 0} (result : Result A E) → P → OnErr result P
+after-error (Ok value) p = tt
+after-error (Err error) p = p
+
+pub returns-in_err-reserve_with-clause-err : goal.returns-in_err-reserve_with-clause-err
+returns-in_err-reserve_with-clause-err c =
+    after-error c.from_residual-in_err-reserve_with.result (λ fed journal given taken payload w.
+    roomed-waits (goal.at.returns-in_err-reserve_with-clause-err c).After-reserve_with fed journal given taken payload w)
+
+pub returns-in_err-came-clause-err : goal.returns-in_err-came-clause-err
+returns-in_err-came-clause-err c =
+    after-error c.from_residual-in_err-came.result (λ fed journal given taken payload w.
+    waits-still c.args.window fed journal given taken c.args.head.now payload (roomed (goal.at.returns-in_err-came-clause-err c).After-reserve_with)
+    (roomed-waits (goal.at.returns-in_err-came-clause-err c).After-reserve_with fed journal given taken payload w) c.came.new.self c.in_err-came.ensures.err.0 c.in_err-came.ensures.err.1)
+
+pub pass_zero-requires : goal.pass_zero-requires
+pass_zero-requires c = record {
+  waits = ear-waits c.args.window c.args.head.now (roomed (goal.at.pass_zero-requires c).After-reserve_with)
+      (roomed-waiting (goal.at.pass_zero-requires c).After-reserve_with);
+}
+
+has-came : (c : After-pass_zero) → HasCame c.args.window c.args.head.now (record c.args.peer.now { lives = c.reserve_with.new.lives }) c.came.new.self
 has-came c =
     let said = option_map form_of c.args.said in
     let old = c.args.peer.now.management in
@@ -31,24 +70,33 @@ has-came c =
           (ap (option_map form_of) c.as_ref.ensures.value) c.in_ok-answer.ensures.answer;
       are = c.in_ok-came.ensures.ok;
       theirs = c.in_ok-came.ensures.theirs ∙ ap (λ (names : Bool). record { said = said; implied = false; names = names } ∷ old.theirs.requests) c.names_live-names.ensures;
-      few = λ few. came-few old c.came.new.self c.args.peer.now.lives (old.answers ++ answer ∷ []) _ _ c.in_ok-answer.field-0.channel
-          (c.in_ok-came.ensures.ok) few c.requires.room c.in_ok-answer.ensures.few;
+      few = λ few. came-few old c.came.new.self c.reserve_with.new.lives (old.answers ++ answer ∷ []) _ _ c.in_ok-answer.field-0.channel
+          (c.in_ok-came.ensures.ok) few
+          (c.requires.room ∙ ap (λ (n : ℕ). n + (length old.starting + length old.granted)) (sym (same-count c.args.peer.now.lives c.reserve_with.new.lives c.reserve_with.ensures.kept.order)))
+          c.in_ok-answer.ensures.few;
+      room = room-equal (old.answers ++ answer ∷ []) c.came.new.self.answers c.reserve_with.new.lives (ap (λ m. m.answers) c.in_ok-came.ensures.ok)
+          (room-last old.answers answer c.len.result c.reserve_with.new.lives (sym c.len.ensures) c.in_ok-reserve_with.ensures.ok);
     }
 
 pub let_go-requires : goal.let_go-requires
 let_go-requires c = record {
   held = ∥∥₁_map c.requires.waits (λ s.
-      let d = came-done c.args.window s.0 s.1 s.2 s.3 c.args.head.now s.4 c.args.peer.now s.5 c.came.new.self (has-came (goal.at.let_go-requires c).After-pass_zero)
-      c.pass_zero.new.lives c.pass_zero.ensures.others.order
-      (c.pass_zero.ensures.passes c.args.window s.0 s.1 s.2 s.3 c.args.head.now s.4 s.5.waits) in
+      let a = goal.at.let_go-requires c in
+      let w = roomed-waits a.After-reserve_with s.0 s.1 s.2 s.3 s.4 s.5 in
+      let d = came-done c.args.window s.0 s.1 s.2 s.3 c.args.head.now s.4 (roomed a.After-reserve_with) w c.came.new.self (has-came a.After-pass_zero)
+      c.pass_zero.new.lives c.pass_zero.ensures.others.order (room-others 0 c.reserve_with.new.lives c.pass_zero.new.lives c.pass_zero.ensures.others)
+      (c.pass_zero.ensures.passes c.args.window s.0 s.1 s.2 s.3 c.args.head.now s.4 w.waits) in
       (c.args.window, passed Side.Received c.args.head.now s.4 ∷ s.1, d.given_now, d.taken_now, d.holds));
 }
 
 pub returns-clause-ok : goal.returns-clause-ok
-returns-clause-ok c fed journal given taken payload w =
-    let d = came-done c.args.window fed journal given taken c.args.head.now payload c.args.peer.now w c.came.new.self
-    (has-came (goal.at.returns-clause-ok c).After-pass_zero) c.pass_zero.new.lives c.pass_zero.ensures.others.order
+returns-clause-ok c fed journal given taken payload before =
+    let a = goal.at.returns-clause-ok c in
+    let w = roomed-waits a.After-reserve_with fed journal given taken payload before in
+    let d = came-done c.args.window fed journal given taken c.args.head.now payload (roomed a.After-reserve_with) w c.came.new.self
+    (has-came a.After-pass_zero) c.pass_zero.new.lives c.pass_zero.ensures.others.order
+    (room-others 0 c.reserve_with.new.lives c.pass_zero.new.lives c.pass_zero.ensures.others)
     (c.pass_zero.ensures.passes c.args.window fed journal given taken c.args.head.now payload w.waits) in
-    done-settles c.args.window fed journal given taken c.args.head.now payload c.args.peer.now w c.pass_zero.new.lives c.came.new.self false d _
+    done-settles c.args.window fed journal given taken c.args.head.now payload (roomed a.After-reserve_with) w c.pass_zero.new.lives c.came.new.self false d _
     (c.pass_zero.ensures.hears c.args.window fed journal given taken c.args.head.now payload w.waits) (sym (or-false c.args.peer.now.released))
     (c.let_go.ensures.holds c.args.window (passed Side.Received c.args.head.now payload ∷ journal) d.given_now d.taken_now d.holds)

@@ -1,5 +1,5 @@
 -- What the last frame of a message of channel zero says is done, and then answers are let go.
-use Rattle.std.proofs.Common.{refl, sym, ◌∙◌}
+use Rattle.std.proofs.Common.{refl, sym, ◌∙◌, arith}
 use Rattle.beep_peer.proofs.SpeakLemmas.{quiet-sent, gone-sent, gone-zero, quiet-holds, quiet-held, gone-held, done-held}
 use Rattle.beep_peer.proofs.speech.gone.Goals as goal
 
@@ -9,7 +9,7 @@ let_go-requires-2 c = record { held = quiet-held c.args.head.now c.args.peer.now
 pub returns-clause-sent : goal.returns-clause-sent
 returns-clause-sent c = λ size fed rest journal given taken payload s h r.
     let quiet = sym (c.ends_zero.ensures payload) ∙ c.if-ends_zero.false in
-    quiet-sent size journal given taken c.args.head.now payload c.args.peer.now s fed rest h r _ quiet refl refl
+    quiet-sent size journal given taken c.args.head.now payload c.args.peer.now s fed rest h r c.args.peer.now.management.answers _ quiet refl refl
     (c.let_go-2.ensures.holds size _ given taken (quiet-holds size journal given taken c.args.head.now payload c.args.peer.now s quiet))
 
 pub went-releases-requires : goal.went-releases-requires
@@ -18,12 +18,15 @@ went-releases-requires c = record { gone = gone-held c.args.head.now c.args.peer
 pub let_go-requires : goal.let_go-requires
 let_go-requires c = record {
   held = done-held c.args.head.now c.args.peer.now c.went-releases.result c.went-releases.new.lives c.went-releases.new.management
-      (λ payload. sym (c.ends_zero.ensures payload) ∙ c.if-ends_zero.true) c.requires.sent c.went-releases.ensures;
+      (λ payload. sym (c.ends_zero.ensures payload) ∙ c.if-ends_zero.true) c.requires.sent c.went-releases.ensures.done;
 }
 
 pub returns-then-ends_zero-clause-sent : goal.returns-then-ends_zero-clause-sent
 returns-then-ends_zero-clause-sent c = λ size fed rest journal given taken payload s h r.
     let ends = sym (c.ends_zero.ensures payload) ∙ c.if-ends_zero.true in
     gone-sent size journal given taken c.args.head.now payload c.args.peer.now s fed rest h r c.went-releases.result c.went-releases.new.lives c.went-releases.new.management _
-    (c.went-releases.ensures size journal given taken c.args.head.now payload refl (gone-zero size journal given taken c.args.head.now payload c.args.peer.now s ends))
+    (c.went-releases.ensures.done size journal given taken c.args.head.now payload refl (gone-zero size journal given taken c.args.head.now payload c.args.peer.now s ends))
     refl c.either-peer.ensures (λ given_now taken_now holds. c.let_go.ensures.holds size _ given_now taken_now holds)
+
+pub returns-then-ends_zero-clause-falls : goal.returns-then-ends_zero-clause-falls
+returns-then-ends_zero-clause-falls c = omega (arith, c.let_go.ensures.falls, c.went-releases.ensures.falls)

@@ -1,8 +1,12 @@
 -- What the channels let go out joins the journal, and is done.
-use Rattle.std.proofs.Common.{sym, subst}
+use Rattle.std.proofs.Common.{List, sym, ◌∙◌, subst, arith}
+use Rattle.beep_channel.specs.Held.{Live}
 use Rattle.beep_speaking.specs.declared.emit.Emit.{Emit}
 use Rattle.beep_speaking.specs.Emits.{Emits}
 use Rattle.beep_peer.specs.Calls.{Speaks}
+use Rattle.beep_peer.specs.Waiting.{IsStuck}
+use Rattle.beep_peer.proofs.StuckLemmas.{stuck-told}
+use Rattle.beep_peer.proofs.FallLemmas.{sent-left, told-left}
 use Rattle.beep_peer.proofs.SpeakLemmas.{data-speaks, seq-speaks, nothing-speaks, has-sent, sent-reached, lives-reached}
 use Rattle.beep_peer.proofs.speech.speak.Goals as goal
 
@@ -43,3 +47,40 @@ returns-in-Nothing-clause-speaks c = λ size fed rest journal given taken s.
     subst (λ (e : Emit). Speaks e size c.args.most fed rest journal given taken c.args.peer.now (record c.args.peer.now { lives = new }) before after) (sym c.in-Nothing.is)
     (nothing-speaks size c.args.most fed rest journal given taken c.args.peer.now new before after s greeted
     (subst (λ (e : Emit). Emits c.args.most greeted e c.args.peer.now.lives new before after) c.in-Nothing.is c.emit_next-emitted.ensures.emits) c.is_greeted-greeted.ensures)
+
+pub returns-in-Seq-clause-stuck : goal.returns-in-Seq-clause-stuck
+returns-in-Seq-clause-stuck c head is = absurd (cc (sym c.in-Seq.is ∙ is))
+
+pub returns-in-Seq-clause-still : goal.returns-in-Seq-clause-still
+returns-in-Seq-clause-still c =
+    let tells : Emits c.args.most c.is_greeted-greeted.result (Emit.Seq c.in-Seq.field-0) c.args.peer.now.lives c.emit_next-emitted.new.lives c.args.out.now.octets
+    c.emit_next-emitted.new.out.octets = subst (λ (e : Emit). Emits c.args.most c.is_greeted-greeted.result e c.args.peer.now.lives c.emit_next-emitted.new.lives
+    c.args.out.now.octets c.emit_next-emitted.new.out.octets) c.in-Seq.is c.emit_next-emitted.ensures.emits in
+    stuck-told c.in-Seq.field-0 c.args.peer.now.lives c.emit_next-emitted.new.lives tells.1.tells c.args.peer.now.management
+
+pub returns-in-Nothing-clause-stuck : goal.returns-in-Nothing-clause-stuck
+returns-in-Nothing-clause-stuck c head is = absurd (cc (sym c.in-Nothing.is ∙ is))
+
+pub returns-in-Nothing-clause-still : goal.returns-in-Nothing-clause-still
+returns-in-Nothing-clause-still c stuck =
+    let none : Emits c.args.most c.is_greeted-greeted.result Emit.Nothing c.args.peer.now.lives c.emit_next-emitted.new.lives c.args.out.now.octets
+    c.emit_next-emitted.new.out.octets = subst (λ (e : Emit). Emits c.args.most c.is_greeted-greeted.result e c.args.peer.now.lives c.emit_next-emitted.new.lives
+    c.args.out.now.octets c.emit_next-emitted.new.out.octets) c.in-Nothing.is c.emit_next-emitted.ensures.emits in
+    subst (λ (cs : List Live). IsStuck cs c.args.peer.now.management) (sym none.2) stuck
+
+pub returns-in-Data-clause-falls : goal.returns-in-Data-clause-falls
+returns-in-Data-clause-falls c some =
+    let w = c.in-Data.ensures.emits.1 in
+    let less = sent-left c.args.peer.now.lives c.emit_next-emitted.new.lives (lives-reached c.args.peer.now c.requires.going) c.args.most c.in-Data.head w.payload c.requires.least w.sends in
+    omega (arith, c.gone.ensures.falls, less)
+
+pub returns-in-Seq-clause-falls : goal.returns-in-Seq-clause-falls
+returns-in-Seq-clause-falls c some =
+    let tells : Emits c.args.most c.is_greeted-greeted.result (Emit.Seq c.in-Seq.field-0) c.args.peer.now.lives c.emit_next-emitted.new.lives c.args.out.now.octets
+    c.emit_next-emitted.new.out.octets = subst (λ (e : Emit). Emits c.args.most c.is_greeted-greeted.result e c.args.peer.now.lives c.emit_next-emitted.new.lives
+    c.args.out.now.octets c.emit_next-emitted.new.out.octets) c.in-Seq.is c.emit_next-emitted.ensures.emits in
+    let less = told-left c.args.peer.now.lives c.emit_next-emitted.new.lives (lives-reached c.args.peer.now c.requires.going) c.in-Seq.field-0 tells.1.tells in
+    omega (arith, less)
+
+pub returns-in-Nothing-clause-falls : goal.returns-in-Nothing-clause-falls
+returns-in-Nothing-clause-falls c some = absurd (some c.in-Nothing.is)

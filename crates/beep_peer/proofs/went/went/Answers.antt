@@ -6,7 +6,9 @@ use Rattle.beep_history.specs.declared.journal.Side.{Side}
 use Rattle.beep_history.specs.Journal.{began, passed}
 use Rattle.beep_asked.specs.Request.{kept_of}
 use Rattle.beep_peer.specs.Calls.{IsDone}
-use Rattle.beep_peer.proofs.GoneLemmas.{taken-by, request-gone, refusal-gone, grant-gone, out-act, out-room, out-answer, out-starts, out-joins, out-number, out-above}
+use Rattle.beep_peer.proofs.GoneLemmas.{taken-by, request-gone, refusal-gone, grant-gone, out-act, out-room, out-answer, out-starts, out-joins, out-number, out-above, out-left}
+use Rattle.beep_management.specs.Moved.{is_live_in}
+use Rattle.beep_peer.proofs.FallLemmas.{request-falls, refusal-falls, grant-falls}
 use Rattle.beep_peer.proofs.went.went.Goals as goal
 
 pub pass_act-requires-clause-some : goal.pass_act-requires-clause-some
@@ -15,8 +17,8 @@ pass_act-requires-clause-some c = out-act c.args.kind c.args.lives.now c.args.ma
 pub pass_act-requires-clause-room : goal.pass_act-requires-clause-room
 pass_act-requires-clause-room c = out-room c.args.kind c.args.lives.now c.args.management.now c.requires.gone
 
-pub returns-then-is_msg : goal.returns-then-is_msg
-returns-then-is_msg c size journal given taken head payload kind g =
+pub returns-then-is_msg-clause-done : goal.returns-then-is_msg-clause-done
+returns-then-is_msg-clause-done c size journal given taken head payload kind g =
     request-gone size journal given taken head payload c.args.lives.now c.args.management.now g (ap is_msg kind ∙ sym c.is_msg.ensures ∙ c.if-is_msg.true)
     c.pass_act.new.self c.pass_act.ensures
 
@@ -48,8 +50,8 @@ grant-requires-clause-above c =
     out-above c.args.kind c.args.lives.now c.args.management.now c.requires.gone (sym c.is_same-grants.ensures ∙ c.if-grants.true) one channel c.take_theirs-answered.new.self
     (taken-by c.is_same-grants.result true c.if-grants.true one channel c.args.management.now c.take_theirs-answered.new.self c.take_theirs-answered.ensures)
 
-pub returns-then-grants : goal.returns-then-grants
-returns-then-grants c size journal given taken head payload kind g =
+pub returns-then-grants-clause-done : goal.returns-then-grants-clause-done
+returns-then-grants-clause-done c size journal given taken head payload kind g =
     let one = kept_of c.take_theirs-answered.result.request in
     let channel = c.take_theirs-answered.result.channel in
     grant-gone size journal given taken head payload c.args.lives.now c.args.management.now g one channel c.take_theirs-answered.new.self
@@ -57,8 +59,8 @@ returns-then-grants c size journal given taken head payload kind g =
     (taken-by c.is_same-grants.result true c.if-grants.true one channel c.args.management.now c.take_theirs-answered.new.self c.take_theirs-answered.ensures)
     c.grant.new.lives c.grant.result c.grant.ensures.done c.grant.ensures.released
 
-pub returns-else-grants : goal.returns-else-grants
-returns-else-grants c size journal given taken head payload kind g =
+pub returns-else-grants-clause-done : goal.returns-else-grants-clause-done
+returns-else-grants-clause-done c size journal given taken head payload kind g =
     let one = kept_of c.take_theirs-answered.result.request in
     let channel = c.take_theirs-answered.result.channel in
     subst (λ (b : Bool). IsDone size (began Side.Sent head ∷ journal) (passed Side.Sent head payload ∷ began Side.Sent head ∷ journal) given taken b c.args.lives.now
@@ -67,3 +69,22 @@ returns-else-grants c size journal given taken head payload kind g =
     (refusal-gone size journal given taken head payload c.args.lives.now c.args.management.now g one channel c.take_theirs-answered.new.self
     (ap is_msg kind ∙ sym c.is_msg.ensures ∙ c.if-is_msg.false) (ap (same_kind Kind.Rpy) kind ∙ sym c.is_same-grants.ensures ∙ c.if-grants.false)
     (taken-by c.is_same-grants.result false c.if-grants.false one channel c.args.management.now c.take_theirs-answered.new.self c.take_theirs-answered.ensures))
+
+pub returns-then-is_msg-clause-falls : goal.returns-then-is_msg-clause-falls
+returns-then-is_msg-clause-falls c = request-falls (is_live_in c.args.lives.now) c.args.management.now c.pass_act.new.self c.args.lives.now c.pass_act.ensures
+
+pub returns-then-grants-clause-falls : goal.returns-then-grants-clause-falls
+returns-then-grants-clause-falls c =
+    let one = kept_of c.take_theirs-answered.result.request in
+    let channel = c.take_theirs-answered.result.channel in
+    let taken = taken-by c.is_same-grants.result true c.if-grants.true one channel c.args.management.now c.take_theirs-answered.new.self c.take_theirs-answered.ensures in
+    grant-falls one channel c.args.management.now c.take_theirs-answered.new.self c.args.lives.now c.grant.new.lives taken
+    (out-left c.args.kind c.args.lives.now c.args.management.now c.requires.gone (sym c.is_same-grants.ensures ∙ c.if-grants.true) one channel c.take_theirs-answered.new.self
+    taken c.grant.new.lives c.grant.ensures.done)
+
+pub returns-else-grants-clause-falls : goal.returns-else-grants-clause-falls
+returns-else-grants-clause-falls c =
+    let one = kept_of c.take_theirs-answered.result.request in
+    let channel = c.take_theirs-answered.result.channel in
+    refusal-falls one channel c.args.management.now c.take_theirs-answered.new.self c.args.lives.now
+    (taken-by c.is_same-grants.result false c.if-grants.false one channel c.args.management.now c.take_theirs-answered.new.self c.take_theirs-answered.ensures)
