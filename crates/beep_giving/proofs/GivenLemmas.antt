@@ -1,5 +1,5 @@
 -- What a message that is given above zero makes of a peer, for every journal for which it stood.
-use Rattle.std.proofs.Common.{◌≡◌, ℕ, ◌<◌, ◌==◌, true, false, List, ◌++◌, Option, Some, None, Result, Ok, Err, OnOk, IfOk, option_map, refl, sym, ap, ◌∙◌, arith, subst}
+use Rattle.std.proofs.Common.{◌≡◌, ℕ, ◌<◌, ◌==◌, Bool, true, false, if◌then◌else◌, List, length, ◌++◌, Option, Some, None, Result, Ok, Err, OnOk, IfOk, option_map, refl, sym, ap, ◌∙◌, arith, subst}
 use Rattle.std.specs.Prelude.{IfSome, IsSome}
 use Rattle.std.proofs.lemmas.Bool.Decides.{nat_tests}
 use Rattle.std.proofs.Math.Logic.{∥∥₁_elim}
@@ -18,7 +18,8 @@ use Rattle.beep_lives.specs.Lives.{live_at, numbers}
 use Rattle.beep_lives.specs.Edits.{Edits, Gives, KeepsHeld}
 use Rattle.beep_standing.specs.Standing.{Marks, with_marks}
 use Rattle.beep_standing.proofs.SendLemmas.{with-same, with-other, given-joins, room-stays}
-use Rattle.beep_management.specs.Managed.{Managed}
+use Rattle.beep_hearing.specs.Hears.{KeepsZeroRoom}
+use Rattle.beep_management.specs.Managed.{Managed, octets_prepared}
 use Rattle.beep_management.proofs.ItemLemmas.{given-above}
 use Rattle.beep_peer.specs.declared.peer.Peer.{Peer}
 use Rattle.beep_peer.specs.Peering.{AreFew, Holds, IsPeer, AreHeld}
@@ -45,22 +46,33 @@ may-there o c P at may = subst (λ (x : Option Live). IfSome x P) at may
 pub few-stay : (old new : List Live) (m : Managed) → numbers new ≡ numbers old → AreFew old m → AreFew new m
 few-stay old new m order few = omega (arith, few, same-count old new order)
 
+-- what happens above zero leaves the room of channel zero
+pub room-stays-zero : (Step : Live → Live → Type 0) (number : ℕ) (old new : List Live) → (number == 0) ≡ false → Edits number Step old new
+    → KeepsZeroRoom old new
+room-stays-zero Step number old new apart e octets messages h = record {
+  channel = h.channel;
+  at = e.at 0 ∙ ap (λ (b : Bool). if b then Some e.after else live_at 0 old) apart ∙ h.at;
+  octets_fit = h.octets_fit;
+  messages_fit = h.messages_fit;
+}
+
 -- ---- room alone was made
 
-room-holds : (size number : ℕ) (journal : List Item) (given taken : Marks) (old new : List Live) (m : Managed) → Edits number KeepsHeld old new
-    → Holds size journal given taken old m → Holds size journal given taken new m
-room-holds size number journal given taken old new m e h = record {
+room-holds : (size number : ℕ) (journal : List Item) (given taken : Marks) (old new : List Live) (m : Managed) → (number == 0) ≡ false
+    → Edits number KeepsHeld old new → Holds size journal given taken old m → Holds size journal given taken new m
+room-holds size number journal given taken old new m apart e h = record {
   live = room-stays size number journal journal given taken old new h.live true e;
   zero = h.zero;
   manages = h.manages;
   few = few-stay old new m e.order h.few;
+  room = room-stays-zero KeepsHeld number old new apart e (octets_prepared m.answers) (length m.answers) h.room;
 }
 
-pub room-unchanged : (number : ℕ) (old : Peer) (lives : List Live) → Edits number KeepsHeld old.lives lives → IsUnchanged old (record old { lives = lives })
-room-unchanged number old lives e = record {
+pub room-unchanged : (number : ℕ) (old : Peer) (lives : List Live) → 0 < number → Edits number KeepsHeld old.lives lives → IsUnchanged old (record old { lives = lives })
+room-unchanged number old lives above e = record {
   ear = refl;
   released = refl;
-  holds = λ size journal given taken h. room-holds size number journal given taken old.lives lives old.management e h;
+  holds = λ size journal given taken h. room-holds size number journal given taken old.lives lives old.management (above-zero number above) e h;
   numbers_are = e.order;
 }
 
@@ -75,6 +87,7 @@ module _ (size number : ℕ) (journal : List Item) (given taken : Marks) (old ne
     manages = given-above size journal given (with_marks number (given number ++ marks) given) m
         (with-other number 0 (given number ++ marks) given above) h.manages;
     few = few-stay old new m e.order h.few;
+    room = room-stays-zero (Gives marks) number old new above e (octets_prepared m.answers) (length m.answers) h.room;
   }
 
   counted-given : IsCounted false e.after.held.life.given (given number ++ marks) (taken number)

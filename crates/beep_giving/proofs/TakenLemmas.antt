@@ -1,5 +1,5 @@
 -- What a part that is taken above zero makes of a peer, for every journal for which it stood.
-use Rattle.std.proofs.Common.{◌≡◌, ℕ, ◌<◌, ◌==◌, false, if◌then◌else◌, List, [], ◌∷◌, ◌++◌, Option, Some, option_map, take, sym, ap, ◌∙◌, subst}
+use Rattle.std.proofs.Common.{◌≡◌, ℕ, ◌<◌, ◌==◌, false, if◌then◌else◌, List, [], ◌∷◌, ◌++◌, length, Option, Some, option_map, take, sym, ap, ◌∙◌, subst}
 use Rattle.std.proofs.Math.Logic.{∥∥₁_elim, ∥∥₁_map}
 use denote.Struct.Props.{props}
 use Rattle.beep_history.specs.Journal.{Item}
@@ -15,7 +15,7 @@ use Rattle.beep_lives.specs.Edits.{Edits, Takes}
 use Rattle.beep_standing.specs.Standing.{Marks, with_marks}
 use Rattle.beep_standing.proofs.SendLemmas.{with-same, with-other, taken-joins}
 use Rattle.beep_management.specs.declared.wait.Wait.{Wait}
-use Rattle.beep_management.specs.Managed.{Prepared, Managed}
+use Rattle.beep_management.specs.Managed.{Prepared, Managed, octets_prepared}
 use Rattle.beep_peer.specs.declared.peer.Peer.{Peer}
 use Rattle.beep_peer.specs.Peering.{Holds, IsPeer, AreHeld}
 use Rattle.beep_peer.specs.Calls.{LetsGo}
@@ -24,7 +24,7 @@ use Rattle.beep_giving.specs.Looks.{given_of}
 use Rattle.beep_giving.specs.Giving.{TakesMarks}
 use Rattle.beep_giving.proofs.CountLemmas.{above-zero, turned, counted-above, after-part}
 use Rattle.beep_giving.proofs.ChangeLemmas.{at-number}
-use Rattle.beep_giving.proofs.GivenLemmas.{few-stay}
+use Rattle.beep_giving.proofs.GivenLemmas.{few-stay, room-stays-zero}
 
 -- ---- marks that were taken
 
@@ -39,6 +39,7 @@ module _ (size number : ℕ) (journal : List Item) (given taken : Marks) (old ne
     zero = with-other number 0 (taken number ++ part_marks part after) taken apart ∙ h.zero;
     manages = h.manages;
     few = few-stay old new m e.order h.few;
+    room = room-stays-zero (Takes part before after) number old new apart e (octets_prepared m.answers) (length m.answers) h.room;
   }
 
   taken-count : e.after.held.life.given ≡ (if part.ended then after_taken e.before.held.life.given part.tag.kind else e.before.held.life.given)
@@ -68,7 +69,7 @@ module _ (number : ℕ) (old : Peer) (lives : List Live) (above : 0 < number) (p
     at-last = kept.others number (turned number (above-zero number above)) ∙ at-number number (Takes part before after) old.lives lives e
 
     pub takes-marks : (size : ℕ) (fed rest : List ℕ) (journal : List Item) (given taken : Marks) → IsPeer size fed rest journal given taken old
-        → ((size : ℕ) (journal : List Item) (given taken : Marks) → Holds size journal given taken lives old.management → LetsGo size journal given taken last now)
+        → ((size : ℕ) (journal : List Item) (given taken : Marks) → Holds size journal given taken lives old.management → LetsGo size journal given taken old.management.answers last now)
         → TakesMarks number size fed rest journal given taken part after (record old { lives = last; management = now })
     takes-marks size fed rest journal given taken s goes =
         let l = goes size journal given (with_marks number (taken number ++ part_marks part after) taken)

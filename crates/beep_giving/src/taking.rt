@@ -6,7 +6,7 @@ ghost use Rattle.beep_inbox.specs.Untaken.{IsTaken};
 ghost use Rattle.beep_lives.specs.Lives.{live_at};
 ghost use Rattle.beep_standing.specs.Standing.{Marks};
 ghost use Rattle.beep_peer.specs.Peering.{IsPeer, AreHeld};
-ghost use Rattle.beep_peer.specs.Waiting.{AreLetGo};
+ghost use Rattle.beep_peer.specs.Waiting.{AreLetGo, IsStuck};
 ghost use Rattle.beep_giving.specs.Looks.{given_of, inbox_of};
 ghost use Rattle.beep_giving.specs.Giving.{TakesMarks, ChangesOnly};
 
@@ -36,6 +36,7 @@ pub fn take(peer: &mut Peer, number: u32, buf: &mut [u8]) -> Option<Part>
     ensures buffer { IfNone result (buf.new ≡ buf.old) }
 
     ensures waits { AreLetGo peer.new.lives peer.old.management peer.new.management }
+    ensures stuck { IfSome result (λ part. IsStuck peer.new.lives peer.new.management) }
     ensures others { ChangesOnly (λ n. 0 == n || number == n) peer.old.lives peer.new.lives }
     ensures same { (peer.new.ear ≡ peer.old.ear) × (peer.new.released ≡ peer.old.released) }
 {

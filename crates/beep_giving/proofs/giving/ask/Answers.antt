@@ -39,4 +39,4 @@ returns-clause-counts c held =
     (λ channel at e. ask-counts number old new c.args.peer.now.management c.requires.above held channel at octets e) c.give_ask.ensures.ok
 
 pub returns-clause-err : goal.returns-clause-err
-returns-clause-err c = on_err_weaker c.give_ask.result (room-unchanged c.args.number c.args.peer.now c.give_ask.new.self) c.give_ask.ensures.err
+returns-clause-err c = on_err_weaker c.give_ask.result (room-unchanged c.args.number c.args.peer.now c.give_ask.new.self c.requires.above) c.give_ask.ensures.err

@@ -52,4 +52,4 @@ returns-clause-owes c held answer =
     c.give_reply.ensures.ok
 
 pub returns-clause-err : goal.returns-clause-err
-returns-clause-err c = on_err_weaker c.give_reply.result (room-unchanged c.args.number c.args.peer.now c.give_reply.new.self) c.give_reply.ensures.err
+returns-clause-err c = on_err_weaker c.give_reply.result (room-unchanged c.args.number c.args.peer.now c.give_reply.new.self c.requires.above) c.give_reply.ensures.err

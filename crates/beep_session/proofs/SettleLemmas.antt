@@ -1,0 +1,154 @@
+-- What a settle answers, for every journal in which the message waits.
+use Rattle.std.proofs.Common.{◌≡◌, ℕ, ◌-◌, ◌++◌, Bool, true, false, List, length, Option, None, Some, Result, Ok, Err, refl, sym, ap, ◌∙◌, subst}
+use Rattle.std.specs.Prelude.{◌↔◌, IsOk, IfOk, IfErr, OnOk}
+use Rattle.std.proofs.Math.Logic.{∥∥₁_elim}
+use denote.Struct.Props.{props}
+use Rattle.beep_frame.specs.declared.head.Head.{Head}
+use Rattle.beep_frame.specs.declared.rule.Rule.{Rule}
+use Rattle.beep_frame.specs.Frame.{is_msg}
+use Rattle.beep_frame.specs.Modulo.{modulo_2_64}
+use Rattle.beep_mgmt.specs.Form.{Form}
+use Rattle.beep_mgmt.specs.Message.{message_said}
+use Rattle.beep_history.specs.declared.journal.Side.{Side}
+use Rattle.beep_history.specs.Journal.{Item}
+use Rattle.beep_journal.specs.Zero.{zero_history, gathered, completes_form}
+use Rattle.beep_journal.specs.declared.role.Role.{Role}
+use Rattle.beep_standing.specs.Standing.{Marks}
+use Rattle.beep_hearing.specs.declared.stopped.Stopped.{Stopped}
+use Rattle.beep_decide.specs.Decide.{PlainOffer, decide}
+use Rattle.beep_session.specs.declared.limits.Limits.{Limits}
+use Rattle.beep_peer.specs.declared.settle_error.SettleError.{SettleError}
+use Rattle.beep_peer.specs.declared.peer.Peer.{Peer}
+use Rattle.beep_answering.specs.declared.settled.Settled.{Settled}
+use Rattle.beep_answering.specs.Decided.{IsSettledBy}
+use Rattle.beep_peer.specs.Peering.{WaitsIn, IsWaiting, IsReached}
+use Rattle.beep_peer.specs.Calls.{Settles}
+use Rattle.beep_session.specs.Session.{Held}
+use Rattle.beep_peer.specs.Standing.{standing_of}
+use Rattle.beep_peer.proofs.WaitingLemmas.{says-whole}
+use Rattle.beep_session.proofs.ReachedLemmas.{reached-settled, same-head, for-head}
+
+-- a session, by its parts
+abbrev pub held-from : Role → List PlainOffer → Limits → Peer → Held
+held-from role offers limits peer = record { role = role; offers = offers; limits = limits; peer = peer }
+
+-- ---- the clauses, by the session before
+
+module _ (r : Result Settled SettleError) (new : Peer) where
+  -- a request is settled by what stands
+  abbrev pub IsDecidedFor : Held → Type 0
+  IsDecidedFor h = (fed : List ℕ) (journal : List Item) (given taken : Marks) (head : Head) (payload : List ℕ)
+      → WaitsIn h.limits.window fed journal given taken head payload h.peer → is_msg head.kind ≡ true
+      → IfOk r (λ settled. IsSettledBy (decide (standing_of h.role h.offers h.peer)
+      (message_said (gathered Side.Received (zero_history journal) ++ payload)))
+      (message_said (gathered Side.Received (zero_history journal) ++ payload)) settled)
+
+  -- a reply that is settled has its form
+  abbrev pub FitsFor : Held → Type 0
+  FitsFor h = (fed : List ℕ) (journal : List Item) (given taken : Marks) (head : Head) (payload : List ℕ)
+      → WaitsIn h.limits.window fed journal given taken head payload h.peer → is_msg head.kind ≡ false → IsOk r
+      → completes_form Side.Received head payload (zero_history journal) ≡ true
+
+  -- a rule is broken by a reply without its form, at its last octet
+  abbrev pub BreaksFor : Held → Type 0
+  BreaksFor h = (fed : List ℕ) (journal : List Item) (given taken : Marks) (head : Head) (payload : List ℕ) (rule : Rule) (place : ℕ)
+      → WaitsIn h.limits.window fed journal given taken head payload h.peer → r ≡ Err (SettleError.Broken rule place)
+      → (rule ≡ Rule.ZeroReply) × (place ≡ modulo_2_64 (length fed - 1)) × (completes_form Side.Received head payload (zero_history journal) ≡ false)
+
+  -- where memory is wanting, the message waits still
+  abbrev pub WaitsStill : Held → Type 0
+  WaitsStill h = (fed : List ℕ) (journal : List Item) (given taken : Marks) (head : Head) (payload : List ℕ)
+      → WaitsIn h.limits.window fed journal given taken head payload h.peer → r ≡ Err SettleError.NoMemory
+      → WaitsIn h.limits.window fed journal given taken head payload new
+
+-- ---- of a reply
+
+not-true : (b : Bool) → (b ≡ true → ⊥) → b ≡ false
+not-true true none = absurd (none refl)
+not-true false none = refl
+
+not-ok : (r : Result Settled SettleError) (error : SettleError) → r ≡ Err error → IsOk r → ⊥
+not-ok r error none all = absurd (cc (subst (λ (o : Result Settled SettleError). IsOk o) none all))
+
+not-both : (o : Option Stopped) (stopped : Stopped) → o ≡ Some stopped → o ≡ None → ⊥
+not-both o stopped some none = absurd (let e : Some stopped ≡ None = sym some ∙ none in cc)
+
+same-rule : (a b : Rule) (p q : ℕ) → SettleError.Broken a p ≡ SettleError.Broken b q → (a ≡ b) × (p ≡ q)
+same-rule a b p q e = (cc e, cc e)
+
+module _ (h : Held) (new : Peer) (r : Result Settled SettleError) (head : Head) (is : h.peer.ear.waits ≡ Some head) (reply : is_msg head.kind ≡ false)
+    (ok : (size : ℕ) (fed : List ℕ) (journal : List Item) (given taken : Marks) (payload : List ℕ) → WaitsIn size fed journal given taken head payload h.peer
+    → OnOk r (Settles size fed journal given taken head payload new))
+    (fits : (size : ℕ) (fed : List ℕ) (journal : List Item) (given taken : Marks) (payload : List ℕ) → WaitsIn size fed journal given taken head payload h.peer
+    → IsOk r ↔ (completes_form Side.Received head payload (zero_history journal) ≡ true))
+    (broken : (size : ℕ) (fed : List ℕ) (journal : List Item) (given taken : Marks) (payload : List ℕ) → WaitsIn size fed journal given taken head payload h.peer
+    → IfErr r (λ error. error ≡ SettleError.Broken Rule.ZeroReply (modulo_2_64 (length fed - 1)))) where
+  abbrev size : ℕ
+  size = h.limits.window
+
+  pub reply-fits : FitsFor r new h
+  reply-fits fed journal given taken other payload w reply all =
+      for-head size fed journal given taken other payload h.peer w head is (λ (x : Head). completes_form Side.Received x payload (zero_history journal) ≡ true)
+      (λ v. (fits size fed journal given taken payload v).0 all)
+
+  pub reply-breaks : BreaksFor r new h
+  reply-breaks fed journal given taken other payload rule place w none =
+      let same = same-rule rule Rule.ZeroReply place (modulo_2_64 (length fed - 1)) (for-head size fed journal given taken other payload h.peer w head is
+      (λ (x : Head). SettleError.Broken rule place ≡ SettleError.Broken Rule.ZeroReply (modulo_2_64 (length fed - 1)))
+      (λ v. subst (λ (o : Result Settled SettleError). IfErr o (λ error. error ≡ SettleError.Broken Rule.ZeroReply (modulo_2_64 (length fed - 1))))
+      none (broken size fed journal given taken payload v))) in (
+        same.0,
+        same.1,
+        for-head size fed journal given taken other payload h.peer w head is (λ (x : Head). completes_form Side.Received x payload (zero_history journal) ≡ false)
+            (λ v. not-true (completes_form Side.Received head payload (zero_history journal))
+            (λ form. not-ok r (SettleError.Broken rule place) none ((fits size fed journal given taken payload v).1 form))),
+      )
+
+  pub reply-waits : WaitsStill r new h
+  reply-waits fed journal given taken other payload w none = absurd (for-head size fed journal given taken other payload h.peer w head is (λ (x : Head). ⊥)
+      (λ v. let e : SettleError.NoMemory ≡ SettleError.Broken Rule.ZeroReply (modulo_2_64 (length fed - 1)) =
+      subst (λ (o : Result Settled SettleError). IfErr o (λ error. error ≡ SettleError.Broken Rule.ZeroReply (modulo_2_64 (length fed - 1))))
+      none (broken size fed journal given taken payload v) in cc))
+
+  -- the peer stands for something after it, unless it broke the rule
+  pub reply-reached : IsWaiting size head h.peer
+      → IfErr r (λ error. (rule : Rule) (place : ℕ) → error ≡ SettleError.Broken rule place
+      → new.ear.broken ≡ Some (record { rule = rule; place = place; left = 0 })) → IsReached size new
+  reply-reached waiting stopped = of r refl
+    where
+      of : (o : Result Settled SettleError) → r ≡ o → IsReached size new
+      of (Ok settled) at = reached-settled size head h.peer new waiting
+          (λ fed journal given taken payload w. subst (λ (o : Result Settled SettleError). OnOk o (Settles size fed journal given taken head payload new)) at
+          (ok size fed journal given taken payload w))
+      of (Err error) at =
+          let over : (fed : List ℕ) (journal : List Item) (given taken : Marks) (payload : List ℕ) → WaitsIn size fed journal given taken head payload h.peer
+          → new.ear.broken ≡ None → ⊥ =
+          λ fed journal given taken payload w none.
+          let is_error : error ≡ SettleError.Broken Rule.ZeroReply (modulo_2_64 (length fed - 1)) =
+          subst (λ (o : Result Settled SettleError). IfErr o (λ error. error ≡ SettleError.Broken Rule.ZeroReply (modulo_2_64 (length fed - 1)))) at
+          (broken size fed journal given taken payload w) in
+          let some = subst (λ (o : Result Settled SettleError). IfErr o (λ error. (rule : Rule) (place : ℕ) → error ≡ SettleError.Broken rule place
+          → new.ear.broken ≡ Some (record { rule = rule; place = place; left = 0 }))) at stopped Rule.ZeroReply (modulo_2_64 (length fed - 1)) is_error in
+          not-both new.ear.broken (record { rule = Rule.ZeroReply; place = modulo_2_64 (length fed - 1); left = 0 }) some none in
+          record {
+            going = λ none w. ∥∥₁_elim waiting (hlevel props) (λ s. absurd (over s.0 s.1 s.2 s.3 s.4 s.5 none));
+            waiting = λ other none w. ∥∥₁_elim waiting (hlevel props) (λ s. absurd (over s.0 s.1 s.2 s.3 s.4 s.5 none));
+          }
+
+-- ---- of a request
+
+module _ (h : Held) (new : Peer) (r : Result Settled SettleError) (head : Head) (is : h.peer.ear.waits ≡ Some head) where
+  abbrev window : ℕ
+  window = h.limits.window
+
+  pub request-decided : (said : Option Form) → said ≡ message_said h.peer.ear.text.octets
+      → IfOk r (λ settled. IsSettledBy (decide (standing_of h.role h.offers h.peer) said) said settled) → IsDecidedFor r new h
+  request-decided said says by fed journal given taken other payload w request =
+      subst (λ (form : Option Form). IfOk r (λ settled. IsSettledBy (decide (standing_of h.role h.offers h.peer) form) form settled))
+      (says-whole window fed journal given taken other payload h.peer w said says) by
+
+  pub request-waits : ((fed : List ℕ) (journal : List Item) (given taken : Marks) (payload : List ℕ) → WaitsIn window fed journal given taken head payload h.peer
+      → WaitsIn window fed journal given taken head payload new) → WaitsStill r new h
+  request-waits still fed journal given taken other payload w none =
+      for-head window fed journal given taken other payload h.peer w head is (λ (x : Head). WaitsIn window fed journal given taken x payload new)
+      (still fed journal given taken payload)

@@ -1,0 +1,27 @@
+-- There is room for a close, which starts no channel.
+use Rattle.std.proofs.Common.{◌≡◌, ℕ, ◌+◌, ◌≤◌, List, false, sym, subst, arith}
+use Rattle.std.specs.Prelude.{OnOk}
+use Rattle.beep_decide.specs.declared.limits.TheConstants.{MAX_CHANNELS}
+use Rattle.beep_peer.specs.Peering.{is_over, zero_waits}
+use Rattle.beep_peer.specs.Acts.{count_used}
+use Rattle.beep_peer.proofs.AskedLemmas.{few-used}
+use Rattle.beep_session.specs.Session.{Held}
+use Rattle.beep_session.specs.Acts.{AsksZero}
+use Rattle.beep_session.proofs.ActLemmas.{going-now, held-now}
+use Rattle.beep_session.proofs.session.Session.give_close.Goals as goal
+
+pub give-requires-clause-few : goal.give-requires-clause-few
+give-requires-clause-few c =
+    let size = c.self.inside.limits.window in
+    let peer = c.self.inside.peer in
+    let few : count_used peer ≤ MAX_CHANNELS + 1 =
+    few-used peer.lives peer.management (held-now size peer (going-now size peer c.self.invariant.0.reached
+    (subst (λ (h : Held). is_over h.peer ≡ false) (sym c.self.view_is) c.requires.going)
+    (subst (λ (h : Held). zero_waits h.peer ≡ false) (sym c.self.view_is) c.requires.settled))) in
+    let now : count_used c.args.self.now.peer ≤ MAX_CHANNELS + 1 = subst (λ (h : Held). count_used h.peer ≤ MAX_CHANNELS + 1) c.self.view_is few in
+    omega (arith, now)
+
+pub returns-clause-ok : goal.returns-clause-ok
+returns-clause-ok c fed rest journal given taken s =
+    subst (λ (o : List ℕ). OnOk c.give.result (AsksZero c.args.self.now.limits.window fed rest journal given taken o c.give.new.self.peer))
+    c.in_ok-text.ensures.text (c.give.ensures.ok fed rest journal given taken s)

@@ -1,0 +1,45 @@
+-- A message of a reply is given by the peer, for each journal for which the session stood.
+use Rattle.std.proofs.Common.{◌≡◌, ℕ, List, true, false, ap, sym, subst}
+use Rattle.std.specs.Prelude.{OnOk, IfOk, IfSome}
+use Rattle.beep_frame.specs.declared.kind.Kind.{Kind}
+use Rattle.beep_frame.specs.Frame.{is_msg}
+use Rattle.beep_frame.specs.Modulo.{modulo_2_64}
+use Rattle.beep_history.specs.Journal.{Item}
+use Rattle.beep_inbox.specs.declared.part.Part.{Part}
+use Rattle.beep_channel.specs.Stands.{ends_of}
+use Rattle.beep_standing.specs.Standing.{Marks}
+use Rattle.beep_peer.specs.Peering.{IsPeer, IsGoing, is_over, zero_waits}
+use Rattle.beep_giving.specs.Giving.{GivesMessage, TakesMarks}
+use Rattle.beep_session.specs.Session.{Held}
+use Rattle.beep_session.proofs.ActLemmas.{going-now, held-now}
+use Rattle.beep_session.proofs.GiveLemmas.{given-reached, session-gives, taken-reached, session-takes}
+use Rattle.beep_session.proofs.session.Session.give_reply.Goals as goal
+
+-- some journal is one for which the peer stood
+going : (c : goal.After-give_reply) → IsGoing c.self.inside.limits.window c.self.inside.peer
+going c =
+    going-now c.self.inside.limits.window c.self.inside.peer c.self.invariant.0.reached
+    (subst (λ (h : Held). is_over h.peer ≡ false) (sym c.self.view_is) c.requires.open.going)
+    (subst (λ (h : Held). zero_waits h.peer ≡ false) (sym c.self.view_is) c.requires.open.settled)
+
+pub invariant_of-self : goal.invariant_of-self
+invariant_of-self c = (
+  record {
+    limits = c.self.invariant.0.limits;
+    offers = c.self.invariant.0.offers;
+    reached = given-reached c.args.n c.args.kind c.args.octets.now c.self.inside.limits.window c.self.inside.peer c.give_reply.new.peer (going c)
+        c.give_reply.result (c.give_reply.ensures.ok c.self.inside.limits.window) c.give_reply.ensures.err;
+  },
+  c.self.invariant.1,
+)
+
+pub returns-clause-ok : goal.returns-clause-ok
+returns-clause-ok c =
+    session-gives c.args.n c.args.kind c.args.octets.now c.args.self.now _ c.give_reply.result
+    (subst (λ (h : Held). (fed rest : List ℕ) (journal : List Item) (given taken : Marks) → IsPeer h.limits.window fed rest journal given taken h.peer
+    → OnOk c.give_reply.result (GivesMessage c.args.n h.limits.window fed rest journal given taken c.args.kind c.args.octets.now c.give_reply.new.peer))
+    c.self.view_is (c.give_reply.ensures.ok c.self.inside.limits.window))
+    (ap (λ (h : Held). record h { peer = c.give_reply.new.peer }) c.self.view_is)
+
+pub returns-clause-owes : goal.returns-clause-owes
+returns-clause-owes c answers = c.give_reply.ensures.owes (held-now c.self.inside.limits.window c.self.inside.peer (going c)) answers

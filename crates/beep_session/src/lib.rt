@@ -1,0 +1,18 @@
+//! One peer of a session: what it keeps, what it does with the octets that it is fed, what it sends
+//! next, and what a program may do with its channels (RFC 3080, sections 2.1 to 2.3; RFC 3081,
+//! section 3.1).
+#![tactic(auto)]
+
+mod event;
+mod handles;
+mod limits;
+mod listing;
+mod session;
+
+pub use beep_answering::{MAX_OFFERS, Offers, Settled};
+pub use beep_peer::{CloseError, ReleaseError, SettleError, StartError};
+pub use event::Event;
+pub use handles::{Answering, ClosingChannel, Duty, OpenChannel, Owed};
+pub use limits::{GREATEST_SIZE, Limits, MAX_PIECE};
+pub use listing::{MAX_URI, is_uri, one_profile};
+pub use session::Session;

@@ -1,0 +1,260 @@
+//! One peer of a session.
+ghost use Rattle.std.specs.Prelude.{◌≡◌, ◌≢◌, ◌<◌, ◌≤◌, ◌+◌, ◌-◌, ◌++◌, ℕ, List, length, take, map, min, true, false, None, Some, Err, IfOk, IsOk, OnOk, OnErr, option_map};
+ghost use Rattle.std.specs.List.{list_all};
+ghost use Rattle.beep_frame.specs.declared.rule.Rule.{Rule as RuleValue};
+ghost use Rattle.beep_frame.specs.declared.head.Head.{Head as HeadValue};
+ghost use Rattle.beep_frame.specs.declared.spelling.TheConstants.{SPELL_ROOM};
+ghost use Rattle.beep_session.specs.declared.limits.TheConstants.{MAX_PIECE};
+ghost use Rattle.beep_frame.specs.Modulo.{modulo_2_64};
+ghost use Rattle.beep_frame.specs.Frame.{is_msg};
+ghost use Rattle.beep_history.specs.declared.journal.Side.{Side};
+ghost use Rattle.beep_history.specs.Journal.{Item};
+ghost use Rattle.beep_mgmt.specs.Form.{form_of};
+ghost use Rattle.beep_mgmt.specs.Message.{message_said, message_text};
+ghost use Rattle.beep_journal.specs.Zero.{zero_history, gathered, completes_form};
+ghost use Rattle.beep_standing.specs.Standing.{Marks};
+ghost use Rattle.beep_decide.specs.Decide.{decide as decided};
+ghost use Rattle.beep_decide.specs.Plain.{plain_offer};
+ghost use Rattle.beep_speaking.specs.declared.emit.Emit.{Emit as EmitValue};
+ghost use Rattle.beep_session.specs.declared.event.Event.{Event as EventValue};
+ghost use Rattle.beep_peer.specs.declared.settle_error.SettleError.{SettleError as SettleErrorValue};
+
+mod acts;
+mod giving;
+mod looks;
+
+use crate::event::Event;
+use crate::limits::Limits;
+use beep_answering::{Offers, Settled, greeting_text};
+use beep_decide::Standing;
+use beep_frame::Head;
+use beep_journal::Role;
+use beep_mgmt::Mgmt;
+use beep_octets::{NoMemory, Octets};
+use beep_peer::{Peer, SettleError, said_in, settle_reply, settle_request, speak, stand};
+use beep_speaking::Emit;
+use std::alloc::Global;
+use std::marker::Model;
+
+/// One peer: it obeys what it is fed, decides what channel zero asks, and says what goes out.
+#[derive(Drop)]
+pub struct Session {
+    alloc: Global,
+    peer: Peer,
+    standing: Standing,
+    limits: Limits,
+    scratch: Octets,
+}
+
+impl Model for Session {
+    ghost use Rattle.std.specs.Prelude.{map, length, ◌+◌, ◌≤◌};
+    ghost use Rattle.beep_decide.specs.Plain.{plain_offer};
+    ghost use Rattle.beep_session.specs.Session.{Held, IsSession};
+
+    ghost Value = { Held };
+
+    ghost view = { λ s. record {
+      role = s.standing.role;
+      offers = map plain_offer s.standing.offers.items;
+      limits = s.limits;
+      peer = s.peer;
+    } };
+
+    ghost invariant = { λ s. IsSession (record {
+      role = s.standing.role;
+      offers = map plain_offer s.standing.offers.items;
+      limits = s.limits;
+      peer = s.peer;
+    }) × (s.limits.piece ≤ length s.scratch.octets + s.scratch.spare) };
+}
+
+impl Session {
+    ghost use Rattle.beep_peer.specs.Peering.{IsPeer, WaitsIn, is_over, zero_waits};
+    ghost use Rattle.beep_peer.specs.Calls.{Begins, Settles, Speaks};
+    ghost use Rattle.beep_peer.specs.Left.{left_to_say};
+    ghost use Rattle.beep_peer.specs.Waiting.{IsStuck};
+    ghost use Rattle.beep_session.specs.Feeds.{Feeds};
+    ghost use Rattle.beep_answering.specs.Decided.{NoneTunes, IsSettledBy};
+    ghost use Rattle.beep_answering.specs.Sent.{is_uri, greeting_of};
+    ghost use Rattle.beep_session.specs.Session.{AreLimits};
+    ghost use Rattle.beep_peer.specs.Standing.{standing_of};
+
+    /// A session that has begun: its greeting is the first message to go out.
+    pub fn new(
+        alloc: Global,
+        role: Role,
+        offers: Offers,
+        limits: Limits,
+    ) -> Result<Session, NoMemory>
+        requires limits { AreLimits limits }
+        requires uris { list_all (λ offer. is_uri offer.uri) offers ≡ true }
+        requires none { NoneTunes (map plain_offer offers) }
+        ensures stands { IfOk result (λ session. Begins limits.window
+            (message_text (greeting_of (map plain_offer offers))) session.peer) }
+        ensures terms { IfOk result (λ session. (session.role ≡ role)
+            × (session.offers ≡ map plain_offer offers) × (session.limits ≡ limits)) }
+    {
+        let offers = offers.into_vec();
+        let greeting = greeting_text(alloc, &offers)?;
+        let peer = Peer::begin(alloc, limits.window, greeting)?;
+        let mut scratch = Octets::new(alloc);
+        scratch.reserve(limits.piece as usize)?;
+        Ok(Session {
+            alloc,
+            peer,
+            standing: Standing {
+                role,
+                offers,
+                live: Vec::new(alloc),
+                starting: Vec::new(alloc),
+                closing: Vec::new(alloc),
+                leaving: false,
+            },
+            limits,
+            scratch,
+        })
+    }
+
+    // ---- what comes and goes
+
+    /// Uses octets up to the next event, and answers how many.
+    pub fn feed(&mut self, bytes: &[u8]) -> (usize, Event)
+        ensures within { result.0 ≤ length bytes.now }
+        ensures all { result.1 ≡ EventValue.More → result.0 ≡ length bytes.now }
+        ensures answers { (fed rest : List ℕ) (journal : List Item) (given taken : Marks)
+            → self.old.peer.released ≡ false
+            → IsPeer self.old.limits.window fed rest journal given taken self.old.peer
+            → Feeds result.1 self.old.limits.window (take result.0 bytes.now) fed journal given
+            taken self.new.peer }
+        ensures released { self.old.peer.released ≡ true
+            → (result.0 ≡ 0) × (result.1 ≡ EventValue.Released) × (self.new ≡ self.old) }
+        ensures broken { (rule : RuleValue) (place left : ℕ) → self.old.peer.released ≡ false
+            → self.old.peer.ear.broken
+            ≡ Some (record { rule = rule; place = place; left = left })
+            → (result.0 ≡ 0) × (result.1 ≡ EventValue.Broken rule place)
+            × (self.new ≡ self.old) }
+        ensures same { self.new ≡ record self.old { peer = self.new.peer } }
+    {
+        if self.peer.released {
+            return (0, Event::Released);
+        }
+        let (count, heard) = self.peer.ear.feed(&mut self.peer.lives, bytes);
+        (count, Event::of(heard))
+    }
+
+    /// Settles the message of channel zero that waits.
+    pub fn settle(&mut self) -> Result<Settled, SettleError>
+        requires waits { zero_waits self.old.peer ≡ true }
+        ensures ok { (fed : List ℕ) (journal : List Item) (given taken : Marks) (head : HeadValue)
+            (payload : List ℕ) → WaitsIn self.old.limits.window fed journal given taken head
+            payload self.old.peer → OnOk result (Settles self.old.limits.window fed journal given
+            taken head payload self.new.peer) }
+        ensures decided { (fed : List ℕ) (journal : List Item) (given taken : Marks)
+            (head : HeadValue) (payload : List ℕ) → WaitsIn self.old.limits.window fed journal
+            given taken head payload self.old.peer → is_msg head.kind ≡ true
+            → IfOk result (λ settled. IsSettledBy (decided
+            (standing_of self.old.role self.old.offers self.old.peer)
+            (message_said (gathered Side.Received (zero_history journal) ++ payload)))
+            (message_said (gathered Side.Received (zero_history journal) ++ payload)) settled) }
+
+        // A reply without its form breaks ZeroReply, at the last octet of its last frame.
+        ensures fits { (fed : List ℕ) (journal : List Item) (given taken : Marks)
+            (head : HeadValue) (payload : List ℕ) → WaitsIn self.old.limits.window fed journal
+            given taken head payload self.old.peer → is_msg head.kind ≡ false → IsOk result
+            → completes_form Side.Received head payload (zero_history journal) ≡ true }
+        ensures broken { (fed : List ℕ) (journal : List Item) (given taken : Marks)
+            (head : HeadValue) (payload : List ℕ) (rule : RuleValue) (place : ℕ)
+            → WaitsIn self.old.limits.window fed journal given taken head payload self.old.peer
+            → result ≡ Err (SettleErrorValue.Broken rule place)
+            → (rule ≡ RuleValue.ZeroReply) × (place ≡ modulo_2_64 (length fed - 1))
+            × (completes_form Side.Received head payload (zero_history journal) ≡ false) }
+        ensures stopped { (rule : RuleValue) (place : ℕ)
+            → result ≡ Err (SettleErrorValue.Broken rule place) → self.new.peer.ear.broken
+            ≡ Some (record { rule = rule; place = place; left = 0 }) }
+
+        // No answer is held back whose wait is over.
+        ensures stuck { OnOk result (IsStuck self.new.peer.lives self.new.peer.management) }
+
+        ensures memory { (fed : List ℕ) (journal : List Item) (given taken : Marks)
+            (head : HeadValue) (payload : List ℕ) → WaitsIn self.old.limits.window fed journal
+            given taken head payload self.old.peer → result ≡ Err SettleErrorValue.NoMemory
+            → WaitsIn self.old.limits.window fed journal given taken head payload
+            self.new.peer }
+        ensures same { self.new ≡ record self.old { peer = self.new.peer } }
+    {
+        let Some(head) = self.peer.ear.waiting() else {
+            unreachable!()
+        };
+        let said = match said_in(self.alloc, self.peer.ear.text()) {
+            Ok(said) => said,
+            Err(NoMemory) => return Err(SettleError::NoMemory),
+        };
+        if !head.kind.is_msg() {
+            return settle_reply(&mut self.peer, &head, said);
+        }
+        match self.settle_asked(&head, said) {
+            Ok(settled) => Ok(settled),
+            Err(NoMemory) => Err(SettleError::NoMemory),
+        }
+    }
+
+    /// A request of the peer that waits, and says this, is answered by what stands.
+    fn settle_asked(&mut self, head: &Head, said: Option<Mgmt>) -> Result<Settled, NoMemory>
+        requires going { self.old.peer.ear.broken ≡ None }
+        requires waits { self.old.peer.ear.waits ≡ Some head.now }
+        requires said { option_map form_of said ≡ message_said self.old.peer.ear.text.octets }
+        requires request { is_msg head.now.kind ≡ true }
+        ensures ok { (fed : List ℕ) (journal : List Item) (given taken : Marks)
+            (payload : List ℕ) → WaitsIn self.old.limits.window fed journal given taken head.now
+            payload self.old.peer → OnOk result (Settles self.old.limits.window fed journal given
+            taken head.now payload self.new.peer) }
+        ensures decided { IfOk result (λ settled. IsSettledBy (decided
+            (standing_of self.old.role self.old.offers self.old.peer) (option_map form_of said))
+            (option_map form_of said) settled) }
+        ensures err { OnErr result ((fed : List ℕ) (journal : List Item) (given taken : Marks)
+            (payload : List ℕ) → WaitsIn self.old.limits.window fed journal given taken head.now
+            payload self.old.peer → WaitsIn self.old.limits.window fed journal given taken
+            head.now payload self.new.peer) }
+        ensures stuck { OnOk result (IsStuck self.new.peer.lives self.new.peer.management) }
+        ensures same { self.new ≡ record self.old { peer = self.new.peer } }
+    {
+        stand(&mut self.standing, &self.peer)?;
+        settle_request(
+            self.alloc,
+            &mut self.peer,
+            &self.standing,
+            self.limits.window,
+            head,
+            said,
+        )
+    }
+
+    /// Appends to `out` what goes next, of at most `max` octets of payload.
+    pub fn emit(&mut self, max: u32, out: &mut Octets) -> Emit
+        requires least { 0 < max }
+        requires most { max ≤ MAX_PIECE }
+        requires room { max + SPELL_ROOM ≤ out.old.spare }
+        requires settled { zero_waits self.old.peer ≡ false }
+        ensures speaks { (fed rest : List ℕ) (journal : List Item) (given taken : Marks)
+            → is_over self.old.peer ≡ false
+            → IsPeer self.old.limits.window fed rest journal given taken self.old.peer
+            → Speaks result self.old.limits.window (min max self.old.limits.piece) fed rest
+            journal given taken self.old.peer self.new.peer out.old.octets out.new.octets }
+        ensures over { is_over self.old.peer ≡ true
+            → (result ≡ EmitValue.Nothing) × (self.new ≡ self.old) × (out.new ≡ out.old) }
+        ensures falls { result ≢ EmitValue.Nothing
+            → left_to_say self.new.peer.lives self.new.peer.management
+            < left_to_say self.old.peer.lives self.old.peer.management }
+        ensures stuck { (head : HeadValue) → result ≡ EmitValue.Data head
+            → IsStuck self.new.peer.lives self.new.peer.management }
+        ensures still { IsStuck self.old.peer.lives self.old.peer.management
+            → IsStuck self.new.peer.lives self.new.peer.management }
+        ensures same { self.new ≡ record self.old { peer = self.new.peer } }
+    {
+        if self.is_over() {
+            return Emit::Nothing;
+        }
+        let most = max.min(self.limits.piece);
+        speak(&mut self.peer, &mut self.scratch, most, out)
+    }
+}
