@@ -1,15 +1,21 @@
 //! What holds of channel zero between two lawful ends, as facts: each function does nothing, and
 //! its contract is the fact.
-ghost use Rattle.std.specs.Prelude.{◌≡◌, true, ℕ, List, None, Some};
+ghost use Rattle.std.specs.Prelude.{◌≡◌, true, ℕ, ◌<◌, List, [], ◌∷◌, ◌++◌, None, Some};
 ghost use Rattle.beep_frame.specs.declared.head.Head.{Head};
 ghost use Rattle.beep_frame.specs.Frame.{is_reply};
 ghost use Rattle.beep_history.specs.declared.journal.Side.{Side};
 ghost use Rattle.beep_history.specs.Journal.{Item};
+ghost use Rattle.beep_history.specs.Marks.{Mark, marks};
 ghost use Rattle.beep_history.specs.Broken.{under_way};
-ghost use Rattle.beep_journal.specs.Zero.{zero_history, completes_form};
+ghost use Rattle.beep_journal.specs.Lives.{lives, is_live};
+ghost use Rattle.beep_journal.specs.Zero.{zero_history, completes_form, events};
+ghost use Rattle.beep_journal.specs.Life.{life};
 ghost use Rattle.beep_journal.specs.Broken.{broken_content};
 ghost use Rattle.beep_two_ends.specs.Seen.{Sees};
 ghost use Rattle.beep_two_ends.specs.OneLife.{IsLawful, NeverBroke};
+ghost use Rattle.beep_two_ends.specs.Run.{Step};
+ghost use Rattle.beep_lawful.specs.declared.terms.Terms.{Terms};
+ghost use Rattle.beep_two_journals.specs.Session.{BreaksNothing, NeverBroke as NeverBrokeSession, AreEnds, IsRun};
 
 /// Who sees all that was sent in a session sees all that was sent on channel zero, with the implied
 /// requests (RFC 3080, section 2.3.1).
@@ -37,4 +43,62 @@ pub fn content_breaks_no_rule_where_it_arrives()
         → under_way Side.Sent (zero_history mine) ≡ Some head
         → broken_content Side.Sent mine head payload ≡ None
         → broken_content Side.Received theirs head payload ≡ None }
+{}
+
+/// Whatever two lawful ends of a session do, with crossing starts and closes and numbers that are
+/// used again, nothing that arrives breaks a rule: no header, no content and no SEQ.
+pub fn nothing_breaks_a_rule_in_a_session()
+    ensures at_a { (of_a of_b : Terms) (steps : List Step) (a b to_a to_b : List Item)
+        → AreEnds of_a of_b → IsRun of_a of_b steps a b to_a to_b → NeverBrokeSession a }
+    ensures at_b { (of_a of_b : Terms) (steps : List Step) (a b to_a to_b : List Item)
+        → AreEnds of_a of_b → IsRun of_a of_b steps a b to_a to_b → NeverBrokeSession b }
+{}
+
+/// The oldest item on a wire between them breaks no rule where it arrives.
+pub fn the_next_item_of_a_session_breaks_no_rule()
+    ensures to_a { (of_a of_b : Terms) (steps : List Step) (a b to_a to_b : List Item)
+        (item : Item) → AreEnds of_a of_b → IsRun of_a of_b steps a b (to_a ++ item ∷ []) to_b
+        → BreaksNothing a item }
+    ensures to_b { (of_a of_b : Terms) (steps : List Step) (a b to_a to_b : List Item)
+        (item : Item) → AreEnds of_a of_b → IsRun of_a of_b steps a b to_a (to_b ++ item ∷ [])
+        → BreaksNothing b item }
+{}
+
+/// Where a number is live at an end, and all that it sent has arrived, the other end has begun as
+/// many lives of it: NoSuchChannel comes of no lawful end (RFC 3080, section 2.3.1.2).
+pub fn both_ends_count_lives_alike()
+    ensures from_a { (of_a of_b : Terms) (steps : List Step) (a b to_a : List Item) (number : ℕ)
+        → AreEnds of_a of_b → IsRun of_a of_b steps a b to_a []
+        → is_live number (events a) ≡ true → lives number (events b) ≡ lives number (events a) }
+    ensures from_b { (of_a of_b : Terms) (steps : List Step) (a b to_b : List Item) (number : ℕ)
+        → AreEnds of_a of_b → IsRun of_a of_b steps a b [] to_b
+        → is_live number (events b) ≡ true → lives number (events a) ≡ lives number (events b) }
+{}
+
+/// The history of each life is one of a lawful end of beep_two_ends, at both ends, and nothing that
+/// arrived in it broke a rule.
+pub fn each_life_of_a_session_is_lawful()
+    ensures at_a { (of_a of_b : Terms) (steps : List Step) (a b to_a to_b : List Item)
+        (number count : ℕ) → AreEnds of_a of_b → IsRun of_a of_b steps a b to_a to_b
+        → 0 < number → 0 < count
+        → IsLawful (life number count a) × NeverBroke (life number count a) }
+    ensures at_b { (of_a of_b : Terms) (steps : List Step) (a b to_a to_b : List Item)
+        (number count : ℕ) → AreEnds of_a of_b → IsRun of_a of_b steps a b to_a to_b
+        → 0 < number → 0 < count
+        → IsLawful (life number count b) × NeverBroke (life number count b) }
+{}
+
+/// Of each life of a session the marks that arrived at an end are the first of those that the other
+/// end sent: octets, ends of messages and the requests that replies name.
+pub fn what_arrives_of_a_life_is_a_prefix_of_what_was_sent()
+    ensures at_a { (of_a of_b : Terms) (steps : List Step) (a b to_a to_b : List Item)
+        (number count : ℕ) → AreEnds of_a of_b → IsRun of_a of_b steps a b to_a to_b
+        → 0 < number → 0 < count
+        → (later : List Mark) × (marks Side.Sent (life number count b)
+        ≡ marks Side.Received (life number count a) ++ later) }
+    ensures at_b { (of_a of_b : Terms) (steps : List Step) (a b to_a to_b : List Item)
+        (number count : ℕ) → AreEnds of_a of_b → IsRun of_a of_b steps a b to_a to_b
+        → 0 < number → 0 < count
+        → (later : List Mark) × (marks Side.Sent (life number count a)
+        ≡ marks Side.Received (life number count b) ++ later) }
 {}
