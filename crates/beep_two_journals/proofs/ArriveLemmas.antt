@@ -1,21 +1,18 @@
 -- What arrives at an end of a session breaks none of its rules.
-use Rattle.std.proofs.Common.{◌≡◌, ◌⊎◌, inl, inr, ℕ, zero, suc, ◌+◌, ◌-◌, ◌<◌, ◌≤◌, ◌==◌, nat_lt, Bool, true, false, not, ◌&&◌, ◌||◌, if◌then◌else◌, List, [], ◌∷◌, ◌++◌, length, Option, Some, None, refl, sym, ap, ◌∙◌, arith, subst, append_assoc}
+use Rattle.std.proofs.Common.{◌≡◌, ℕ, ◌==◌, Bool, true, false, not, ◌&&◌, if◌then◌else◌, List, [], ◌∷◌, ◌++◌, Option, Some, None, refl, sym, ap, ◌∙◌, subst, append_assoc}
 use Rattle.std.specs.Prelude.{is_some}
-use Rattle.std.proofs.lemmas.Bool.Decides.{nat_tests}
 use Rattle.beep_frame.specs.declared.head.Head.{Head}
-use Rattle.beep_frame.specs.declared.kind.Kind.{Kind}
 use Rattle.beep_frame.specs.declared.rule.Rule.{Rule}
 use Rattle.beep_frame.specs.declared.seq.Seq.{Seq}
-use Rattle.beep_frame.specs.Frame.{is_reply, same_kind}
 use Rattle.beep_history.specs.declared.journal.Side.{Side}
 use Rattle.beep_history.specs.Journal.{Item, began, passed, told, turned}
 use Rattle.beep_history.specs.Marks.{first, frames, previous}
 use Rattle.beep_history.specs.Broken.{under_way, broken_rule, KeepsExchangeRules}
 use Rattle.beep_history.specs.Windows.{is_bad_ack}
-use Rattle.beep_journal.specs.Zero.{channel_of, zero_history, completes_form}
+use Rattle.beep_journal.specs.Zero.{zero_history}
 use Rattle.beep_journal.specs.Life as of_journal
 use Rattle.beep_journal.specs.Life.{history, is_there, life_under_way}
-use Rattle.beep_journal.specs.Broken.{none_tunes, is_greeting, broken_head, broken_seq, broken_content}
+use Rattle.beep_journal.specs.Broken.{none_tunes, is_greeting, broken_seq, broken_content}
 use Rattle.beep_lawful.specs.declared.terms.Terms.{Terms}
 use Rattle.beep_lawful.specs.Lawful as lawful
 use Rattle.beep_two_ends.specs.Seen.{is_received, arrived, sent, Sees}
@@ -24,63 +21,22 @@ use Rattle.beep_two_ends.proofs.SplitLemmas.{lawful-earlier, whole-earlier}
 use Rattle.beep_two_ends.proofs.WaysLemmas.{frames-arrived, frames-sent, under_way-arrived, under_way-sent}
 use Rattle.beep_two_ends.proofs.WindowLemmas.{unbroken}
 use Rattle.beep_two_journals.specs.Session.{BreaksNothing}
-use Rattle.beep_two_journals.proofs.Entries.{Entry, on, came, went, turned_entry, comes, lives, is_live, life_now, life, IsLawfulEnd, SeesAll, Causal, IsLawfulLives, NeverBrokeAll, IsWholeOn, entries, IsLawfulSession, WasNeverBroken}
+use Rattle.beep_two_journals.proofs.Entries.{Entry, on, came, went, lives, is_live, life_now, IsLawfulEnd, SeesAll, Causal, NeverBrokeAll, IsWholeOn, entries, IsLawfulSession, WasNeverBroken}
 use Rattle.beep_two_journals.proofs.CountLemmas.{same_count}
-use Rattle.beep_two_journals.proofs.WalkLemmas.{end-earlier, end-tail}
+use Rattle.beep_two_journals.proofs.WalkLemmas.{end-earlier}
 use Rattle.beep_two_journals.proofs.TailLemmas.{whole-all-earlier}
 use Rattle.beep_two_journals.proofs.EntriesLemmas.{way_entries, entries-came, entries-went, entries-before}
 use Rattle.beep_two_journals.proofs.SessionLemmas.{entries_see, zero-before}
 use Rattle.beep_two_journals.proofs.ZeroLemmas.{zero_sees}
 use Rattle.beep_two_journals.proofs.ClosesLemmas.{keeps-earlier, forms-earlier}
-use Rattle.beep_two_journals.proofs.FormLemmas.{form-arrives}
-use Rattle.beep_two_journals.proofs.BridgeLemmas.{Bridged, bridged, HasForm, HasForms}
-use Rattle.beep_two_journals.proofs.LifeLemmas.{IsSteady, live-same, now-same, history-same, history-zero, there-live, live-there, zero-there, itself}
-use Rattle.beep_two_journals.proofs.KeptLemmas.{KeepsRules, rules_keep, head_keeps, frame_keeps, Behind, behind}
+use Rattle.beep_two_journals.proofs.FormLemmas.{form-arrives, form_is, content_is}
+use Rattle.beep_two_journals.proofs.PassingLemmas.{Bridged}
+use Rattle.beep_two_journals.proofs.BridgeLemmas.{bridged, HasForms, has_form}
+use Rattle.beep_two_journals.proofs.LifeLemmas.{IsSteady, now-same, history-same, history-zero, there-live, live-there, zero-there, itself}
+use Rattle.beep_two_journals.proofs.KeptLemmas.{rules_keep, head_keeps, frame_keeps, Behind, behind}
 
 clash : (b : Bool) → b ≡ true → b ≡ false → ⊥
 clash b t f = let e : true ≡ false = sym t ∙ f in cc
-
--- ---- content
-
-no-rule : (b : Bool) → (if b then Some Rule.ZeroReply else None) ≡ None → b ≡ false
-no-rule true e = cc
-no-rule false e = refl
-
-content-is : (c r m f : Bool) → (c && r && not m && not f) ≡ false → c ≡ true → r ≡ true → m ≡ false → f ≡ true
-content-is c r m true e a b d = refl
-content-is c r m false e a b d = let bad = rw (a, b, d) at e in cc
-
--- a whole reply of channel zero has its form where its content breaks no rule
-pub form_is : (side : Side) (past : List Item) (head : Head) (payload : List ℕ) → broken_content side past head payload ≡ None → (head.channel == 0) ≡ true
-    → is_reply head.kind ≡ true → head.more ≡ false → completes_form side head payload (zero_history past) ≡ true
-unfolding broken_content
-form_is side past head payload e z r m =
-    content-is (head.channel == 0) (is_reply head.kind) head.more (completes_form side head payload (zero_history past))
-    (no-rule (head.channel == 0 && is_reply head.kind && not head.more && not (completes_form side head payload (zero_history past))) e) z r m
-
-content-none : (c r m f : Bool) → (c ≡ true → r ≡ true → m ≡ false → f ≡ true) → (if c && r && not m && not f then Some Rule.ZeroReply else None) ≡ None
-content-none true true false f h = let e = h refl refl refl in rw e refl
-content-none true true true f h = refl
-content-none true false m f h = refl
-content-none false r m f h = refl
-
--- and the other way
-pub content_is : (side : Side) (past : List Item) (head : Head) (payload : List ℕ)
-    → ((head.channel == 0) ≡ true → is_reply head.kind ≡ true → head.more ≡ false → completes_form side head payload (zero_history past) ≡ true)
-    → broken_content side past head payload ≡ None
-unfolding broken_content
-content_is side past head payload h = content-none (head.channel == 0) (is_reply head.kind) head.more (completes_form side head payload (zero_history past)) h
-
-rpy-reply : (kind : Kind) → same_kind Kind.Rpy kind ≡ true → is_reply kind ≡ true
-rpy-reply Kind.Msg e = cc
-rpy-reply Kind.Rpy e = refl
-rpy-reply Kind.Err e = cc
-rpy-reply Kind.Ans e = cc
-rpy-reply Kind.Nul e = cc
-
-pub has_form : (side : Side) (past : List Item) (head : Head) (payload : List ℕ) → broken_content side past head payload ≡ None → (head.channel == 0) ≡ true
-    → HasForm side head payload (zero_history past)
-has_form side past head payload e z k m = form_is side past head payload e z (rpy-reply head.kind k) m
 
 -- ---- the moment at which a header arrived
 
@@ -149,15 +105,14 @@ module _ (of_mine : Terms) (own : ℕ → Bool) (later mine theirs : List Item) 
   head-life head m true z = (
     zero-there head.channel z theirs,
     ap (λ (xs : List Item). broken_rule Side.Received xs head) (history-zero head.channel z theirs)
-    ∙ (subst (λ (xs : List Item). one.NeverBroke xs) (in-zero z) m.after.on_zero).0.1,
+        ∙ (subst (λ (xs : List Item). one.NeverBroke xs) (in-zero z) m.after.on_zero).0.1,
   )
     where
       in-zero : (head.channel == 0) ≡ true → zero_history (began Side.Received head ∷ theirs) ≡ began Side.Received head ∷ zero_history theirs
       in-zero z = rw z refl
   head-life head m false z =
       let w = entry-above (began Side.Received head) head.channel (rw z refl) m in
-      let live : is_live head.channel (entries theirs) ≡ true = w.0 refl in
-      (
+      let live : is_live head.channel (entries theirs) ≡ true = w.0 refl in (
         live-there head.channel z theirs (same (began Side.Received head) m) live,
         ap (λ (xs : List Item). broken_rule Side.Received xs head)
             (history-same head.channel z theirs (keeps (began Side.Received head) m) m.theirs_forms m.theirs_steady live) ∙ (w.1 live).0.1,
@@ -168,8 +123,7 @@ module _ (of_mine : Terms) (own : ℕ → Bool) (later mine theirs : List Item) 
       let k = head_keeps of_mine mine head m.mine_lawful in
       let l = head-life head m (head.channel == 0) refl in
       let previous_is : previous Side.Received theirs ≡ previous Side.Sent mine =
-      ap first (sym (frames-arrived theirs) ∙ ap (frames Side.Received) m.sees.all ∙ frames-sent mine) in
-      (
+      ap first (sym (frames-arrived theirs) ∙ ap (frames Side.Received) m.sees.all ∙ frames-sent mine) in (
         under-same (began Side.Received head) m ∙ k.apart,
         rules_keep Side.Received theirs head (record {
           size = k.rules.size;
@@ -200,9 +154,9 @@ module _ (of_mine : Terms) (own : ℕ → Bool) (later mine theirs : List Item) 
       let w = entry-above (told Side.Received seq) seq.channel (rw z refl) m in
       none-bad (is_there seq.channel theirs) (is_bad_ack Side.Received (history seq.channel theirs) seq)
       (λ t.
-          let live = there-live seq.channel z theirs (same (told Side.Received seq) m) t in
-          ap (λ (xs : List Item). is_bad_ack Side.Received xs seq)
-          (history-same seq.channel z theirs (keeps (told Side.Received seq) m) m.theirs_forms m.theirs_steady live) ∙ (w.1 live).0)
+      let live = there-live seq.channel z theirs (same (told Side.Received seq) m) t in
+      ap (λ (xs : List Item). is_bad_ack Side.Received xs seq)
+      (history-same seq.channel z theirs (keeps (told Side.Received seq) m) m.theirs_forms m.theirs_steady live) ∙ (w.1 live).0)
     where
       none-bad : (t b : Bool) → (t ≡ true → b ≡ false) → (if t && b then Some Rule.BadAck else None) ≡ None
       none-bad true b h = rw (h refl) refl
@@ -217,14 +171,14 @@ module _ (of_mine : Terms) (own : ℕ → Bool) (later mine theirs : List Item) 
   frame-content head payload m =
       let k = frame-behind head payload m in
       content_is Side.Received theirs head payload (λ z r more.
-          let before = zero-before later (passed Side.Sent head payload ∷ mine) in
-          let inside : zero_history (passed Side.Sent head payload ∷ mine) ≡ passed Side.Sent head payload ∷ zero_history mine = in-zero z in
-          let whole_is : zero_history (later ++ passed Side.Sent head payload ∷ mine) ≡ before.newer ++ passed Side.Sent head payload ∷ zero_history mine =
-          before.is ∙ ap (λ (xs : List Item). before.newer ++ xs) inside in
-          let l = lawful-earlier before.newer (passed Side.Sent head payload ∷ zero_history mine) (subst (λ (xs : List Item). one.IsLawful xs) whole_is m.mine_law.on_zero) in
-          let w = whole-earlier before.newer (passed Side.Sent head payload ∷ zero_history mine) (subst (λ (xs : List Item). one.NeverBroke xs) whole_is m.mine_whole.on_zero) in
-          form-arrives (zero_history mine) (zero_history theirs) head payload l.1 w.1 m.theirs_law.on_zero m.theirs_whole.on_zero (zeros mine theirs m.sees) l.0.begun r
-          (form_is Side.Sent mine head payload (frame_keeps of_mine mine head payload m.mine_lawful).content z r more))
+      let before = zero-before later (passed Side.Sent head payload ∷ mine) in
+      let inside : zero_history (passed Side.Sent head payload ∷ mine) ≡ passed Side.Sent head payload ∷ zero_history mine = in-zero z in
+      let whole_is : zero_history (later ++ passed Side.Sent head payload ∷ mine) ≡ before.newer ++ passed Side.Sent head payload ∷ zero_history mine =
+      before.is ∙ ap (λ (xs : List Item). before.newer ++ xs) inside in
+      let l = lawful-earlier before.newer (passed Side.Sent head payload ∷ zero_history mine) (subst (λ (xs : List Item). one.IsLawful xs) whole_is m.mine_law.on_zero) in
+      let w = whole-earlier before.newer (passed Side.Sent head payload ∷ zero_history mine) (subst (λ (xs : List Item). one.NeverBroke xs) whole_is m.mine_whole.on_zero) in
+      form-arrives (zero_history mine) (zero_history theirs) head payload l.1 w.1 m.theirs_law.on_zero m.theirs_whole.on_zero (zeros mine theirs m.sees) l.0.begun r
+      (form_is Side.Sent mine head payload (frame_keeps of_mine mine head payload m.mine_lawful).content z r more))
     where
       in-zero : (head.channel == 0) ≡ true → zero_history (passed Side.Sent head payload ∷ mine) ≡ passed Side.Sent head payload ∷ zero_history mine
       in-zero z = rw z refl

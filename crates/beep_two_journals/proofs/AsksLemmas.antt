@@ -1,9 +1,9 @@
 -- What the requests and replies that a lawful end sends on channel zero say.
-use Rattle.std.proofs.Common.{◌≡◌, ℕ, zero, suc, ◌+◌, ◌-◌, ◌<◌, ◌≤◌, ◌==◌, nat_lt, Bool, true, false, not, ◌&&◌, ◌||◌, if◌then◌else◌, List, [], ◌∷◌, ◌++◌, length, Option, Some, None, refl, sym, ap, ◌∙◌, arith, subst}
+use Rattle.std.proofs.Common.{◌≡◌, ℕ, ◌+◌, ◌-◌, ◌≤◌, ◌==◌, nat_lt, Bool, true, false, not, ◌&&◌, ◌||◌, if◌then◌else◌, List, [], ◌∷◌, length, Option, Some, None, refl, sym, ap, ◌∙◌, arith, subst}
 use Rattle.std.proofs.lemmas.Bool.{le-ltb}
 use Rattle.std.proofs.lemmas.Bool.Decides.{nat_tests}
 use Rattle.beep_history.specs.declared.journal.Side.{Side}
-use Rattle.beep_history.specs.Journal.{Item, other}
+use Rattle.beep_history.specs.Journal.{Item}
 use Rattle.beep_history.specs.Marks.{frames, is_answered}
 use Rattle.beep_history.specs.Moments.{replies_ended}
 use Rattle.beep_history.specs.Broken.{KeepsExchangeRules}
@@ -16,8 +16,8 @@ use Rattle.beep_journal.specs.Zero.{zero_history, events, said_at, asked as aske
 use Rattle.beep_decide.specs.Asks.{is_start_of, is_close_of, has_waiting, has_own_start, has_own_release, has_close_among}
 use Rattle.beep_decide.specs.Numbers.{other_role, may_start}
 use Rattle.beep_lawful.specs.Lawful.{breaks_start_number, breaks_grant_number, breaks_close_starting}
-use Rattle.beep_two_journals.proofs.Entries.{Says, starts, closes, says_else, Entry, is_start, is_close, asked, replied, said, lives, is_live, NoStart, IsLawfulAsk, says_of, entries}
-use Rattle.beep_two_journals.proofs.BridgeLemmas.{Bridged}
+use Rattle.beep_two_journals.proofs.Entries.{starts, says_else, Entry, is_start, is_close, replied, is_live, NoStart, IsLawfulAsk, says_of, entries}
+use Rattle.beep_two_journals.proofs.PassingLemmas.{Bridged}
 use Rattle.beep_two_journals.proofs.LifeLemmas.{live-same}
 
 pub or-one : (a b : Bool) → (a || b) ≡ false → a ≡ false
@@ -159,8 +159,7 @@ module _ (role : Role) (own : ℕ → Bool) (mine : (n : ℕ) → may_start role
 
       by-number : (t : Bool) → is_start n (if t then starts m else says_else) ≡ true → (own n ≡ false) × (is_live n (entries past) ≡ false)
       by-number true f =
-          subst (λ (j : ℕ). (own j ≡ false) × (is_live j (entries past) ≡ false)) (number m n f)
-          (
+          subst (λ (j : ℕ). (own j ≡ false) × (is_live j (entries past) ≡ false)) (number m n f) (
             theirs m (not-not (may_start (other_role role) m) (or-one (not (may_start (other_role role) m)) (landed.is_live m (events past)) both)),
             sym (live-same m past b) ∙ or-two (not (may_start (other_role role) m)) (landed.is_live m (events past)) both,
           )

@@ -1,11 +1,11 @@
 -- When the `ok` to a close may go out, over the entries of a journal.
-use Rattle.std.proofs.Common.{◌≡◌, ◌⊎◌, inl, inr, ℕ, zero, suc, ◌+◌, ◌-◌, ◌<◌, ◌≤◌, ◌==◌, nat_lt, Bool, true, false, not, ◌&&◌, ◌||◌, if◌then◌else◌, List, [], ◌∷◌, ◌++◌, length, Option, Some, None, refl, sym, ap, ◌∙◌, arith, subst}
+use Rattle.std.proofs.Common.{◌≡◌, ◌⊎◌, inl, inr, ℕ, ◌+◌, ◌<◌, ◌==◌, Bool, true, false, not, ◌&&◌, ◌||◌, if◌then◌else◌, List, [], ◌∷◌, ◌++◌, length, Option, refl, sym, ap, ◌∙◌, arith, subst}
 use Rattle.std.proofs.lemmas.Bool.{ltb-true}
 use Rattle.std.proofs.lemmas.Bool.Decides.{nat_tests}
 use Rattle.beep_frame.specs.declared.head.Head.{Head}
 use Rattle.beep_history.specs.declared.journal.Side.{Side}
-use Rattle.beep_history.specs.Journal.{Item, began, passed, told, other}
-use Rattle.beep_history.specs.Marks.{begins_request, Request, requests}
+use Rattle.beep_history.specs.Journal.{Item, began, passed, told}
+use Rattle.beep_history.specs.Marks.{begins_request, requests}
 use Rattle.beep_history.specs.Broken.{KeepsExchangeRules}
 use Rattle.beep_mgmt.specs.Form.{Form}
 use Rattle.beep_journal.specs.Lives as landed
@@ -15,10 +15,9 @@ use Rattle.beep_journal.specs.Life.{history, is_of_life}
 use Rattle.beep_decide.specs.Asks.{has_own_close}
 use Rattle.beep_lawful.specs.Closing.{is_drained, is_ready, asks_again, begins_asking, has_come, was_quiet_since}
 use Rattle.beep_lawful.specs.Lawful.{begins_own, breaks_asked_closing}
-use Rattle.beep_two_ends.specs.OneLife.{IsLawful, NeverBroke}
 use Rattle.beep_two_ends.proofs.WindowLemmas.{unbroken}
-use Rattle.beep_two_journals.proofs.Entries.{Says, Entry, is_close, asked, replied, said, lives, ended, names, is_live, life, IsDrained, DrainedSince, CloseWaits, IsLawfulLives, NeverBrokeAll, says_of, entries}
-use Rattle.beep_two_journals.proofs.BridgeLemmas.{Bridged, bridged, HasForms, keeps-if}
+use Rattle.beep_two_journals.proofs.Entries.{Entry, is_close, asked, said, lives, ended, names, is_live, life, DrainedSince, CloseWaits, IsLawfulLives, NeverBrokeAll, says_of, entries}
+use Rattle.beep_two_journals.proofs.BridgeLemmas.{bridged, HasForms, keeps-if}
 use Rattle.beep_two_journals.proofs.LifeLemmas.{IsSteady, now-same, life-same, history-same, number, itself}
 use Rattle.beep_two_journals.proofs.EntriesLemmas.{entries-before}
 use Rattle.beep_two_journals.proofs.EndsLemmas.{ended-later}

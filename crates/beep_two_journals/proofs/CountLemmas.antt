@@ -1,9 +1,9 @@
 -- Both ends count the lives of a number alike.
-use Rattle.std.proofs.Common.{◌≡◌, ℕ, zero, suc, ◌+◌, ◌<◌, ◌≤◌, ◌==◌, Bool, true, false, not, ◌&&◌, if◌then◌else◌, List, [], ◌∷◌, ◌++◌, length, refl, sym, ap, ◌∙◌, arith, subst, length-append}
+use Rattle.std.proofs.Common.{◌≡◌, ℕ, Bool, true, false, not, if◌then◌else◌, List, [], ◌∷◌, ◌++◌, refl, sym, ap, ◌∙◌, subst}
 use Rattle.beep_history.specs.declared.journal.Side.{Side}
-use Rattle.beep_history.specs.Journal.{turned, Item, other}
+use Rattle.beep_history.specs.Journal.{turned, Item}
 use Rattle.beep_two_ends.specs.Seen.{is_received}
-use Rattle.beep_two_journals.proofs.Entries.{Says, Entry, asks, replies, on, is_start, asked, replied, said, lives, is_live, NoStart, IsLawfulEnd, came, went, comes, turned_entry, SeesAll, SameCount}
+use Rattle.beep_two_journals.proofs.Entries.{Says, Entry, asks, replies, on, is_start, asked, replied, said, lives, is_live, NoStart, IsLawfulEnd, came, went, SeesAll, SameCount}
 use Rattle.beep_two_journals.proofs.LivesLemmas.{granted, granted-stable, granted-more, Starter, starter, Acceptor, acceptor}
 
 asked-if : (side : Side) (n : ℕ) (item : Item) (past : List Entry) (b : Bool) → asked side (if b then on n item ∷ past else past) ≡ asked side past

@@ -1,16 +1,16 @@
 -- In a life that is drained nothing goes on.
-use Rattle.std.proofs.Common.{◌≡◌, ℕ, zero, suc, min, ◌+◌, ◌-◌, ◌<◌, ◌≤◌, ◌==◌, nat_lt, Bool, true, false, not, ◌&&◌, ◌||◌, if◌then◌else◌, List, [], ◌∷◌, ◌++◌, length, take, Option, Some, None, refl, sym, ap, ◌∙◌, arith, subst, length-take}
+use Rattle.std.proofs.Common.{◌≡◌, ℕ, ◌+◌, ◌-◌, ◌<◌, ◌≤◌, ◌==◌, nat_lt, Bool, true, false, not, ◌&&◌, ◌||◌, if◌then◌else◌, List, [], ◌∷◌, length, Option, Some, None, refl, sym, ap, ◌∙◌, arith, length-take}
 use Rattle.std.specs.Option.{option_map_or}
-use Rattle.std.proofs.lemmas.Bool.{lt-ltb, ltb-true, ltb-false}
+use Rattle.std.proofs.lemmas.Bool.{lt-ltb, ltb-false}
 use Rattle.std.proofs.lemmas.Bool.Decides.{nat_tests}
 use Rattle.beep_frame.specs.declared.head.Head.{Head}
 use Rattle.beep_frame.specs.Frame.{is_msg, is_reply}
 use Rattle.beep_history.specs.declared.journal.Side.{Side}
 use Rattle.beep_history.specs.Journal.{Item, began, passed, told, other}
-use Rattle.beep_history.specs.Marks.{frames, previous, Request, requests, is_whole, is_answered, waiting}
+use Rattle.beep_history.specs.Marks.{frames, previous, requests, waiting}
 use Rattle.beep_history.specs.Moments.{is_last, replies_ended}
 use Rattle.beep_history.specs.Broken.{under_way, KeepsExchangeRules}
-use Rattle.beep_history.proofs.SoundLemmas.{unfinished_request, is_open, IsDue, Sound, waiting-newest}
+use Rattle.beep_history.proofs.SoundLemmas.{unfinished_request, is_open, Sound, waiting-newest}
 use Rattle.beep_history.proofs.PassedLemmas.{sound}
 use Rattle.beep_history.proofs.UnbrokenLemmas.{min-less}
 use Rattle.beep_history.proofs.RepliesLemmas.{answered, same-threshold}

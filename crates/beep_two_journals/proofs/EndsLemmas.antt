@@ -1,12 +1,12 @@
 -- What a close names, and the moment at which a life ended.
-use Rattle.std.proofs.Common.{◌≡◌, ℕ, zero, suc, ◌+◌, ◌<◌, ◌≤◌, ◌==◌, nat_lt, Bool, true, false, not, ◌&&◌, ◌||◌, if◌then◌else◌, List, [], ◌∷◌, ◌++◌, length, refl, sym, ap, ◌∙◌, arith, subst, length-append, append_assoc}
+use Rattle.std.proofs.Common.{◌≡◌, ℕ, suc, ◌+◌, ◌<◌, ◌≤◌, ◌==◌, nat_lt, Bool, true, false, not, ◌&&◌, ◌||◌, if◌then◌else◌, List, [], ◌∷◌, ◌++◌, length, refl, sym, ap, ◌∙◌, arith, subst, length-append, append_assoc}
 use Rattle.std.proofs.lemmas.Bool.Decides.{nat_tests}
 use Rattle.beep_history.specs.declared.journal.Side.{Side}
-use Rattle.beep_history.specs.Journal.{Item, other, same_side}
-use Rattle.beep_two_journals.proofs.Entries.{Says, starts, closes, says_else, Entry, asks, replies, on, is_start, is_close, asked, replied, said, answers_to, lives, ended, names, is_live, life_now, life, NoStart, IsLawfulEnd, IsLawfulAsk, came, went, comes, turned_entry, SeesAll, SameCount, Causal}
+use Rattle.beep_history.specs.Journal.{other, same_side}
+use Rattle.beep_two_journals.proofs.Entries.{Says, starts, closes, says_else, Entry, asks, replies, on, is_start, is_close, asked, replied, said, answers_to, lives, ended, names, NoStart, IsLawfulEnd, IsLawfulAsk, came, went, comes, turned_entry, SeesAll, Causal}
 use Rattle.beep_two_journals.proofs.LivesLemmas.{said-stable}
-use Rattle.beep_two_journals.proofs.CountLemmas.{AskedBefore, same_count_idle, ZeroAgrees, zero_agrees}
-use Rattle.beep_two_journals.proofs.WalkLemmas.{entry-twice, end-tail, end-earlier, ended-still, ended-earlier}
+use Rattle.beep_two_journals.proofs.CountLemmas.{AskedBefore, same_count_idle, zero_agrees}
+use Rattle.beep_two_journals.proofs.WalkLemmas.{entry-twice, end-tail, end-earlier, ended-earlier}
 
 came-if : (entry : Entry) (past : List Entry) (b : Bool) → comes entry ≡ b → came (entry ∷ past) ≡ (if b then entry ∷ came past else came past)
 came-if entry past b e = rw e

@@ -298,7 +298,6 @@ abbrev pub entries : List Item → List Entry
 entries [] = []
 entries (item ∷ past) = adds item past ++ entries past
 
-
 -- what an end sent was lawful: on channel zero, of lives, and in them
 pub record IsLawfulSession (own : ℕ → Bool) (past : List Item) : Type 0 where
   pub on_zero : IsLawful (zero_history past)

@@ -1,14 +1,13 @@
 -- The entries of a journal, side by side.
-use Rattle.std.proofs.Common.{◌≡◌, ◌⊎◌, inl, inr, ℕ, ◌==◌, Bool, true, false, not, ◌&&◌, ◌||◌, if◌then◌else◌, List, [], ◌∷◌, ◌++◌, map, refl, sym, ap, ◌∙◌, append_assoc, subst}
-use Rattle.beep_frame.specs.declared.head.Head.{Head}
+use Rattle.std.proofs.Common.{◌≡◌, ◌⊎◌, inl, inr, ◌==◌, Bool, true, false, not, ◌||◌, if◌then◌else◌, List, [], ◌∷◌, ◌++◌, map, refl, sym, ap, ◌∙◌, append_assoc}
 use Rattle.beep_frame.specs.declared.kind.Kind.{Kind}
 use Rattle.beep_history.specs.declared.journal.Side.{Side}
 use Rattle.beep_frame.specs.Frame.{is_msg, is_ans, same_kind}
-use Rattle.beep_history.specs.Journal.{turned, Item, began, passed, told, same_side, other, opening}
+use Rattle.beep_history.specs.Journal.{turned, Item, began, passed, told, opening}
 use Rattle.beep_history.specs.Marks.{frames}
-use Rattle.beep_two_ends.specs.Seen.{arrived, sent, is_received, Sees}
+use Rattle.beep_two_ends.specs.Seen.{arrived, sent, is_received}
 use Rattle.beep_history.specs.Moments.{replies_ended}
-use Rattle.beep_two_journals.proofs.Entries.{Says, Entry, asks, replies, on, came, went, comes, turned_entry, SeesAll}
+use Rattle.beep_two_journals.proofs.Entries.{Entry, asks, replies, on, came, went, comes, turned_entry}
 use Rattle.beep_two_journals.proofs.Entries.{read, speaks, adds, entries}
 use Rattle.beep_journal.specs.Zero.{zero_history, gathered}
 use Rattle.beep_two_ends.proofs.WaysLemmas.{frames-arrived, frames-sent}

@@ -1,14 +1,14 @@
 -- A reply of channel zero has at both ends the form that its request asks for.
-use Rattle.std.proofs.Common.{◌≡◌, ℕ, zero, suc, ◌+◌, ◌<◌, ◌≤◌, ◌==◌, nat_lt, Bool, true, false, not, ◌&&◌, if◌then◌else◌, List, [], ◌∷◌, ◌++◌, length, Option, Some, None, refl, sym, ap, ◌∙◌, arith, subst, length-append}
+use Rattle.std.proofs.Common.{◌≡◌, ℕ, ◌<◌, ◌==◌, Bool, true, false, not, ◌&&◌, if◌then◌else◌, List, [], ◌∷◌, ◌++◌, length, Option, Some, None, refl, sym, ap, ◌∙◌, arith, length-append}
 use Rattle.std.proofs.lemmas.Bool.Decides.{nat_tests}
 use Rattle.beep_frame.specs.declared.head.Head.{Head}
 use Rattle.beep_frame.specs.declared.rule.Rule.{Rule}
 use Rattle.beep_frame.specs.Frame.{is_msg, is_reply}
 use Rattle.beep_history.specs.declared.journal.Side.{Side}
-use Rattle.beep_history.specs.Journal.{Item, began, passed, told, same_side, other}
+use Rattle.beep_history.specs.Journal.{Item, began, passed, told, same_side}
 use Rattle.beep_history.specs.Marks.{frames, position_of}
 use Rattle.beep_history.specs.Moments.{replies_ended}
-use Rattle.beep_history.specs.Broken.{under_way, KeepsExchangeRules}
+use Rattle.beep_history.specs.Broken.{under_way}
 use Rattle.beep_history.proofs.RepliesLemmas.{position-is}
 use Rattle.beep_mgmt.specs.Form.{Form}
 use Rattle.beep_mgmt.specs.Message.{message_said}

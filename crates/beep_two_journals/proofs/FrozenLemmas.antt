@@ -1,14 +1,13 @@
 -- A life that has ended goes no further, and what arrived of a life was sent of it, whether it has ended or not.
-use Rattle.std.proofs.Common.{◌≡◌, ℕ, zero, suc, ◌+◌, ◌<◌, ◌≤◌, ◌==◌, nat_lt, Bool, true, false, not, ◌&&◌, ◌||◌, if◌then◌else◌, List, [], ◌∷◌, ◌++◌, length, refl, sym, ap, ◌∙◌, arith, subst, append_assoc}
+use Rattle.std.proofs.Common.{◌≡◌, ℕ, ◌<◌, ◌==◌, Bool, true, false, not, ◌&&◌, if◌then◌else◌, List, [], ◌∷◌, ◌++◌, refl, sym, ap, ◌∙◌, arith, subst, append_assoc}
 use Rattle.std.proofs.lemmas.Bool.Decides.{nat_tests}
-use Rattle.beep_history.specs.declared.journal.Side.{Side}
-use Rattle.beep_history.specs.Journal.{Item, other}
+use Rattle.beep_history.specs.Journal.{Item}
 use Rattle.beep_two_ends.specs.Seen.{arrived, sent}
-use Rattle.beep_two_journals.proofs.Entries.{Says, Entry, asks, replies, on, lives, ended, is_live, life_now, life, IsLawfulEnd, came, went, Causal}
-use Rattle.beep_two_journals.proofs.WalkLemmas.{same_life, WhenAll, when_all, SentBefore, sent-before, end-earlier, live_parts}
-use Rattle.beep_two_journals.proofs.EndsLemmas.{came-append, ended-later, EndMoment, end_moment}
+use Rattle.beep_two_journals.proofs.Entries.{Entry, asks, replies, on, lives, ended, is_live, life_now, life, IsLawfulEnd, came, went, Causal}
+use Rattle.beep_two_journals.proofs.WalkLemmas.{same_life, when_all, SentBefore, sent-before, end-earlier, live_parts}
+use Rattle.beep_two_journals.proofs.EndsLemmas.{came-append, ended-later, end_moment}
 use Rattle.beep_two_journals.proofs.TailLemmas.{causal-parts}
-use Rattle.beep_two_journals.proofs.StaysLemmas.{ends-here, true-false}
+use Rattle.beep_two_journals.proofs.OkLemmas.{ends-here, true-false}
 
 not-true : (b : Bool) → (b ≡ true → ⊥) → b ≡ false
 not-true true h = absurd (h refl)

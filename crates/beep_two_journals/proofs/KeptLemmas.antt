@@ -1,5 +1,5 @@
 -- What the items of a lawful end keep, test by test.
-use Rattle.std.proofs.Common.{◌≡◌, ℕ, zero, suc, ◌+◌, ◌<◌, ◌≤◌, ◌==◌, nat_lt, Bool, true, false, not, ◌&&◌, ◌||◌, if◌then◌else◌, List, [], ◌∷◌, ◌++◌, length, Option, Some, None, refl, sym, ap, ◌∙◌, arith, subst}
+use Rattle.std.proofs.Common.{◌≡◌, ℕ, ◌==◌, Bool, true, false, not, ◌&&◌, if◌then◌else◌, List, [], ◌∷◌, length, Option, Some, None, refl, ap, ◌∙◌, arith}
 use Rattle.std.specs.Prelude.{is_some}
 use Rattle.std.specs.Option.{is_none}
 use Rattle.std.specs.List.{list_any, filter}
@@ -7,18 +7,17 @@ use Rattle.std.proofs.lemmas.Bool.Decides.{nat_tests}
 use Rattle.beep_frame.specs.declared.head.Head.{Head}
 use Rattle.beep_frame.specs.declared.kind.Kind.{Kind}
 use Rattle.beep_frame.specs.declared.rule.Rule.{Rule}
-use Rattle.beep_frame.specs.declared.seq.Seq.{Seq}
-use Rattle.beep_frame.specs.Frame.{same_kind, is_reply}
+use Rattle.beep_frame.specs.Frame.{same_kind}
 use Rattle.beep_history.specs.declared.journal.Side.{Side}
 use Rattle.beep_history.specs.Journal.{Item, began, passed, told}
 use Rattle.beep_history.specs.Marks.{Request, requests, is_answered, is_whole}
 use Rattle.beep_history.specs.Broken.{under_way, broken_rule, first_of}
-use Rattle.beep_journal.specs.Zero.{zero_history, completes_form}
+use Rattle.beep_journal.specs.Zero.{zero_history}
 use Rattle.beep_journal.specs.Life.{history, is_there}
-use Rattle.beep_journal.specs.Broken.{Tuning, none_tunes, breaks_size, breaks_no_greeting, breaks_no_such_channel, breaks_not_alone, breaks_zero_reply, session_rules, or_else, broken_head, broken_content}
+use Rattle.beep_journal.specs.Broken.{none_tunes, breaks_size, breaks_no_greeting, breaks_no_such_channel, breaks_not_alone, breaks_zero_reply, session_rules, or_else, broken_head, broken_content}
 use Rattle.beep_lawful.specs.declared.breach.Breach.{Breach}
 use Rattle.beep_lawful.specs.declared.terms.Terms.{Terms}
-use Rattle.beep_lawful.specs.Lawful.{same_flag, same_head, is_apart, breaks_rule, breaks_apart, breaks_content, breaks_asked_closing, breaks_ok_too_soon, breaks_close_unanswered, breaks_after_end, breaks_start_number, breaks_grant_number, breaks_close_starting, breaks_asked_drained, request_said, granted_said, granted_position, unlawful_head, unlawful_frame, unlawful_seq, unlawful_item, is_lawful, IsLawful}
+use Rattle.beep_lawful.specs.Lawful.{same_flag, same_head, is_apart, breaks_rule, breaks_apart, breaks_content, breaks_asked_closing, breaks_ok_too_soon, breaks_close_unanswered, breaks_after_end, breaks_start_number, breaks_grant_number, breaks_close_starting, breaks_asked_drained, request_said, granted_said, granted_position, unlawful_head, unlawful_frame, unlawful_item, is_lawful, IsLawful}
 use Rattle.beep_lawful.proofs.LawfulLemmas.{both-one, both-two}
 
 next-none : (holds : Bool) (breach : Breach) (others : Option Breach) → (if holds then Some breach else others) ≡ None → (holds ≡ false) × (others ≡ None)

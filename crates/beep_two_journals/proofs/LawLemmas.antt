@@ -1,28 +1,24 @@
 -- What a lawful end of a session sends is lawful on channel zero, in what it says of lives, and in each life.
-use Rattle.std.proofs.Common.{◌≡◌, ◌⊎◌, inl, inr, ℕ, zero, suc, ◌+◌, ◌-◌, ◌<◌, ◌≤◌, ◌==◌, nat_lt, Bool, true, false, not, ◌&&◌, ◌||◌, if◌then◌else◌, List, [], ◌∷◌, ◌++◌, length, Option, Some, None, refl, sym, ap, ◌∙◌, arith, subst}
-use Rattle.std.proofs.lemmas.Bool.{lt-ltb}
+use Rattle.std.proofs.Common.{◌≡◌, ◌⊎◌, ℕ, ◌+◌, ◌-◌, ◌<◌, ◌≤◌, ◌==◌, Bool, true, false, not, ◌&&◌, ◌||◌, if◌then◌else◌, List, [], ◌∷◌, ◌++◌, length, Option, Some, None, refl, sym, ap, ◌∙◌, arith, subst}
 use Rattle.std.proofs.lemmas.Bool.Decides.{nat_tests}
 use Rattle.beep_frame.specs.declared.head.Head.{Head}
 use Rattle.beep_frame.specs.declared.head.TheConstants.{MAX_NUMBER}
 use Rattle.beep_frame.specs.declared.kind.Kind.{Kind}
-use Rattle.beep_frame.specs.declared.rule.Rule.{Rule}
 use Rattle.beep_frame.specs.declared.seq.Seq.{Seq}
 use Rattle.beep_frame.specs.Frame.{is_msg, is_ans, is_reply, same_kind}
-use Rattle.beep_seq.specs.Wire.{wire_number}
 use Rattle.beep_history.specs.declared.journal.Side.{Side}
-use Rattle.beep_history.specs.Journal.{Item, began, passed, told, turned, other}
-use Rattle.beep_history.specs.Marks.{frames, position_of, passed_octets}
+use Rattle.beep_history.specs.Journal.{Item, began, passed, told, turned}
+use Rattle.beep_history.specs.Marks.{frames, position_of}
 use Rattle.beep_history.specs.Moments.{replies_ended}
 use Rattle.beep_history.specs.Broken.{under_way, broken_rule, KeepsExchangeRules}
-use Rattle.beep_history.specs.Windows.{greatest_edge}
 use Rattle.beep_history.proofs.RepliesLemmas.{position-is}
 use Rattle.beep_mgmt.specs.Form.{Form, greeting, start, chosen, close, okay, fault}
 use Rattle.beep_mgmt.specs.Message.{message_said}
 use Rattle.beep_journal.specs.Lives as landed
-use Rattle.beep_journal.specs.Zero.{channel_of, zero_history, events, gathered, said_at, said_to, completes_form, asked as asked_of}
+use Rattle.beep_journal.specs.Zero.{channel_of, zero_history, events, gathered, said_at, asked as asked_of}
 use Rattle.beep_journal.specs.Life as of_journal
 use Rattle.beep_journal.specs.Life.{history, is_there, is_of_life, life_under_way}
-use Rattle.beep_journal.specs.Broken.{none_tunes, broken_content}
+use Rattle.beep_journal.specs.Broken.{none_tunes}
 use Rattle.beep_decide.specs.Numbers.{other_role, may_start}
 use Rattle.beep_lawful.specs.declared.terms.Terms.{Terms}
 use Rattle.beep_lawful.specs.Closing.{was_quiet_since}
@@ -30,16 +26,17 @@ use Rattle.beep_lawful.specs.Lawful.{request_said, granted_said, granted_positio
 use Rattle.beep_lawful.specs.Lawful as lawful
 use Rattle.beep_lawful.proofs.LawfulLemmas.{seq-keeps, seq-says}
 use Rattle.beep_two_ends.specs.Seen.{is_received}
-use Rattle.beep_two_ends.specs.OneLife.{IsLawfulHead, IsLawfulFrame, IsLawfulSeq, IsLawful, NeverBroke}
+use Rattle.beep_two_ends.specs.OneLife.{IsLawfulHead, IsLawfulSeq, IsLawful}
 use Rattle.beep_two_ends.proofs.WindowLemmas.{unbroken}
-use Rattle.beep_two_journals.proofs.Entries.{Says, Entry, asks, replies, on, is_start, is_close, asked, replied, said, answers_to, lives, ended, names, is_live, life_now, life, IsLawfulReply, IsLawfulEnd, NoneBegins, DrainedSince, IsLawfulLives, says_of, read, speaks, adds, entries, IsLawfulSession, WasNeverBroken}
+use Rattle.beep_two_journals.proofs.Entries.{Entry, asks, replies, on, is_start, is_close, asked, replied, answers_to, lives, ended, names, is_live, life, IsLawfulReply, IsLawfulEnd, DrainedSince, IsLawfulLives, says_of, read, speaks, entries, IsLawfulSession, WasNeverBroken}
 use Rattle.beep_two_journals.proofs.WalkLemmas.{live_parts}
 use Rattle.beep_two_journals.proofs.TailLemmas.{life-lawful}
-use Rattle.beep_two_journals.proofs.WholesLemmas.{requests_ended, reply_after}
+use Rattle.beep_two_journals.proofs.WholesLemmas.{reply_after}
 use Rattle.beep_two_journals.proofs.FormLemmas.{count-asked}
-use Rattle.beep_two_journals.proofs.BridgeLemmas.{Bridged, bridged, HasForm, HasForms}
+use Rattle.beep_two_journals.proofs.PassingLemmas.{Bridged}
+use Rattle.beep_two_journals.proofs.BridgeLemmas.{bridged, HasForms, has_form}
 use Rattle.beep_two_journals.proofs.LifeLemmas.{IsSteady, history-same, history-zero, there-live, number, itself}
-use Rattle.beep_two_journals.proofs.KeptLemmas.{lawful-first, head_keeps, frame_keeps, Behind, behind, free}
+use Rattle.beep_two_journals.proofs.KeptLemmas.{lawful-first, head_keeps, frame_keeps, behind, free}
 use Rattle.beep_two_journals.proofs.AsksLemmas.{ask_law, reply_law, close-of}
 use Rattle.beep_two_journals.proofs.ClosesLemmas.{none_begins, drained_since}
 
@@ -77,28 +74,6 @@ of-life-same n k head payload past = by-number (head.channel == n)
     by-number : (b : Bool) → (b && (if b then of_journal.life_now n past else 0) == k) ≡ (b && of_journal.life_now n past == k)
     by-number true = refl
     by-number false = refl
-
-rpy-reply : (kind : Kind) → same_kind Kind.Rpy kind ≡ true → is_reply kind ≡ true
-rpy-reply Kind.Msg e = cc
-rpy-reply Kind.Rpy e = refl
-rpy-reply Kind.Err e = cc
-rpy-reply Kind.Ans e = cc
-rpy-reply Kind.Nul e = cc
-
-no-rule : (b : Bool) → (if b then Some Rule.ZeroReply else None) ≡ None → b ≡ false
-no-rule true e = cc
-no-rule false e = refl
-
-not-not : (b : Bool) → (true && true && true && not b) ≡ false → b ≡ true
-not-not true e = refl
-not-not false e = cc
-
-form_of-content : (head : Head) (payload : List ℕ) (past : List Item) → (head.channel == 0) ≡ true → broken_content Side.Sent past head payload ≡ None
-    → HasForm Side.Sent head payload (zero_history past)
-unfolding broken_content
-form_of-content head payload past z e k more =
-    not-not (completes_form Side.Sent head payload (zero_history past))
-    (rw (z, rpy-reply head.kind k, more) at (no-rule (head.channel == 0 && is_reply head.kind && not head.more && not (completes_form Side.Sent head payload (zero_history past))) e))
 
 module _ (terms : Terms) (own : ℕ → Bool) (mine : (n : ℕ) → may_start terms.role n ≡ true → own n ≡ true)
     (theirs : (n : ℕ) → may_start (other_role terms.role) n ≡ true → own n ≡ false) (narrow : terms.window ≤ MAX_NUMBER)
@@ -147,9 +122,14 @@ module _ (terms : Terms) (own : ℕ → Bool) (mine : (n : ℕ) → may_start te
         law = record {
           on_zero = subst (λ (xs : List Item). IsLawful xs) (sym (zero-out (began Side.Sent head) past z)) w.law.on_zero;
           of_ends = rw z ((λ f. live), w.law.of_ends);
-          of_lives = rw z
-              ((λ f. ((law, life-lawful n (lives n (entries past)) (entries past) (live_parts n (entries past) live).0 w.law.of_lives),
-                  (λ begins p c. none_begins past head keeps w.forms w.steady z live k.asked_closing begins p c), positive n z)), w.law.of_lives);
+          of_lives = rw z (
+            (λ f. (
+              (law, life-lawful n (lives n (entries past)) (entries past) (live_parts n (entries past) live).0 w.law.of_lives),
+              (λ begins p c. none_begins past head keeps w.forms w.steady z live k.asked_closing begins p c),
+              positive n z,
+            )),
+            w.law.of_lives,
+          );
         };
         forms = w.forms;
         steady = w.steady;
@@ -183,9 +163,14 @@ module _ (terms : Terms) (own : ℕ → Bool) (mine : (n : ℕ) → may_start te
         law = record {
           on_zero = subst (λ (xs : List Item). IsLawful xs) (sym (zero-out (told Side.Sent seq) past z)) w.law.on_zero;
           of_ends = rw z ((λ f. live), w.law.of_ends);
-          of_lives = rw z
-              ((λ f. ((seq-law seq (life n (lives n (entries past)) (entries past)) l h, life-lawful n (lives n (entries past)) (entries past) (live_parts n (entries past) live).0 w.law.of_lives),
-                  tt, positive n z)), w.law.of_lives);
+          of_lives = rw z (
+            (λ f. (
+              (seq-law seq (life n (lives n (entries past)) (entries past)) l h, life-lawful n (lives n (entries past)) (entries past) (live_parts n (entries past) live).0 w.law.of_lives),
+              tt,
+              positive n z,
+            )),
+            w.law.of_lives,
+          );
         };
         forms = w.forms;
         steady = w.steady;
@@ -208,9 +193,14 @@ module _ (terms : Terms) (own : ℕ → Bool) (mine : (n : ℕ) → may_start te
         law = record {
           on_zero = subst (λ (xs : List Item). IsLawful xs) (sym (zero-out (passed Side.Sent head payload) past z)) w.law.on_zero;
           of_ends = rw z ((λ f. live), w.law.of_ends);
-          of_lives = rw z
-              ((λ f. ((record { begun = begun; size = size }, life-lawful n (lives n (entries past)) (entries past) (live_parts n (entries past) live).0 w.law.of_lives),
-                  tt, positive n z)), w.law.of_lives);
+          of_lives = rw z (
+            (λ f. (
+              (record { begun = begun; size = size }, life-lawful n (lives n (entries past)) (entries past) (live_parts n (entries past) live).0 w.law.of_lives),
+              tt,
+              positive n z,
+            )),
+            w.law.of_lives,
+          );
         };
         forms = ((λ t. absurd (clash (head.channel == 0) t z)), w.forms);
         steady = ((λ f. under), w.steady);
@@ -237,10 +227,12 @@ module _ (terms : Terms) (own : ℕ → Bool) (mine : (n : ℕ) → may_start te
     request-added m more =
         let k = frame_keeps terms past head payload l in
         let form : Option Form = message_said (gathered Side.Sent (zero_history past) ++ payload) in
-        let said_is : request_said past head payload ≡ form = rw (z, m, more) refl in
-        (
-          (ask_law terms.role own mine theirs past keeps same form (ap (breaks_start_number terms.role past) (sym said_is) ∙ k.start_number)
-              (ap (breaks_close_starting past) (sym said_is) ∙ k.close_starting), w.law.of_ends),
+        let said_is : request_said past head payload ≡ form = rw (z, m, more) refl in (
+          (
+            ask_law terms.role own mine theirs past keeps same form (ap (breaks_start_number terms.role past) (sym said_is) ∙ k.start_number)
+                (ap (breaks_close_starting past) (sym said_is) ∙ k.close_starting),
+            w.law.of_ends,
+          ),
           w.law.of_lives,
         )
 
@@ -346,9 +338,10 @@ module _ (terms : Terms) (own : ℕ → Bool) (mine : (n : ℕ) → may_start te
           of_ends = rw z added.0;
           of_lives = rw z added.1;
         };
-        forms = ((λ t. form_of-content head payload past z (frame_keeps terms past head payload l).content), w.forms);
+        forms = ((λ t. has_form Side.Sent past head payload (frame_keeps terms past head payload l).content z), w.forms);
         steady = ((λ f. absurd (clash (head.channel == 0) z f)), w.steady);
       }
+
   -- ---- any item
 
   pub goes : (item : Item) → is_received item ≡ true → lawful.IsLawful terms none_tunes (turned item ∷ past) → Goes own (turned item ∷ past)

@@ -4,6 +4,7 @@ pub mod CountLemmas
 pub mod WalkLemmas
 pub mod EndsLemmas
 pub mod TailLemmas
+pub mod OkLemmas
 pub mod StaysLemmas
 pub mod PairLemmas
 pub mod ZeroLemmas
@@ -11,9 +12,10 @@ pub mod EntriesLemmas
 pub mod SessionLemmas
 pub mod PlaceLemmas
 pub mod WholesLemmas
-pub mod SaysLemmas
-pub mod BridgeLemmas
 pub mod FormLemmas
+pub mod SaysLemmas
+pub mod PassingLemmas
+pub mod BridgeLemmas
 pub mod LifeLemmas
 pub mod KeptLemmas
 pub mod DrainLemmas

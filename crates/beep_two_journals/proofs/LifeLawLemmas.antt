@@ -1,10 +1,12 @@
 -- What is known of each life in a run of two sessions.
-use Rattle.std.proofs.Common.{◌≡◌, ℕ, ◌+◌, ◌<◌, ◌==◌, Bool, true, false, not, List, [], ◌∷◌, ◌++◌, refl, sym, ap, ◌∙◌, arith, subst}
+use Rattle.std.proofs.Common.{◌≡◌, ℕ, ◌<◌, ◌==◌, Bool, true, false, not, List, [], ◌++◌, sym, ap, ◌∙◌, arith, subst}
 use Rattle.std.proofs.lemmas.Bool.Decides.{nat_tests}
 use Rattle.beep_history.specs.declared.journal.Side.{Side}
 use Rattle.beep_history.specs.Journal.{Item}
 use Rattle.beep_history.specs.Marks.{Mark, marks}
+use Rattle.beep_history.specs.Moments.{IsRising, reply_positions}
 use Rattle.beep_history.specs.Broken.{KeepsExchangeRules}
+use Rattle.beep_history.proofs.OrderLemmas.{replies-rise}
 use Rattle.beep_journal.specs.Lives as landed
 use Rattle.beep_journal.specs.Zero.{zero_history, events}
 use Rattle.beep_journal.specs.Life as of_journal
@@ -15,14 +17,13 @@ use Rattle.beep_two_ends.specs.OneLife as one
 use Rattle.beep_two_ends.specs.Run.{Step}
 use Rattle.beep_two_ends.proofs.WindowLemmas.{unbroken}
 use Rattle.beep_two_journals.specs.Session.{AreEnds, IsRun}
-use Rattle.beep_two_journals.proofs.Entries.{Entry, lives, is_live, life, entries, came, went, IsLawfulSession, WasNeverBroken}
+use Rattle.beep_two_journals.proofs.Entries.{is_live, life, entries}
 use Rattle.beep_two_journals.proofs.CountLemmas.{same_count}
 use Rattle.beep_two_journals.proofs.TailLemmas.{life-lawful, life-whole}
 use Rattle.beep_two_journals.proofs.WalkLemmas.{SentBefore}
-use Rattle.beep_two_journals.proofs.EntriesLemmas.{EntriesBefore}
 use Rattle.beep_two_journals.proofs.SessionLemmas.{entries_see, wire_entries}
-use Rattle.beep_two_journals.proofs.BridgeLemmas.{bridged, HasForms}
-use Rattle.beep_two_journals.proofs.LifeLemmas.{IsSteady, live-same, life-same}
+use Rattle.beep_two_journals.proofs.BridgeLemmas.{bridged}
+use Rattle.beep_two_journals.proofs.LifeLemmas.{live-same, life-same}
 use Rattle.beep_two_journals.proofs.NeverBreakLemmas.{All, run_all, swap}
 use Rattle.beep_two_journals.proofs.FrozenLemmas.{life_way}
 use Rattle.beep_two_journals.proofs.MarksLemmas.{marks_prefix}
@@ -84,18 +85,29 @@ module _ (of_a of_b : Terms) (steps : List Step) (a b to_a to_b : List Item) (e 
   turned : All of_b of_a (λ n. not (owner n)) b a to_b to_a
   turned = swap of_a of_b owner a b to_a to_b reached
 
-  pub life_at_a : (n k : ℕ) → 0 < n → 0 < k → one.IsLawful (of_journal.life n k a) × one.NeverBroke (of_journal.life n k a)
-  life_at_a n k above pos = (lawful_life of_a of_b owner a b to_a to_b reached n k above pos, whole_life of_a of_b owner a b to_a to_b reached n k above pos)
+  pub lawful_at_a : (n k : ℕ) → 0 < n → 0 < k → one.IsLawful (of_journal.life n k a)
+  lawful_at_a n k above pos = lawful_life of_a of_b owner a b to_a to_b reached n k above pos
 
-  pub life_at_b : (n k : ℕ) → 0 < n → 0 < k → one.IsLawful (of_journal.life n k b) × one.NeverBroke (of_journal.life n k b)
-  life_at_b n k above pos =
-      (lawful_life of_b of_a (λ n. not (owner n)) b a to_b to_a turned n k above pos, whole_life of_b of_a (λ n. not (owner n)) b a to_b to_a turned n k above pos)
+  pub lawful_at_b : (n k : ℕ) → 0 < n → 0 < k → one.IsLawful (of_journal.life n k b)
+  lawful_at_b n k above pos = lawful_life of_b of_a (λ m. not (owner m)) b a to_b to_a turned n k above pos
+
+  pub whole_at_a : (n k : ℕ) → 0 < n → 0 < k → one.NeverBroke (of_journal.life n k a)
+  whole_at_a n k above pos = whole_life of_a of_b owner a b to_a to_b reached n k above pos
+
+  pub whole_at_b : (n k : ℕ) → 0 < n → 0 < k → one.NeverBroke (of_journal.life n k b)
+  whole_at_b n k above pos = whole_life of_b of_a (λ m. not (owner m)) b a to_b to_a turned n k above pos
 
   pub prefix_at_b : (n k : ℕ) → 0 < n → 0 < k → (more : List Mark) × (marks Side.Sent (of_journal.life n k a) ≡ marks Side.Received (of_journal.life n k b) ++ more)
   prefix_at_b n k above pos = marks_arrive of_a of_b owner a b to_a to_b reached n k above pos
 
   pub prefix_at_a : (n k : ℕ) → 0 < n → 0 < k → (more : List Mark) × (marks Side.Sent (of_journal.life n k b) ≡ marks Side.Received (of_journal.life n k a) ++ more)
   prefix_at_a n k above pos = marks_arrive of_b of_a (λ n. not (owner n)) b a to_b to_a turned n k above pos
+
+  pub order_at_a : (n k : ℕ) → 0 < n → 0 < k → IsRising (reply_positions (marks Side.Received (of_journal.life n k a)))
+  order_at_a n k above pos = replies-rise Side.Received (of_journal.life n k a) (keeps-life of_a of_b owner a b to_a to_b reached n k above pos)
+
+  pub order_at_b : (n k : ℕ) → 0 < n → 0 < k → IsRising (reply_positions (marks Side.Received (of_journal.life n k b)))
+  order_at_b n k above pos = replies-rise Side.Received (of_journal.life n k b) (keeps-life of_b of_a (λ m. not (owner m)) b a to_b to_a turned n k above pos)
 
   -- where nothing lies on the wire to an end, it has seen all
   pub count_at_b : to_b ≡ [] → (n : ℕ) → landed.is_live n (events a) ≡ true → landed.lives n (events b) ≡ landed.lives n (events a)

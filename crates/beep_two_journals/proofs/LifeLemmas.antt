@@ -1,9 +1,8 @@
 -- The history of a life by the moments of a journal is that by its entries.
-use Rattle.std.proofs.Common.{◌≡◌, ℕ, zero, suc, ◌+◌, ◌<◌, ◌≤◌, ◌==◌, nat_lt, Bool, true, false, not, ◌&&◌, ◌||◌, if◌then◌else◌, List, [], ◌∷◌, ◌++◌, length, refl, sym, ap, ◌∙◌, arith, subst}
+use Rattle.std.proofs.Common.{◌≡◌, ℕ, ◌==◌, Bool, true, false, ◌&&◌, ◌||◌, if◌then◌else◌, List, [], ◌∷◌, ◌++◌, refl, sym, ap, ◌∙◌, arith, subst}
 use Rattle.std.proofs.lemmas.Bool.Decides.{nat_tests}
 use Rattle.beep_frame.specs.declared.head.Head.{Head}
 use Rattle.beep_frame.specs.declared.kind.Kind.{Kind}
-use Rattle.beep_frame.specs.declared.seq.Seq.{Seq}
 use Rattle.beep_frame.specs.Frame.{is_msg, is_ans, same_kind}
 use Rattle.beep_history.specs.declared.journal.Side.{Side}
 use Rattle.beep_history.specs.Journal.{Item, began, passed, told}
@@ -15,8 +14,9 @@ use Rattle.beep_journal.specs.Zero.{zero_history, gathered, events}
 use Rattle.beep_journal.specs.Life as of_journal
 use Rattle.beep_journal.specs.Life.{history, is_there, life_under_way}
 use Rattle.beep_journal.proofs.MomentLemmas.{apart-zero}
-use Rattle.beep_two_journals.proofs.Entries.{Says, Entry, asks, replies, on, lives, ended, is_live, life_now, life, read, speaks, adds, entries}
-use Rattle.beep_two_journals.proofs.BridgeLemmas.{Bridged, bridged, HasForm, HasForms, keeps-if}
+use Rattle.beep_two_journals.proofs.Entries.{Says, Entry, asks, replies, on, lives, is_live, life_now, life, read, speaks, entries}
+use Rattle.beep_two_journals.proofs.PassingLemmas.{Bridged}
+use Rattle.beep_two_journals.proofs.BridgeLemmas.{bridged, HasForms, keeps-if}
 
 pub number : (a b : ℕ) → (a == b) ≡ true → a ≡ b
 number a b e = grind (arith, nat_tests)

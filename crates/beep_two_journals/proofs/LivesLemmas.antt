@@ -1,10 +1,8 @@
 -- The lives of one number at one end.
-use Rattle.std.proofs.Common.{◌≡◌, ℕ, zero, suc, ◌+◌, ◌<◌, ◌≤◌, ◌==◌, nat_lt, Bool, true, false, not, ◌&&◌, ◌||◌, if◌then◌else◌, List, [], ◌∷◌, ◌++◌, length, refl, sym, ap, ◌∙◌, arith, subst, length-append}
+use Rattle.std.proofs.Common.{◌≡◌, ℕ, suc, ◌+◌, ◌<◌, ◌≤◌, ◌==◌, nat_lt, Bool, true, false, not, ◌&&◌, ◌||◌, if◌then◌else◌, List, [], ◌∷◌, ◌++◌, length, refl, sym, ◌∙◌, arith, subst, length-append}
 use Rattle.std.proofs.lemmas.Bool.Decides.{nat_tests}
 use Rattle.beep_history.specs.declared.journal.Side.{Side}
-use Rattle.beep_history.specs.Journal.{turned, Item, other}
-use Rattle.beep_two_ends.specs.Seen.{is_received}
-use Rattle.beep_two_journals.proofs.Entries.{Says, starts, closes, says_else, Entry, asks, replies, on, is_start, is_close, asked, replied, said, answers_to, lives, ended, names, is_live, life_now, NoStart, IsLawfulAsk, IsLawfulReply, IsLawfulEnd, came, went, comes, turned_entry, SeesAll, SameCount}
+use Rattle.beep_two_journals.proofs.Entries.{Says, starts, closes, says_else, Entry, asks, replies, on, is_start, asked, replied, said, answers_to, lives, ended, is_live, NoStart, IsLawfulAsk, IsLawfulReply, IsLawfulEnd}
 
 -- ---- tests
 
@@ -100,9 +98,9 @@ starter-asks own n past says l s = record {
   one = λ p q hp hq ep eq.
       said-first n p says (asked Side.Sent past) (p ≡ q)
       (λ st at. said-first n q says (asked Side.Sent past) (p ≡ q) (λ st' at'. sym at ∙ at')
-          (λ f. absurd (differ _ f ((ask-law own n past says l st).2 q hq))) eq)
+      (λ f. absurd (differ _ f ((ask-law own n past says l st).2 q hq))) eq)
       (λ f. said-first n q says (asked Side.Sent past) (p ≡ q)
-          (λ st' at'. absurd (differ _ f ((ask-law own n past says l st').2 p hp))) (λ f'. s.one p q hp hq f f') eq) ep;
+      (λ st' at'. absurd (differ _ f ((ask-law own n past says l st').2 p hp))) (λ f'. s.one p q hp hq f f') eq) ep;
   idle = λ p hp ep. said-first n p says (asked Side.Sent past) (is_live n past ≡ false)
       (λ st at. (ask-law own n past says l st).1) (λ f. s.idle p hp f) ep;
 }

@@ -1,25 +1,25 @@
 -- Whatever two lawful ends of a session do, nothing that arrives breaks a rule.
-use Rattle.std.proofs.Common.{◌≡◌, ℕ, ◌≤◌, ◌<◌, ◌%◌, ◌==◌, nat_lt, nat_le, Bool, true, false, not, ◌&&◌, List, [], ◌∷◌, ◌++◌, None, refl, sym, ap, ◌∙◌, arith, append_assoc, subst}
+use Rattle.std.proofs.Common.{◌≡◌, ℕ, ◌≤◌, ◌%◌, ◌==◌, nat_lt, nat_le, Bool, true, false, not, ◌&&◌, List, [], ◌∷◌, ◌++◌, refl, sym, ap, ◌∙◌, arith, append_assoc, subst}
 use Rattle.std.proofs.lemmas.Bool.Decides.{nat_tests}
 use Rattle.beep_frame.specs.declared.head.TheConstants.{MAX_NUMBER}
 use Rattle.beep_history.specs.declared.journal.Side.{Side}
 use Rattle.beep_history.specs.Journal.{Item, began, passed, told, turned}
 use Rattle.beep_journal.specs.declared.role.Role.{Role}
 use Rattle.beep_journal.specs.Broken.{none_tunes}
-use Rattle.beep_decide.specs.Numbers.{other_role, may_start, has_parity}
+use Rattle.beep_decide.specs.Numbers.{other_role, may_start}
 use Rattle.beep_lawful.specs.declared.terms.Terms.{Terms}
 use Rattle.beep_lawful.specs.Lawful as lawful
 use Rattle.beep_lawful.proofs.LawfulLemmas.{lawful-before}
-use Rattle.beep_two_ends.specs.Seen.{is_received, arrived, sent, Sees}
+use Rattle.beep_two_ends.specs.Seen.{is_received, arrived, sent}
 use Rattle.beep_two_ends.specs.Run.{Step, a_sends, b_sends, a_gets, b_gets}
-use Rattle.beep_two_ends.proofs.SplitLemmas.{SentAt, sent_at}
+use Rattle.beep_two_ends.proofs.SplitLemmas.{sent_at}
 use Rattle.beep_two_ends.proofs.WorldLemmas.{sees_at}
 use Rattle.beep_two_journals.specs.Session.{BreaksNothing, NeverBroke, AreEnds, IsRun}
 use Rattle.beep_two_journals.proofs.Entries.{Causal, entries, IsLawfulSession, WasNeverBroken}
 use Rattle.beep_two_journals.proofs.SessionLemmas.{Reached, at_first, a-sends, b-gets, swapped, unswapped}
 use Rattle.beep_two_journals.proofs.BridgeLemmas.{HasForms}
 use Rattle.beep_two_journals.proofs.LifeLemmas.{IsSteady}
-use Rattle.beep_two_journals.proofs.LawLemmas.{Known, Goes, goes}
+use Rattle.beep_two_journals.proofs.LawLemmas.{Known, goes}
 use Rattle.beep_two_journals.proofs.ArriveLemmas.{Meets, breaks, forms_after, steady_after}
 
 -- ---- numbers

@@ -1,17 +1,17 @@
 -- Over all that two ends with many lives do.
-use Rattle.std.proofs.Common.{◌≡◌, ℕ, zero, suc, ◌+◌, ◌<◌, ◌≤◌, Bool, true, false, not, if◌then◌else◌, List, [], ◌∷◌, ◌++◌, length, refl, sym, ap, ◌∙◌, arith, subst, length-append, append_assoc}
+use Rattle.std.proofs.Common.{◌≡◌, ℕ, suc, ◌+◌, ◌≤◌, Bool, true, false, not, List, [], ◌∷◌, ◌++◌, length, refl, sym, ap, ◌∙◌, arith, subst, length-append, append_assoc}
 use Rattle.std.proofs.Math.Path.{fun_ext}
 use Rattle.beep_history.specs.declared.journal.Side.{Side}
-use Rattle.beep_history.specs.Journal.{turned, Item, began, passed, told, other}
-use Rattle.beep_two_ends.specs.Seen.{is_received, arrived, sent, Sees}
-use Rattle.beep_two_ends.specs.OneLife.{IsLawful, NeverBroke}
-use Rattle.beep_two_journals.proofs.Entries.{Says, Entry, asks, replies, on, asked, replied, lives, ended, is_live, life, IsLawfulEnd, came, went, comes, turned_entry, SeesAll, Causal}
-use Rattle.beep_two_journals.proofs.Entries.{IsLawfulLives, NeverBrokeAll, NoneBegins, IsWholeOn, is_told, BothEnds}
+use Rattle.beep_history.specs.Journal.{turned, Item, began, passed, told}
+use Rattle.beep_two_ends.specs.Seen.{is_received, Sees}
+use Rattle.beep_two_ends.specs.OneLife.{NeverBroke}
+use Rattle.beep_two_journals.proofs.Entries.{Entry, asks, replies, on, asked, lives, ended, is_live, life, IsLawfulEnd, came, went, comes, turned_entry, SeesAll, Causal}
+use Rattle.beep_two_journals.proofs.Entries.{IsLawfulLives, NeverBrokeAll, IsWholeOn, is_told, BothEnds}
 use Rattle.beep_two_ends.proofs.WorldLemmas.{arrives}
-use Rattle.beep_two_journals.proofs.CountLemmas.{AskedBefore, same_count, ZeroAgrees, zero_agrees}
-use Rattle.beep_two_journals.proofs.WalkLemmas.{came-if, went-if, entry-twice, turned-twice, turned-flips, end-tail, end-earlier, end-twice, live_parts, life_sees}
-use Rattle.beep_two_journals.proofs.EndsLemmas.{came-append, SentAll, sent_all}
-use Rattle.beep_two_journals.proofs.TailLemmas.{lives-earlier, whole-all-earlier, causal-parts, life-lawful, life-whole}
+use Rattle.beep_two_journals.proofs.CountLemmas.{same_count, zero_agrees}
+use Rattle.beep_two_journals.proofs.WalkLemmas.{came-if, went-if, turned-flips, live_parts, life_sees}
+use Rattle.beep_two_journals.proofs.EndsLemmas.{came-append}
+use Rattle.beep_two_journals.proofs.TailLemmas.{life-lawful, life-whole}
 use Rattle.beep_two_journals.proofs.StaysLemmas.{stays_live}
 
 true-false : (b : Bool) → b ≡ true → b ≡ false → ⊥
@@ -110,16 +110,17 @@ item-arrives own mine theirs n item x r l v =
     let live : is_live n mine ≡ true = l.0 out in
     let law = v.0 out in
     let p = live_parts n mine live in
-    let count : lives n theirs ≡ lives n mine = same_count own mine theirs n x.mine_end x.theirs_end x.sees live in
-    (
+    let count : lives n theirs ≡ lives n mine = same_count own mine theirs n x.mine_end x.theirs_end x.sees live in (
       (λ plain. stays_live own mine theirs n (turned item) x live (told-turned item ∙ plain) out law.0 law.1 law.2),
       (λ there.
           let q = live_parts n theirs there in
           let s : Sees (life n (lives n mine) mine) (life n (lives n mine) theirs) =
           life_sees own mine theirs n (lives n mine) x.mine_end x.theirs_end x.there x.back x.sees p.0 p.1 (subst (λ (j : ℕ). ended n j theirs ≡ false) count q.1) in
-          subst (λ (j : ℕ). NeverBroke (item ∷ life n j theirs)) (sym count)
-          (arrives (life n (lives n mine) theirs) item (life n (lives n mine) mine) law.0 (whole-out (turned item) (life n (lives n mine) mine) out (life-whole n (lives n mine) mine p.0 x.mine_whole))
-          (life-lawful n (lives n mine) theirs p.0 x.theirs_lives) (life-whole n (lives n mine) theirs p.0 x.theirs_whole) s r, life-whole n (lives n mine) theirs p.0 x.theirs_whole)),
+          subst (λ (j : ℕ). NeverBroke (item ∷ life n j theirs)) (sym count) (
+            arrives (life n (lives n mine) theirs) item (life n (lives n mine) mine) law.0 (whole-out (turned item) (life n (lives n mine) mine) out (life-whole n (lives n mine) mine p.0 x.mine_whole))
+                (life-lawful n (lives n mine) theirs p.0 x.theirs_lives) (life-whole n (lives n mine) theirs p.0 x.theirs_whole) s r,
+            life-whole n (lives n mine) theirs p.0 x.theirs_whole,
+          )),
     )
   where
     told-turned : (item : Item) → is_told (turned item) ≡ is_told item

@@ -1,13 +1,11 @@
 -- Where no rule was broken, the p-th reply of a side answers the p-th request of the other.
-use Rattle.std.proofs.Common.{◌≡◌, ℕ, ◌<◌, Bool, true, false, not, if◌then◌else◌, List, length, Option, Some, refl, sym, ap, ◌∙◌, arith}
-use Rattle.std.specs.Option.{option_map_or}
+use Rattle.std.proofs.Common.{◌≡◌, ℕ, ◌<◌, true, List, length, Some, sym, ap, ◌∙◌, arith}
 use Rattle.beep_frame.specs.declared.head.Head.{Head}
 use Rattle.beep_history.specs.declared.journal.Side.{Side}
-use Rattle.beep_frame.specs.Frame.{is_msg, is_reply}
+use Rattle.beep_frame.specs.Frame.{is_reply}
 use Rattle.beep_history.specs.Journal.{Item, other}
-use Rattle.beep_history.specs.Marks.{frames, Request, requests, latest, is_whole, named, position_of}
+use Rattle.beep_history.specs.Marks.{frames, Request, requests, latest, is_whole}
 use Rattle.beep_history.specs.Broken.{under_way, KeepsExchangeRules}
-use Rattle.beep_history.proofs.SoundLemmas.{IsDue, Sound}
 use Rattle.beep_history.proofs.PassedLemmas.{sound}
 use Rattle.beep_history.specs.Moments.{replies_ended}
 use Rattle.beep_history.proofs.RepliesLemmas.{same-threshold, answered}

@@ -1,10 +1,10 @@
 -- A run of two sessions that meets the premises: the first frame of a greeting goes out and arrives.
-use Rattle.std.proofs.Common.{◌≡◌, ℕ, true, false, List, [], ◌∷◌, Some, None, refl}
+use Rattle.std.proofs.Common.{true, [], ◌∷◌, refl}
 use Rattle.beep_frame.specs.declared.head.Head.{Head}
 use Rattle.beep_frame.specs.declared.kind.Kind.{Kind}
 use Rattle.beep_frame.specs.Frame.{head_of}
 use Rattle.beep_history.specs.declared.journal.Side.{Side}
-use Rattle.beep_history.specs.Journal.{Item, began, passed}
+use Rattle.beep_history.specs.Journal.{began, passed}
 use Rattle.beep_history.specs.Broken.{broken_rule, broken_within}
 use Rattle.beep_text.specs.Said.{element_said}
 use Rattle.beep_mgmt.specs.Message.{message_said}
@@ -12,7 +12,7 @@ use Rattle.beep_journal.specs.declared.role.Role.{Role}
 use Rattle.beep_journal.specs.Broken.{none_tunes, broken_head, broken_content}
 use Rattle.beep_lawful.specs.declared.terms.Terms.{Terms}
 use Rattle.beep_lawful.specs.Lawful.{unlawful_head, unlawful_frame, IsLawful}
-use Rattle.beep_two_ends.specs.Run.{Step, a_sends, b_gets}
+use Rattle.beep_two_ends.specs.Run.{a_sends, b_gets}
 use Rattle.beep_two_journals.specs.Session.{IsRun}
 
 abbrev initiator : Terms
@@ -38,9 +38,29 @@ a_run : IsRun initiator listener
     (passed Side.Sent greets (67 ∷ 111 ∷ []) ∷ began Side.Sent greets ∷ [])
     (passed Side.Received greets (67 ∷ 111 ∷ []) ∷ began Side.Received greets ∷ []) [] []
 a_run = (
-  began Side.Received greets ∷ [], passed Side.Received greets (67 ∷ 111 ∷ []), refl,
-  ([], began Side.Received greets, refl,
-  (began Side.Sent greets ∷ [], began Side.Received greets ∷ [], refl, refl, has_greeted, refl,
-  ([], [], refl, refl, began_to_greet, refl,
-  (refl, refl, refl, refl)))),
+  began Side.Received greets ∷ [],
+  passed Side.Received greets (67 ∷ 111 ∷ []),
+  refl,
+  (
+    [],
+    began Side.Received greets,
+    refl,
+    (
+      began Side.Sent greets ∷ [],
+      began Side.Received greets ∷ [],
+      refl,
+      refl,
+      has_greeted,
+      refl,
+      (
+        [],
+        [],
+        refl,
+        refl,
+        began_to_greet,
+        refl,
+        (refl, refl, refl, refl),
+      ),
+    ),
+  ),
 )

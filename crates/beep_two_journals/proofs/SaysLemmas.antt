@@ -1,5 +1,5 @@
 -- What the requests of channel zero say, by their positions, with the implied one and without it.
-use Rattle.std.proofs.Common.{◌≡◌, ℕ, zero, suc, ◌+◌, ◌-◌, ◌<◌, ◌≤◌, ◌==◌, nat_lt, Bool, true, false, not, ◌&&◌, if◌then◌else◌, List, [], ◌∷◌, ◌++◌, length, Option, Some, None, refl, sym, ap, ◌∙◌, arith, length-append}
+use Rattle.std.proofs.Common.{◌≡◌, ℕ, ◌+◌, ◌==◌, Bool, true, false, if◌then◌else◌, List, [], ◌∷◌, length, Option, None, refl, arith}
 use Rattle.std.proofs.lemmas.Bool.Decides.{nat_tests}
 use Rattle.beep_history.specs.declared.journal.Side.{Side}
 use Rattle.beep_history.specs.Journal.{opening}
@@ -46,13 +46,3 @@ tells-opening Side.Sent = record { one = refl; at = λ p. opened p; first = says
   where
     opened : (p : ℕ) → says_of (if 0 == p + 1 then message_said [] else None) ≡ says_else
     opened p = let e : (0 == p + 1) ≡ false = grind (arith, nat_tests) in rw e refl
-
--- what was said at an earlier position stays
-pub said-before : (p : ℕ) (newer forms : List (Option Form)) → p < length forms → said_at p (newer ++ forms) ≡ said_at p forms
-said-before p [] forms h = refl
-said-before p (form ∷ newer) forms h =
-    let e : (length (newer ++ forms) == p) ≡ false = apart (length (newer ++ forms)) p (omega (arith, length-append newer forms)) in
-    rw e (said-before p newer forms h)
-  where
-    apart : (a b : ℕ) → b < a → (a == b) ≡ false
-    apart a b h = grind (arith, nat_tests)

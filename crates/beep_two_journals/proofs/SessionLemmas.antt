@@ -1,19 +1,18 @@
 -- Over all that two lawful sessions do.
 use Rattle.std.proofs.Common.{◌≡◌, ◌⊎◌, inl, inr, ℕ, ◌==◌, Bool, true, false, not, if◌then◌else◌, List, [], ◌∷◌, ◌++◌, refl, sym, ap, ◌∙◌, append_assoc, subst}
-use Rattle.beep_frame.specs.declared.head.Head.{Head}
 use Rattle.beep_history.specs.declared.journal.Side.{Side}
-use Rattle.beep_history.specs.Journal.{turned, Item, began, passed, told, other, opening}
+use Rattle.beep_history.specs.Journal.{turned, Item, began, passed, told}
 use Rattle.beep_two_ends.specs.Seen.{arrived, sent, is_received, Sees}
 use Rattle.beep_two_ends.specs.OneLife.{IsLawful, NeverBroke}
-use Rattle.beep_two_journals.proofs.Entries.{Entry, asks, replies, on, IsLawfulEnd, came, went, comes, turned_entry, SeesAll, Causal}
+use Rattle.beep_two_journals.proofs.Entries.{Entry, IsLawfulEnd, came, went, turned_entry, SeesAll, Causal}
 use Rattle.beep_two_journals.proofs.Entries.{IsLawfulLives, NeverBrokeAll, BothEnds}
 use Rattle.beep_two_journals.proofs.Entries.{adds, entries, IsLawfulSession, WasNeverBroken}
-use Rattle.beep_journal.specs.Zero.{channel_of, zero_history}
-use Rattle.beep_two_ends.proofs.SplitLemmas.{SentAt, sent_at, lawful-earlier, whole-earlier}
+use Rattle.beep_journal.specs.Zero.{zero_history}
+use Rattle.beep_two_ends.proofs.SplitLemmas.{sent_at, lawful-earlier, whole-earlier}
 use Rattle.beep_two_ends.proofs.WorldLemmas.{arrives, sees_at}
 use Rattle.beep_two_ends.proofs.RunLemmas.{at_opening}
 use Rattle.beep_two_journals.proofs.WalkLemmas.{end-tail, end-earlier, end-twice}
-use Rattle.beep_two_journals.proofs.TailLemmas.{lives-tail, whole-tail, lives-earlier, whole-all-earlier, causal-parts, lawful-here, whole-here}
+use Rattle.beep_two_journals.proofs.TailLemmas.{lives-tail, whole-tail, lives-earlier, whole-all-earlier, causal-parts, lawful-here}
 use Rattle.beep_two_journals.proofs.PairLemmas.{entry-arrives, causal-got, causal-aside, causal-sent, causal-beside, whole-sent, swap-end}
 use Rattle.beep_two_journals.proofs.ZeroLemmas.{zero_sees}
 use Rattle.beep_two_journals.proofs.EntriesLemmas.{way_adds, way_entries, turned_all, AtMostOne, at_most_one, adds-received, adds-sent, entry-flips, entries-came, entries-went, EntriesBefore, way-before, entries-before}
@@ -175,13 +174,14 @@ gets-parts (told Side.Sent seq) past r = cc
 zero-gets : (item : Item) (earlier b : List Item) → is_received item ≡ true → OnZero item ⊎ Above item → Sees earlier b
     → IsLawful (zero_history (turned item ∷ earlier)) → NeverBroke (zero_history (turned item ∷ earlier)) → IsLawful (zero_history b) → NeverBroke (zero_history b)
     → IsLawful (zero_history (item ∷ b)) × NeverBroke (zero_history (item ∷ b))
-zero-gets item earlier b r (inl z) s l w l' w' =
-    (
-      subst (λ (xs : List Item). IsLawful xs) (sym (z.comes_in b)) (lawful-here item (zero_history b) r l'),
-      subst (λ (xs : List Item). NeverBroke xs) (sym (z.comes_in b))
-          (arrives (zero_history b) item (zero_history earlier) (subst (λ (xs : List Item). IsLawful xs) (z.goes_out earlier) l) (subst (λ (xs : List Item). NeverBroke xs) (z.goes_out earlier) w)
-          l' w' (zero_sees earlier b s) r, w'),
-    )
+zero-gets item earlier b r (inl z) s l w l' w' = (
+  subst (λ (xs : List Item). IsLawful xs) (sym (z.comes_in b)) (lawful-here item (zero_history b) r l'),
+  subst (λ (xs : List Item). NeverBroke xs) (sym (z.comes_in b)) (
+    arrives (zero_history b) item (zero_history earlier) (subst (λ (xs : List Item). IsLawful xs) (z.goes_out earlier) l) (subst (λ (xs : List Item). NeverBroke xs) (z.goes_out earlier) w)
+        l' w' (zero_sees earlier b s) r,
+    w',
+  ),
+)
 zero-gets item earlier b r (inr z) s l w l' w' =
     (subst (λ (xs : List Item). IsLawful xs) (sym (z.comes_in b)) l', subst (λ (xs : List Item). NeverBroke xs) (sym (z.comes_in b)) w')
 

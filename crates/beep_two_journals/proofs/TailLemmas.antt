@@ -1,18 +1,15 @@
 -- What goes on in a life that has ended at one end.
-use Rattle.std.proofs.Common.{◌≡◌, ℕ, zero, suc, ◌+◌, ◌<◌, ◌≤◌, ◌==◌, nat_lt, Bool, true, false, not, ◌&&◌, ◌||◌, if◌then◌else◌, List, [], ◌∷◌, ◌++◌, length, Option, Some, None, refl, sym, ap, ◌∙◌, arith, subst, length-append, append_assoc}
-use Rattle.std.specs.Option.{option_map_or}
+use Rattle.std.proofs.Common.{◌≡◌, ℕ, ◌<◌, ◌≤◌, ◌==◌, Bool, true, false, not, ◌&&◌, if◌then◌else◌, List, [], ◌∷◌, ◌++◌, refl, sym, ap, ◌∙◌, arith, subst}
 use Rattle.std.proofs.lemmas.Bool.Decides.{nat_tests}
-use Rattle.std.proofs.lemmas.List.{append_cancel_right}
-use Rattle.beep_frame.specs.declared.head.Head.{Head}
 use Rattle.beep_history.specs.declared.journal.Side.{Side}
-use Rattle.beep_history.specs.Journal.{turned, Item, began, passed, told, other, same_side}
-use Rattle.beep_history.specs.Marks.{frames, requests}
+use Rattle.beep_history.specs.Journal.{turned, Item, began, passed, told}
+use Rattle.beep_history.specs.Marks.{frames}
 use Rattle.beep_history.specs.Broken.{under_way}
 use Rattle.beep_two_ends.specs.Seen.{is_received, arrived, sent}
 use Rattle.beep_two_ends.specs.OneLife.{IsLawful, NeverBroke}
-use Rattle.beep_two_journals.proofs.Entries.{Says, Entry, asks, replies, on, is_start, is_close, asked, replied, said, answers_to, lives, ended, names, is_live, life_now, life, IsLawfulEnd, came, went, comes, turned_entry, Causal}
+use Rattle.beep_two_journals.proofs.Entries.{Entry, asks, replies, on, lives, ended, is_live, life_now, life, came, went, comes, Causal}
 use Rattle.beep_two_journals.proofs.Entries.{IsLawfulLives, NeverBrokeAll, IsWholeOn, is_told}
-use Rattle.beep_two_journals.proofs.WalkLemmas.{came-if, went-if, sent-if, turned-flips, turned-twice, sent-turned, sent-received, arrived-received, arrived-sent, end-tail, live_parts, causal-mine, causal-theirs}
+use Rattle.beep_two_journals.proofs.WalkLemmas.{turned-flips, turned-twice, sent-turned, sent-received, arrived-received, arrived-sent, live_parts, causal-mine, causal-theirs}
 use Rattle.beep_two_journals.proofs.EndsLemmas.{lives-later, ended-later}
 
 number : (a b : ℕ) → (a == b) ≡ true → a ≡ b

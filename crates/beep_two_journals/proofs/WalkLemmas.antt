@@ -1,13 +1,12 @@
 -- What each end has of one life.
-use Rattle.std.proofs.Common.{◌≡◌, ℕ, zero, suc, ◌+◌, ◌<◌, ◌≤◌, ◌==◌, nat_lt, Bool, true, false, not, ◌&&◌, ◌||◌, if◌then◌else◌, List, [], ◌∷◌, ◌++◌, length, refl, sym, ap, ◌∙◌, arith, subst, length-append, append_assoc}
+use Rattle.std.proofs.Common.{◌≡◌, ℕ, ◌<◌, ◌==◌, nat_lt, Bool, true, false, not, ◌&&◌, ◌||◌, if◌then◌else◌, List, [], ◌∷◌, ◌++◌, refl, sym, ap, ◌∙◌, arith, subst, append_assoc}
 use Rattle.std.proofs.lemmas.Bool.{lt-ltb, ltb-true}
 use Rattle.std.proofs.Math.Path.{fun_ext}
 use Rattle.std.proofs.lemmas.Bool.Decides.{nat_tests}
-use Rattle.beep_frame.specs.declared.head.Head.{Head}
 use Rattle.beep_history.specs.declared.journal.Side.{Side}
-use Rattle.beep_history.specs.Journal.{turned, Item, began, passed, told, other}
-use Rattle.beep_two_ends.specs.Seen.{is_received, arrived, sent, Sees}
-use Rattle.beep_two_journals.proofs.Entries.{Says, Entry, asks, replies, on, is_start, is_close, asked, replied, said, answers_to, lives, ended, names, is_live, life_now, life, IsLawfulEnd, came, went, comes, turned_entry, SeesAll, SameCount, Causal, SameLife, LifeSees}
+use Rattle.beep_history.specs.Journal.{turned, Item, began, passed, told}
+use Rattle.beep_two_ends.specs.Seen.{is_received, arrived, sent}
+use Rattle.beep_two_journals.proofs.Entries.{Entry, asks, replies, on, lives, ended, is_live, life_now, life, IsLawfulEnd, came, went, comes, turned_entry, SeesAll, Causal, SameLife, LifeSees}
 use Rattle.beep_two_journals.proofs.CountLemmas.{same_count}
 
 -- ---- entries
@@ -168,10 +167,10 @@ both own n k mine theirs (on m item) pos c l w s e ih =
     let test : (m == n && life_now n theirs == k) ≡ (m == n && lives n mine == k) =
     same-test m n k (lives n mine) (lives n theirs) (is_live n theirs)
     (λ same. let at : m ≡ n = number m n same in
-        let here : is_live n mine ≡ true = subst (λ (j : ℕ). is_live j mine ≡ true) at live in
-        let p = live_parts n mine here in
-        let count : lives n theirs ≡ lives n mine = same_count own mine theirs n l.1 w s here in
-        (p.0, count, λ at_k. live_of n theirs (omega (arith, p.0, count)) (ap (λ (j : ℕ). ended n j theirs) at_k ∙ e))) pos in
+    let here : is_live n mine ≡ true = subst (λ (j : ℕ). is_live j mine ≡ true) at live in
+    let p = live_parts n mine here in
+    let count : lives n theirs ≡ lives n mine = same_count own mine theirs n l.1 w s here in
+    (p.0, count, λ at_k. live_of n theirs (omega (arith, p.0, count)) (ap (λ (j : ℕ). ended n j theirs) at_k ∙ e))) pos in
     let mine-test : (m == n && life_now n mine == k) ≡ (m == n && lives n mine == k) =
     now-test (m == n) refl in
     adds (m == n && life_now n theirs == k) (m == n && life_now n mine == k) (test ∙ sym mine-test)
@@ -220,7 +219,7 @@ walk-both own n k pos y mine none z theirs ih same r true q l w c e f =
     let f' : ended n k theirs ≡ false = ended-still n k theirs z f in
     let l' : IsLawfulEnd own (turned_entry z ∷ mine) = subst (λ (x : Entry). IsLawfulEnd own (x ∷ mine)) back l in
     both own n k mine theirs z pos q l' w' s f'
-        (ih (end-tail own y mine l) w' (causal-theirs z mine theirs (causal-mine y mine (z ∷ theirs) c)) rest f')
+    (ih (end-tail own y mine l) w' (causal-theirs z mine theirs (causal-mine y mine (z ∷ theirs) c)) rest f')
     ∙ ap (λ (x : Entry). sent (life n k (x ∷ mine))) (sym back)
 walk-both own n k pos y mine none z theirs ih same r false q l w c e f =
     life-went n k theirs z q

@@ -1,19 +1,18 @@
 -- Where no rule was broken, a request is whole where more requests of its side have ended.
-use Rattle.std.proofs.Common.{◌≡◌, ℕ, zero, suc, ◌+◌, ◌<◌, ◌≤◌, ◌==◌, nat_lt, Bool, true, false, not, ◌&&◌, ◌||◌, if◌then◌else◌, List, [], ◌∷◌, length, Option, Some, None, refl, sym, ap, ◌∙◌, arith}
+use Rattle.std.proofs.Common.{◌≡◌, ℕ, zero, suc, ◌+◌, ◌<◌, ◌==◌, nat_lt, Bool, true, false, not, ◌&&◌, ◌||◌, if◌then◌else◌, List, [], ◌∷◌, length, Option, Some, None, refl, sym, ap, ◌∙◌, arith}
 use Rattle.std.specs.Option.{option_map_or}
-use Rattle.std.proofs.lemmas.Bool.{lt-ltb, le-ltb, ltb-true}
+use Rattle.std.proofs.lemmas.Bool.{le-ltb, ltb-true}
 use Rattle.std.proofs.lemmas.Bool.Decides.{nat_tests}
 use Rattle.beep_frame.specs.declared.head.Head.{Head}
 use Rattle.beep_history.specs.declared.journal.Side.{Side}
 use Rattle.beep_frame.specs.Frame.{is_msg, is_reply}
 use Rattle.beep_history.specs.Journal.{Item, began, passed, told, other}
-use Rattle.beep_history.specs.Marks.{first, frames, previous, goes_on, begins_request, requests, is_whole}
+use Rattle.beep_history.specs.Marks.{frames, previous, goes_on, begins_request, requests, is_whole}
 use Rattle.beep_history.specs.Broken.{under_way, KeepsExchangeRules}
-use Rattle.beep_history.proofs.StepsLemmas.{under_way-began-mine, under_way-began-theirs, requests-began-mine, requests-began-theirs, frames-passed-mine, frames-passed-theirs, under_way-passed-mine, under_way-passed-theirs, whole-passed-mine, whole-passed-theirs}
-use Rattle.beep_history.proofs.SoundLemmas.{Sound}
+use Rattle.beep_history.proofs.StepsLemmas.{under_way-began-mine, requests-began-mine, frames-passed-mine, whole-passed-mine}
 use Rattle.beep_history.proofs.PassedLemmas.{sound}
 use Rattle.beep_history.specs.Moments.{replies_ended}
-use Rattle.beep_two_journals.proofs.PlaceLemmas.{InPlace, in_place}
+use Rattle.beep_two_journals.proofs.PlaceLemmas.{in_place}
 
 -- the requests that these frames end
 abbrev pub requests_ended : List Head → ℕ

@@ -1,13 +1,8 @@
 -- Channel zero of a journal over the items of one side alone.
-use Rattle.std.proofs.Common.{◌≡◌, ℕ, ◌==◌, Bool, true, false, not, ◌&&◌, ◌||◌, if◌then◌else◌, List, [], ◌∷◌, ◌++◌, refl, sym, ap, ◌∙◌, append_assoc, subst}
-use Rattle.beep_frame.specs.declared.head.Head.{Head}
-use Rattle.beep_frame.specs.declared.kind.Kind.{Kind}
+use Rattle.std.proofs.Common.{◌≡◌, ◌==◌, Bool, true, false, if◌then◌else◌, List, [], ◌∷◌, ◌++◌, refl, sym, ap, ◌∙◌, append_assoc}
 use Rattle.beep_history.specs.declared.journal.Side.{Side}
-use Rattle.beep_frame.specs.Frame.{is_msg, is_ans, same_kind}
-use Rattle.beep_history.specs.Journal.{turned, Item, began, passed, told, same_side, other, opening}
-use Rattle.beep_history.specs.Marks.{frames}
-use Rattle.beep_two_ends.specs.Seen.{arrived, sent, is_received, Sees}
-use Rattle.beep_history.specs.Moments.{replies_ended}
+use Rattle.beep_history.specs.Journal.{turned, Item, began, passed, told, opening}
+use Rattle.beep_two_ends.specs.Seen.{arrived, sent, Sees}
 use Rattle.beep_journal.specs.Zero.{zero_history, gathered}
 
 -- the items of channel zero

@@ -2,7 +2,7 @@
 -- between them (RFC 3080, sections 2.2 and 2.3; RFC 3081, section 2).
 -- No code keeps both ends in one place, but for a pair in memory.
 -- Neither end has a tuning start.
-use Rattle.std.specs.Prelude.{◌≡◌, ℕ, ◌≤◌, true, List, [], ◌∷◌, ◌++◌, length, None, Some}
+use Rattle.std.specs.Prelude.{◌≡◌, ◌≤◌, true, List, [], ◌∷◌, ◌++◌, length, None, Some}
 use Rattle.beep_seq.specs.declared.limits.TheConstants.{MAX_WINDOW}
 use Rattle.beep_history.specs.declared.journal.Side.{Side}
 use Rattle.beep_history.specs.Journal.{Item, began, passed, told, turned}

@@ -1,11 +1,12 @@
-//! What holds of channel zero between two lawful ends, as facts: each function does nothing, and
-//! its contract is the fact.
+//! What holds of two lawful ends of a session, as facts: each function does nothing, and its
+//! contract is the fact.
 ghost use Rattle.std.specs.Prelude.{◌≡◌, true, ℕ, ◌<◌, List, [], ◌∷◌, ◌++◌, None, Some};
 ghost use Rattle.beep_frame.specs.declared.head.Head.{Head};
 ghost use Rattle.beep_frame.specs.Frame.{is_reply};
 ghost use Rattle.beep_history.specs.declared.journal.Side.{Side};
 ghost use Rattle.beep_history.specs.Journal.{Item};
 ghost use Rattle.beep_history.specs.Marks.{Mark, marks};
+ghost use Rattle.beep_history.specs.Moments.{IsRising, reply_positions};
 ghost use Rattle.beep_history.specs.Broken.{under_way};
 ghost use Rattle.beep_journal.specs.Lives.{lives, is_live};
 ghost use Rattle.beep_journal.specs.Zero.{zero_history, completes_form, events};
@@ -64,8 +65,8 @@ pub fn the_next_item_of_a_session_breaks_no_rule()
         → BreaksNothing b item }
 {}
 
-/// Where a number is live at an end, and all that it sent has arrived, the other end has begun as
-/// many lives of it: NoSuchChannel comes of no lawful end (RFC 3080, section 2.3.1.2).
+/// Where a number is live at an end, and all that this end sent has arrived, the other end has
+/// begun as many lives of it (RFC 3080, section 2.3.1.2).
 pub fn both_ends_count_lives_alike()
     ensures from_a { (of_a of_b : Terms) (steps : List Step) (a b to_a : List Item) (number : ℕ)
         → AreEnds of_a of_b → IsRun of_a of_b steps a b to_a []
@@ -75,17 +76,21 @@ pub fn both_ends_count_lives_alike()
         → is_live number (events b) ≡ true → lives number (events a) ≡ lives number (events b) }
 {}
 
-/// The history of each life is one of a lawful end of beep_two_ends, at both ends, and nothing that
-/// arrived in it broke a rule.
+/// The history of each life of a session is lawful as beep_two_ends says it of one life, at both
+/// ends, and nothing that arrived in it broke a rule.
 pub fn each_life_of_a_session_is_lawful()
-    ensures at_a { (of_a of_b : Terms) (steps : List Step) (a b to_a to_b : List Item)
+    ensures lawful_at_a { (of_a of_b : Terms) (steps : List Step) (a b to_a to_b : List Item)
         (number count : ℕ) → AreEnds of_a of_b → IsRun of_a of_b steps a b to_a to_b
-        → 0 < number → 0 < count
-        → IsLawful (life number count a) × NeverBroke (life number count a) }
-    ensures at_b { (of_a of_b : Terms) (steps : List Step) (a b to_a to_b : List Item)
+        → 0 < number → 0 < count → IsLawful (life number count a) }
+    ensures lawful_at_b { (of_a of_b : Terms) (steps : List Step) (a b to_a to_b : List Item)
         (number count : ℕ) → AreEnds of_a of_b → IsRun of_a of_b steps a b to_a to_b
-        → 0 < number → 0 < count
-        → IsLawful (life number count b) × NeverBroke (life number count b) }
+        → 0 < number → 0 < count → IsLawful (life number count b) }
+    ensures unbroken_at_a { (of_a of_b : Terms) (steps : List Step) (a b to_a to_b : List Item)
+        (number count : ℕ) → AreEnds of_a of_b → IsRun of_a of_b steps a b to_a to_b
+        → 0 < number → 0 < count → NeverBroke (life number count a) }
+    ensures unbroken_at_b { (of_a of_b : Terms) (steps : List Step) (a b to_a to_b : List Item)
+        (number count : ℕ) → AreEnds of_a of_b → IsRun of_a of_b steps a b to_a to_b
+        → 0 < number → 0 < count → NeverBroke (life number count b) }
 {}
 
 /// Of each life of a session the marks that arrived at an end are the first of those that the other
@@ -101,4 +106,16 @@ pub fn what_arrives_of_a_life_is_a_prefix_of_what_was_sent()
         → 0 < number → 0 < count
         → (later : List Mark) × (marks Side.Sent (life number count a)
         ≡ marks Side.Received (life number count b) ++ later) }
+{}
+
+/// The marks of replies that arrived of a life name the requests in their order.
+pub fn replies_of_a_life_arrive_in_the_order_of_their_requests()
+    ensures at_a { (of_a of_b : Terms) (steps : List Step) (a b to_a to_b : List Item)
+        (number count : ℕ) → AreEnds of_a of_b → IsRun of_a of_b steps a b to_a to_b
+        → 0 < number → 0 < count
+        → IsRising (reply_positions (marks Side.Received (life number count a))) }
+    ensures at_b { (of_a of_b : Terms) (steps : List Step) (a b to_a to_b : List Item)
+        (number count : ℕ) → AreEnds of_a of_b → IsRun of_a of_b steps a b to_a to_b
+        → 0 < number → 0 < count
+        → IsRising (reply_positions (marks Side.Received (life number count b))) }
 {}

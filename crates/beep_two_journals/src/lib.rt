@@ -1,7 +1,7 @@
-//! Channel zero as the two ends of a session have it: a reply that has its form has it where it
-//! arrives (RFC 3080, section 2.3.1).
+//! Two ends of a session: what each may send, and that nothing of it breaks a rule where it arrives
+//! (RFC 3080, sections 2.2 and 2.3; RFC 3081, section 3).
 //!
-//! Laws alone: nothing here runs.
+//! Definitions and laws alone: nothing here runs.
 #![tactic(auto)]
 
 pub mod laws;
