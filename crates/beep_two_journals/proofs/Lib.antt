@@ -27,4 +27,7 @@ pub mod NeverBreakLemmas
 pub mod FrozenLemmas
 pub mod MarksLemmas
 pub mod LifeLawLemmas
+pub mod ReadingLemmas
+pub mod StepLemmas
+pub mod LinkLemmas
 pub mod Plays

@@ -11,12 +11,16 @@ ghost use Rattle.beep_history.specs.Broken.{under_way};
 ghost use Rattle.beep_journal.specs.Lives.{lives, is_live};
 ghost use Rattle.beep_journal.specs.Zero.{zero_history, completes_form, events};
 ghost use Rattle.beep_journal.specs.Life.{life};
-ghost use Rattle.beep_journal.specs.Broken.{broken_content};
+ghost use Rattle.beep_journal.specs.Broken.{none_tunes, broken_content};
+ghost use Rattle.beep_journal.specs.Log.{Moment};
+ghost use Rattle.beep_journal.specs.Journal.{Past, Shows};
 ghost use Rattle.beep_two_ends.specs.Seen.{Sees};
 ghost use Rattle.beep_two_ends.specs.OneLife.{IsLawful, NeverBroke};
 ghost use Rattle.beep_two_ends.specs.Run.{Step};
 ghost use Rattle.beep_lawful.specs.declared.terms.Terms.{Terms};
+ghost use Rattle.beep_lawful.specs.Lawful.{IsLawfulLog};
 ghost use Rattle.beep_two_journals.specs.Session.{BreaksNothing, NeverBroke as NeverBrokeSession, AreEnds, IsRun};
+ghost use Rattle.beep_two_journals.specs.Link.{Move, IsLinked};
 
 /// Who sees all that was sent in a session sees all that was sent on channel zero, with the implied
 /// requests (RFC 3080, section 2.3.1).
@@ -118,4 +122,34 @@ pub fn replies_of_a_life_arrive_in_the_order_of_their_requests()
         (number count : ℕ) → AreEnds of_a of_b → IsRun of_a of_b steps a b to_a to_b
         → 0 < number → 0 < count
         → IsRising (reply_positions (marks Side.Received (life number count b))) }
+{}
+
+/// Whatever two lawful ends of a link write, and however it is read, no octet that is read breaks a
+/// rule or leaves a dead stream: the session that a log shows has no fault.
+pub fn no_octet_that_is_read_breaks_a_rule()
+    ensures at_a { (of_a of_b : Terms) (moves : List Move) (a b : List Moment) (to_a to_b : List ℕ)
+        (at_a at_b : Past) → AreEnds of_a of_b → IsLinked moves a b to_a to_b
+        → IsLawfulLog of_a none_tunes a → IsLawfulLog of_b none_tunes b
+        → Shows none_tunes a at_a → Shows none_tunes b at_b → at_a.fault ≡ None }
+    ensures at_b { (of_a of_b : Terms) (moves : List Move) (a b : List Moment) (to_a to_b : List ℕ)
+        (at_a at_b : Past) → AreEnds of_a of_b → IsLinked moves a b to_a to_b
+        → IsLawfulLog of_a none_tunes a → IsLawfulLog of_b none_tunes b
+        → Shows none_tunes a at_a → Shows none_tunes b at_b → at_b.fault ≡ None }
+{}
+
+/// Of each life the marks that were read are the first of those that were written, however the
+/// octets were cut.
+pub fn what_is_read_of_a_life_is_a_prefix_of_what_was_written()
+    ensures at_a { (of_a of_b : Terms) (moves : List Move) (a b : List Moment) (to_a to_b : List ℕ)
+        (at_a at_b : Past) (number count : ℕ) → AreEnds of_a of_b → IsLinked moves a b to_a to_b
+        → IsLawfulLog of_a none_tunes a → IsLawfulLog of_b none_tunes b
+        → Shows none_tunes a at_a → Shows none_tunes b at_b → 0 < number → 0 < count
+        → (later : List Mark) × (marks Side.Sent (life number count at_b.journal)
+        ≡ marks Side.Received (life number count at_a.journal) ++ later) }
+    ensures at_b { (of_a of_b : Terms) (moves : List Move) (a b : List Moment) (to_a to_b : List ℕ)
+        (at_a at_b : Past) (number count : ℕ) → AreEnds of_a of_b → IsLinked moves a b to_a to_b
+        → IsLawfulLog of_a none_tunes a → IsLawfulLog of_b none_tunes b
+        → Shows none_tunes a at_a → Shows none_tunes b at_b → 0 < number → 0 < count
+        → (later : List Mark) × (marks Side.Sent (life number count at_a.journal)
+        ≡ marks Side.Received (life number count at_b.journal) ++ later) }
 {}
