@@ -29,5 +29,6 @@ pub mod MarksLemmas
 pub mod LifeLawLemmas
 pub mod ReadingLemmas
 pub mod StepLemmas
+pub mod FlipLemmas
 pub mod LinkLemmas
 pub mod Plays
