@@ -26,9 +26,11 @@ pub mod ArriveLemmas
 pub mod NeverBreakLemmas
 pub mod FrozenLemmas
 pub mod MarksLemmas
+pub mod LossLemmas
 pub mod LifeLawLemmas
 pub mod ReadingLemmas
 pub mod StepLemmas
 pub mod FlipLemmas
 pub mod LinkLemmas
+pub mod LinkLawLemmas
 pub mod Plays

@@ -17,15 +17,17 @@ use Rattle.beep_two_ends.specs.OneLife as one
 use Rattle.beep_two_ends.specs.Run.{Step}
 use Rattle.beep_two_ends.proofs.WindowLemmas.{unbroken}
 use Rattle.beep_two_journals.specs.Session.{AreEnds, IsRun}
-use Rattle.beep_two_journals.proofs.Entries.{is_live, life, entries}
+use Rattle.beep_two_journals.proofs.Entries.{is_live, life, entries, came, went}
 use Rattle.beep_two_journals.proofs.CountLemmas.{same_count}
 use Rattle.beep_two_journals.proofs.TailLemmas.{life-lawful, life-whole}
 use Rattle.beep_two_journals.proofs.WalkLemmas.{SentBefore}
+use Rattle.beep_two_journals.proofs.EntriesLemmas.{way_entries, entries-came, entries-went}
 use Rattle.beep_two_journals.proofs.SessionLemmas.{entries_see, wire_entries}
 use Rattle.beep_two_journals.proofs.BridgeLemmas.{bridged}
 use Rattle.beep_two_journals.proofs.LifeLemmas.{live-same, life-same}
 use Rattle.beep_two_journals.proofs.NeverBreakLemmas.{All, run_all, swap}
 use Rattle.beep_two_journals.proofs.FrozenLemmas.{life_way}
+use Rattle.beep_two_journals.proofs.LossLemmas.{plain, frames_arrived, marks_all}
 use Rattle.beep_two_journals.proofs.MarksLemmas.{marks_prefix}
 
 apart : (n : ℕ) → 0 < n → (n == 0) ≡ false
@@ -73,6 +75,18 @@ module _ (of_a of_b : Terms) (own : ℕ → Bool) (a b to_a to_b : List Item) (w
       marks_prefix (of_journal.life n k a) (of_journal.life n k b) s.newer (keeps-life of_a of_b own a b to_a to_b w n k above pos)
       (keeps-life of_b of_a (λ n. not (own n)) b a to_b to_a (swap of_a of_b own a b to_a to_b w) n k above pos) s.is
 
+module _ (of_a of_b : Terms) (own : ℕ → Bool) (a b to_a : List Item) (w : All of_a of_b own a b to_a []) where
+  -- where nothing lies on the wire, each mark of a life has arrived in it
+  marks_arrived : (n k : ℕ) → 0 < n → 0 < k → marks Side.Sent (of_journal.life n k a) ≡ marks Side.Received (of_journal.life n k b)
+  marks_arrived n k above pos =
+      let all : came (entries b) ≡ went (entries a) = entries-came b ∙ ap way_entries (sym w.reached.to_b_is) ∙ sym (entries-went a) in
+      let p = frames_arrived own n k (entries a) (entries b) w.reached.a_law.of_ends w.reached.b_law.of_ends w.reached.there w.reached.b_whole.above all in
+      let mine : of_journal.life n k a ≡ life n k (entries a) = life-same n k (apart n above) a (keeps of_a of_b own a b to_a [] w) w.a_forms w.a_steady in
+      let theirs : of_journal.life n k b ≡ life n k (entries b) = life-same n k (apart n above) b (keeps-there of_a of_b own a b to_a [] w) w.b_forms w.b_steady in
+      marks_all (of_journal.life n k a) (of_journal.life n k b) (keeps-life of_a of_b own a b to_a [] w n k above pos)
+      (keeps-life of_b of_a (λ m. not (own m)) b a [] to_a (swap of_a of_b own a b to_a [] w) n k above pos)
+      (ap (λ (xs : List Item). plain (arrived xs)) theirs ∙ p ∙ sym (ap (λ (xs : List Item). plain (sent xs)) mine))
+
 -- ---- in a run
 
 module _ (of_a of_b : Terms) (steps : List Step) (a b to_a to_b : List Item) (e : AreEnds of_a of_b) (r : IsRun of_a of_b steps a b to_a to_b) where
@@ -119,3 +133,11 @@ module _ (of_a of_b : Terms) (steps : List Step) (a b to_a to_b : List Item) (e 
   count_at_a none n l =
       counts_alike of_b of_a (λ n. not (owner n)) b a to_b to_a turned
       (record { all = sym (reached.reached.to_a_is ∙ ap (λ (xs : List Item). xs ++ arrived a) none); newer = to_b; some = reached.reached.to_b_is }) n l
+
+module _ (of_a of_b : Terms) (steps : List Step) (a b wire : List Item) (e : AreEnds of_a of_b) (n k : ℕ) (above : 0 < n) (pos : 0 < k) where
+  pub none_lost_at_b : IsRun of_a of_b steps a b wire [] → marks Side.Sent (of_journal.life n k a) ≡ marks Side.Received (of_journal.life n k b)
+  none_lost_at_b r = marks_arrived of_a of_b (owner of_a of_b steps a b wire [] e r) a b wire (reached of_a of_b steps a b wire [] e r) n k above pos
+
+  pub none_lost_at_a : IsRun of_a of_b steps a b [] wire → marks Side.Sent (of_journal.life n k b) ≡ marks Side.Received (of_journal.life n k a)
+  none_lost_at_a r =
+      marks_arrived of_b of_a (λ m. not (owner of_a of_b steps a b [] wire e r m)) b a wire (turned of_a of_b steps a b [] wire e r) n k above pos

@@ -1,5 +1,5 @@
 -- Whatever two lawful ends of a link write, octet by octet, no octet that is read breaks a rule.
-use Rattle.std.proofs.Common.{◌≡◌, ◌⊎◌, inl, inr, ℕ, ◌<◌, Bool, true, false, not, ◌&&◌, List, [], ◌∷◌, ◌++◌, Option, Some, None, refl, sym, ap, ◌∙◌, subst, append_assoc}
+use Rattle.std.proofs.Common.{◌≡◌, ◌⊎◌, inl, inr, ℕ, Bool, true, false, not, ◌&&◌, List, [], ◌∷◌, ◌++◌, Option, Some, None, refl, sym, ap, ◌∙◌, subst, append_assoc}
 use Rattle.std.specs.Option.{is_none}
 use Rattle.std.specs.List.{flat_map}
 use Rattle.std.proofs.lemmas.List.{append_cancel_right}
@@ -9,14 +9,13 @@ use Rattle.beep_frame.specs.Stream.{DiesAt}
 use Rattle.beep_frame.proofs.AliveLemmas.{alive_before}
 use Rattle.beep_history.specs.declared.journal.Side.{Side}
 use Rattle.beep_history.specs.Journal.{Item, began, passed, told}
-use Rattle.beep_history.specs.Marks.{Mark, marks}
-use Rattle.beep_journal.specs.Life.{is_released, life}
+use Rattle.beep_journal.specs.Life.{is_released}
 use Rattle.beep_journal.specs.Broken.{none_tunes, broken_head, broken_seq}
 use Rattle.beep_journal.specs.Log.{Moment, got, put, none, over}
 use Rattle.beep_journal.specs.Journal.{Past, Fault, no_past, begins, seq_ends, TakesOctet, TakesWhere, goes_on, Shows}
 use Rattle.beep_journal.proofs.ShownLemmas.{frames_of, spelled-frames, AreFrames, shown-frames}
 use Rattle.beep_lawful.specs.declared.terms.Terms.{Terms}
-use Rattle.beep_lawful.specs.Lawful.{IsLawful, IsLawfulLog}
+use Rattle.beep_lawful.specs.Lawful.{IsLawful}
 use Rattle.beep_two_ends.specs.Seen.{is_received, arrived, sent}
 use Rattle.beep_two_ends.specs.Run.{Step, a_sends, b_gets}
 use Rattle.beep_two_ends.specs.Octets.{read_items}
@@ -24,30 +23,29 @@ use Rattle.beep_two_journals.specs.Session.{BreaksNothing, AreEnds, IsRun}
 use Rattle.beep_two_journals.specs.Link.{Move, a_writes, b_writes, a_reads, b_reads, a_waits, b_waits, IsLinked}
 use Rattle.beep_two_journals.proofs.KeptLemmas.{lawful-tail}
 use Rattle.beep_two_journals.proofs.NeverBreakLemmas.{run_all, next_to_b}
-use Rattle.beep_two_journals.proofs.LifeLawLemmas.{prefix_at_a, prefix_at_b}
 use Rattle.beep_two_journals.proofs.ReadingLemmas.{in_none, none_unfinished, in_order}
 use Rattle.beep_two_journals.proofs.StepLemmas.{sided, text, Reading, Comes, Stepped, stepped, sends_outcome, gets_outcome}
 use Rattle.beep_two_journals.proofs.FlipLemmas.{flips, run-flips, ends-flip, released-before}
 
 -- ---- what holds of two ends of a link
 
-record Holds (of_a of_b : Terms) (a b : Past) (to_a to_b : List ℕ) : Type 0 where
-  a_fine : a.fault ≡ None
-  b_fine : b.fault ≡ None
-  steps : List Step
-  items_a : List Item
-  items_b : List Item
-  run : IsRun of_a of_b steps a.journal b.journal items_a items_b
-  a_sent : Reading Side.Sent a
-  a_got : Reading Side.Received a
-  b_sent : Reading Side.Sent b
-  b_got : Reading Side.Received b
-  a_each : AreFrames a
-  b_each : AreFrames b
-  to_b_is : is_released b.journal ≡ false → text Side.Sent a ≡ text Side.Received b ++ to_b
-  to_a_is : is_released a.journal ≡ false → text Side.Sent b ≡ text Side.Received a ++ to_a
+pub record Holds (of_a of_b : Terms) (a b : Past) (to_a to_b : List ℕ) : Type 0 where
+  pub a_fine : a.fault ≡ None
+  pub b_fine : b.fault ≡ None
+  pub steps : List Step
+  pub items_a : List Item
+  pub items_b : List Item
+  pub run : IsRun of_a of_b steps a.journal b.journal items_a items_b
+  pub a_sent : Reading Side.Sent a
+  pub a_got : Reading Side.Received a
+  pub b_sent : Reading Side.Sent b
+  pub b_got : Reading Side.Received b
+  pub a_each : AreFrames a
+  pub b_each : AreFrames b
+  pub to_b_is : is_released b.journal ≡ false → text Side.Sent a ≡ text Side.Received b ++ to_b
+  pub to_a_is : is_released a.journal ≡ false → text Side.Sent b ≡ text Side.Received a ++ to_a
 
-holds-flips : (of_a of_b : Terms) (a b : Past) (to_a to_b : List ℕ) → Holds of_a of_b a b to_a to_b → Holds of_b of_a b a to_b to_a
+pub holds-flips : (of_a of_b : Terms) (a b : Past) (to_a to_b : List ℕ) → Holds of_a of_b a b to_a to_b → Holds of_b of_a b a to_b to_a
 holds-flips of_a of_b a b to_a to_b h = record {
   a_fine = h.b_fine;
   b_fine = h.a_fine;
@@ -66,9 +64,9 @@ holds-flips of_a of_b a b to_a to_b h = record {
 }
 
 -- what is known of an end: each item of its journal was lawful, and its fault, if there is one, is the peer's
-record Law (terms : Terms) (past : Past) : Type 0 where
-  items : IsLawful terms none_tunes past.journal
-  peers : (fault : Fault) → past.fault ≡ Some fault → fault.side ≡ Side.Received
+pub record Law (terms : Terms) (past : Past) : Type 0 where
+  pub items : IsLawful terms none_tunes past.journal
+  pub peers : (fault : Fault) → past.fault ≡ Some fault → fault.side ≡ Side.Received
 
 -- ---- an end writes an octet
 
@@ -322,7 +320,7 @@ shown-waits before a at_a (inr e) s =
     let t : Shows none_tunes (over ∷ before) at_a = subst (λ (log : List Moment). Shows none_tunes log at_a) e s in
     subst (λ (p : Past). Shows none_tunes before p) (sym t.2) t.1
 
-linked : (of_a of_b : Terms) → AreEnds of_a of_b → (moves : List Move) (a b : List Moment) (to_a to_b : List ℕ) (at_a at_b : Past) → IsLinked moves a b to_a to_b
+pub linked : (of_a of_b : Terms) → AreEnds of_a of_b → (moves : List Move) (a b : List Moment) (to_a to_b : List ℕ) (at_a at_b : Past) → IsLinked moves a b to_a to_b
     → Shows none_tunes a at_a → Shows none_tunes b at_b → Law of_a at_a → Law of_b at_b → Holds of_a of_b at_a at_b to_a to_b
 linked of_a of_b ends [] a b to_a to_b at_a at_b m s t l k =
     let sa : at_a ≡ no_past = subst (λ (log : List Moment). Shows none_tunes log at_a) m.0 s in
@@ -355,22 +353,3 @@ linked of_a of_b ends (a_waits ∷ moves) a b to_a to_b at_a at_b (before, is, m
     linked of_a of_b ends moves before b to_a to_b at_a at_b m (shown-waits before a at_a is s) t l k
 linked of_a of_b ends (b_waits ∷ moves) a b to_a to_b at_a at_b (before, is, m) s t l k =
     linked of_a of_b ends moves a before to_a to_b at_a at_b m s (shown-waits before b at_b is t) l k
-
-module _ (of_a of_b : Terms) (moves : List Move) (a b : List Moment) (to_a to_b : List ℕ) (at_a at_b : Past) (ends : AreEnds of_a of_b) (m : IsLinked moves a b to_a to_b)
-    (l : IsLawfulLog of_a none_tunes a) (k : IsLawfulLog of_b none_tunes b) (s : Shows none_tunes a at_a) (t : Shows none_tunes b at_b) where
-  both : Holds of_a of_b at_a at_b to_a to_b
-  both =
-      linked of_a of_b ends moves a b to_a to_b at_a at_b m s t (record { items = l.items at_a s; peers = λ fault e. l.faultless at_a fault s e })
-      (record { items = k.items at_b t; peers = λ fault e. k.faultless at_b fault t e })
-
-  pub fine_at_a : at_a.fault ≡ None
-  fine_at_a = both.a_fine
-
-  pub fine_at_b : at_b.fault ≡ None
-  fine_at_b = both.b_fine
-
-  pub read_at_a : (n k : ℕ) → 0 < n → 0 < k → (more : List Mark) × (marks Side.Sent (life n k at_b.journal) ≡ marks Side.Received (life n k at_a.journal) ++ more)
-  read_at_a n k above pos = prefix_at_a of_a of_b both.steps at_a.journal at_b.journal both.items_a both.items_b ends both.run n k above pos
-
-  pub read_at_b : (n k : ℕ) → 0 < n → 0 < k → (more : List Mark) × (marks Side.Sent (life n k at_a.journal) ≡ marks Side.Received (life n k at_b.journal) ++ more)
-  read_at_b n k above pos = prefix_at_b of_a of_b both.steps at_a.journal at_b.journal both.items_a both.items_b ends both.run n k above pos

@@ -16,16 +16,16 @@ append-nil [] = refl
 append-nil (x ∷ xs) = rw (append-nil xs) refl
 
 -- the p-th reply answers the p-th request
-abbrev way_position : List Item → Head → ℕ
+abbrev pub way_position : List Item → Head → ℕ
 way_position past head = if is_msg head.kind then length (requests Side.Received past) - 1 else replies_ended (frames Side.Received past)
 
-abbrev marks_at : ℕ → Head → List ℕ → List Mark
+abbrev pub marks_at : ℕ → Head → List ℕ → List Mark
 marks_at position head payload =
     if not (head.channel == 0 && is_msg head.kind && position == 0)
     then frame_marks (record { kind = head.kind; request = position; ansno = head.ansno }) head payload
     else []
 
-abbrev way_marks : List Item → List Mark
+abbrev pub way_marks : List Item → List Mark
 way_marks [] = []
 way_marks (began by head ∷ past) = way_marks past
 way_marks (passed by head payload ∷ past) = way_marks past ++ marks_at (way_position past head) head payload

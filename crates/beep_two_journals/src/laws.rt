@@ -1,6 +1,6 @@
 //! What holds of two lawful ends of a session, as facts: each function does nothing, and its
 //! contract is the fact.
-ghost use Rattle.std.specs.Prelude.{◌≡◌, true, ℕ, ◌<◌, List, [], ◌∷◌, ◌++◌, None, Some};
+ghost use Rattle.std.specs.Prelude.{◌≡◌, true, false, ℕ, ◌<◌, List, [], ◌∷◌, ◌++◌, None, Some};
 ghost use Rattle.beep_frame.specs.declared.head.Head.{Head};
 ghost use Rattle.beep_frame.specs.Frame.{is_reply};
 ghost use Rattle.beep_history.specs.declared.journal.Side.{Side};
@@ -10,7 +10,7 @@ ghost use Rattle.beep_history.specs.Moments.{IsRising, reply_positions};
 ghost use Rattle.beep_history.specs.Broken.{under_way};
 ghost use Rattle.beep_journal.specs.Lives.{lives, is_live};
 ghost use Rattle.beep_journal.specs.Zero.{zero_history, completes_form, events};
-ghost use Rattle.beep_journal.specs.Life.{life};
+ghost use Rattle.beep_journal.specs.Life.{life, is_released};
 ghost use Rattle.beep_journal.specs.Broken.{none_tunes, broken_content};
 ghost use Rattle.beep_journal.specs.Log.{Moment};
 ghost use Rattle.beep_journal.specs.Journal.{Past, Shows};
@@ -124,6 +124,19 @@ pub fn replies_of_a_life_arrive_in_the_order_of_their_requests()
         → IsRising (reply_positions (marks Side.Received (life number count b))) }
 {}
 
+/// Where nothing lies on the wire to an end, each mark that was sent of a life has arrived in it:
+/// SEQs alone may come after its end.
+pub fn nothing_that_was_sent_of_a_life_is_lost()
+    ensures at_a { (of_a of_b : Terms) (steps : List Step) (a b to_b : List Item)
+        (number count : ℕ) → AreEnds of_a of_b → IsRun of_a of_b steps a b [] to_b
+        → 0 < number → 0 < count
+        → marks Side.Sent (life number count b) ≡ marks Side.Received (life number count a) }
+    ensures at_b { (of_a of_b : Terms) (steps : List Step) (a b to_a : List Item)
+        (number count : ℕ) → AreEnds of_a of_b → IsRun of_a of_b steps a b to_a []
+        → 0 < number → 0 < count
+        → marks Side.Sent (life number count a) ≡ marks Side.Received (life number count b) }
+{}
+
 /// Whatever two lawful ends of a link write, and however it is read, no octet that is read breaks a
 /// rule or leaves a dead stream: the session that a log shows has no fault.
 pub fn no_octet_that_is_read_breaks_a_rule()
@@ -152,4 +165,23 @@ pub fn what_is_read_of_a_life_is_a_prefix_of_what_was_written()
         → Shows none_tunes a at_a → Shows none_tunes b at_b → 0 < number → 0 < count
         → (later : List Mark) × (marks Side.Sent (life number count at_a.journal)
         ≡ marks Side.Received (life number count at_b.journal) ++ later) }
+{}
+
+/// Where no octet lies on the wire to an end, and the session isn't released there, each mark that
+/// was written of a life was read in it.
+pub fn nothing_that_was_written_of_a_life_is_lost()
+    ensures at_a { (of_a of_b : Terms) (moves : List Move) (a b : List Moment) (to_b : List ℕ)
+        (at_a at_b : Past) (number count : ℕ) → AreEnds of_a of_b → IsLinked moves a b [] to_b
+        → IsLawfulLog of_a none_tunes a → IsLawfulLog of_b none_tunes b
+        → Shows none_tunes a at_a → Shows none_tunes b at_b
+        → is_released at_a.journal ≡ false → 0 < number → 0 < count
+        → marks Side.Sent (life number count at_b.journal)
+        ≡ marks Side.Received (life number count at_a.journal) }
+    ensures at_b { (of_a of_b : Terms) (moves : List Move) (a b : List Moment) (to_a : List ℕ)
+        (at_a at_b : Past) (number count : ℕ) → AreEnds of_a of_b → IsLinked moves a b to_a []
+        → IsLawfulLog of_a none_tunes a → IsLawfulLog of_b none_tunes b
+        → Shows none_tunes a at_a → Shows none_tunes b at_b
+        → is_released at_b.journal ≡ false → 0 < number → 0 < count
+        → marks Side.Sent (life number count at_a.journal)
+        ≡ marks Side.Received (life number count at_b.journal) }
 {}

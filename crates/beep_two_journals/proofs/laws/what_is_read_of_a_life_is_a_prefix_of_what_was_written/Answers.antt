@@ -1,4 +1,4 @@
-use Rattle.beep_two_journals.proofs.LinkLemmas.{read_at_a, read_at_b}
+use Rattle.beep_two_journals.proofs.LinkLawLemmas.{read_at_a, read_at_b}
 use Rattle.beep_two_journals.proofs.laws.what_is_read_of_a_life_is_a_prefix_of_what_was_written.Goals as goal
 
 pub returns : goal.returns
