@@ -3,10 +3,12 @@
 #![tactic(auto)]
 
 pub mod laws;
+mod line;
 mod list;
 mod read;
 mod write;
 
+pub use line::{ENTRY_MAX, line_room, write_line};
 pub use list::Entries;
 pub use read::{Place, entries, next_entry};
 pub use write::{body_len, body_of, entry_body};

@@ -1,0 +1,129 @@
+//! The line that a listener writes of an entry.
+ghost use Rattle.std.specs.Prelude.{◌≡◌, ◌+◌, ◌*◌, ◌≤◌, ◌++◌, length};
+ghost use Rattle.prof_raw.specs.Line.{line_of, line_room, bang_mark, more_mark, octet_written, octets_written};
+
+use beep_octets::Octets;
+
+/// The most octets of an entry that its line shows: so many has the longest entry that is sent.
+pub const ENTRY_MAX: usize = 8192;
+
+/// The room for the line of an entry of this length: at most 16,388 octets.
+pub fn line_room(count: usize) -> usize
+    ensures { result ≡ line_room count }
+{
+    count.min(ENTRY_MAX) * 2 + 4
+}
+
+/// Appends the line of an entry, in room that is there. It goes over the octets once.
+pub fn write_line(entry: &[u8], out: &mut Octets)
+    requires { line_room (length entry.now) ≤ out.old.spare }
+    ensures appended { out.new.octets ≡ out.old.octets ++ line_of entry.now }
+    ensures room { out.old.spare ≤ out.new.spare + line_room (length entry.now) }
+{
+    put_bang_mark(entry, out);
+    put_octets(&entry[..entry.len().min(ENTRY_MAX)], out);
+    put_more_mark(entry, out);
+    out.push_spare(b'\n');
+}
+
+fn put_bang_mark(entry: &[u8], out: &mut Octets)
+    requires { 1 ≤ out.old.spare }
+    ensures appended { out.new.octets ≡ out.old.octets ++ bang_mark entry.now }
+    ensures room { out.old.spare ≤ out.new.spare + 1 }
+{
+    if !entry.is_empty() && entry[0] == b'!' {
+        out.push_spare(b'\\');
+    }
+}
+
+fn put_more_mark(entry: &[u8], out: &mut Octets)
+    requires { 2 ≤ out.old.spare }
+    ensures appended { out.new.octets ≡ out.old.octets ++ more_mark entry.now }
+    ensures room { out.old.spare ≤ out.new.spare + 2 }
+{
+    if entry.len() > ENTRY_MAX {
+        out.extend_spare(b"\\+");
+    }
+}
+
+/// Appends octets as they are written.
+fn put_octets(octets: &[u8], out: &mut Octets)
+    requires { 2 * length octets.now ≤ out.old.spare }
+    ensures appended { out.new.octets ≡ out.old.octets ++ octets_written octets.now }
+    ensures room { out.old.spare ≤ out.new.spare + 2 * length octets.now }
+{
+    for octet in octets {
+        put_octet(*octet, out);
+    }
+}
+
+fn put_octet(octet: u8, out: &mut Octets)
+    requires { 2 ≤ out.old.spare }
+    ensures appended { out.new.octets ≡ out.old.octets ++ octet_written octet }
+    ensures room { out.old.spare ≤ out.new.spare + 2 }
+{
+    match octet {
+        b'\n' => out.extend_spare(b"\\n"),
+        b'\r' => out.extend_spare(b"\\r"),
+        b'\\' => out.extend_spare(b"\\\\"),
+        _ => out.push_spare(octet),
+    }
+}
+
+#[cfg(test)]
+mod tests {
+    use super::*;
+    use beep_octets::NoMemory;
+
+    // An entry and its line without the LF, by docs/DECISIONS.md, "The line of an entry".
+    #[test]
+    fn an_entry_is_one_line(rt: HostRuntime) -> Result<(), NoMemory> {
+        let rows = [
+            ("", ""),
+            (
+                "<29>Oct 27 13:21:08 ductwork imxpd[141]",
+                "<29>Oct 27 13:21:08 ductwork imxpd[141]",
+            ),
+            ("a\nb\rc\\d", "a\\nb\\rc\\\\d"),
+            ("\r", "\\r"),
+            ("!", "\\!"),
+            ("!!", "\\!!"),
+            ("a!", "a!"),
+            ("\\!", "\\\\!"),
+            ("\\+", "\\\\+"),
+            ("\t\u{7f}", "\t\u{7f}"),
+        ];
+        for (entry, want) in rows {
+            let mut out = Octets::new(rt.alloc());
+            out.reserve(line_room(entry.len()))?;
+            write_line(entry.as_bytes(), &mut out);
+            let mut line = Octets::new(rt.alloc());
+            line.extend(want.as_bytes())?;
+            line.extend(b"\n")?;
+            assert_eq!(rt; out.as_slice(), line.as_slice(), "at {entry}");
+        }
+        Ok(())
+    }
+
+    // The lengths of an entry of one octet again and again, and of its line.
+    #[test]
+    fn a_long_entry_is_cut(rt: HostRuntime) -> Result<(), NoMemory> {
+        let rows = [(8191, 8192), (8192, 8193), (8193, 8195), (9000, 8195)];
+        for (count, want) in rows {
+            let mut entry = Octets::new(rt.alloc());
+            for _ in 0..count {
+                entry.extend(b"a")?;
+            }
+            let mut out = Octets::new(rt.alloc());
+            out.reserve(line_room(entry.len()))?;
+            write_line(entry.as_slice(), &mut out);
+            assert_eq!(rt; out.len(), want, "at {count}");
+            assert_eq!(rt;
+                out.as_slice().ends_with(b"a\\+\n"),
+                count > ENTRY_MAX,
+                "at {count}"
+            );
+        }
+        Ok(())
+    }
+}
