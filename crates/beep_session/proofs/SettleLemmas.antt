@@ -20,7 +20,8 @@ use Rattle.beep_session.specs.declared.limits.Limits.{Limits}
 use Rattle.beep_peer.specs.declared.settle_error.SettleError.{SettleError}
 use Rattle.beep_peer.specs.declared.peer.Peer.{Peer}
 use Rattle.beep_answering.specs.declared.settled.Settled.{Settled}
-use Rattle.beep_answering.specs.Decided.{IsSettledBy}
+use Rattle.beep_asked.specs.Kept.{Kept, oldest}
+use Rattle.beep_answering.specs.Decided.{IsSettledBy, IsSettledAs}
 use Rattle.beep_peer.specs.Peering.{WaitsIn, IsWaiting, IsReached}
 use Rattle.beep_peer.specs.Calls.{Settles}
 use Rattle.beep_session.specs.Session.{Held}
@@ -42,6 +43,13 @@ module _ (r : Result Settled SettleError) (new : Peer) where
       → IfOk r (λ settled. IsSettledBy (decide (standing_of h.role h.offers h.peer)
       (message_said (gathered Side.Received (zero_history journal) ++ payload)))
       (message_said (gathered Side.Received (zero_history journal) ++ payload)) settled)
+
+  -- a reply is settled as what the oldest own request asks for
+  abbrev pub IsRepliedFor : Held → Type 0
+  IsRepliedFor h = (fed : List ℕ) (journal : List Item) (given taken : Marks) (head : Head) (payload : List ℕ) (one : Kept)
+      → WaitsIn h.limits.window fed journal given taken head payload h.peer → is_msg head.kind ≡ false
+      → oldest h.peer.management.mine.requests ≡ Some one
+      → IfOk r (IsSettledAs one (message_said (gathered Side.Received (zero_history journal) ++ payload)))
 
   -- a reply that is settled has its form
   abbrev pub FitsFor : Held → Type 0
@@ -85,6 +93,12 @@ module _ (h : Held) (new : Peer) (r : Result Settled SettleError) (head : Head) 
     → IfErr r (λ error. error ≡ SettleError.Broken Rule.ZeroReply (modulo_2_64 (length fed - 1)))) where
   abbrev size : ℕ
   size = h.limits.window
+
+  pub reply-replied : (said : Option Form) → said ≡ message_said h.peer.ear.text.octets
+      → ((one : Kept) → oldest h.peer.management.mine.requests ≡ Some one → IfOk r (λ settled. IsSettledAs one said settled)) → IsRepliedFor r new h
+  reply-replied said says by fed journal given taken other payload one w reply is_one =
+      subst (λ (form : Option Form). IfOk r (λ settled. IsSettledAs one form settled))
+      (says-whole size fed journal given taken other payload h.peer w said says) (by one is_one)
 
   pub reply-fits : FitsFor r new h
   reply-fits fed journal given taken other payload w reply all =

@@ -15,6 +15,7 @@ ghost use Rattle.beep_journal.specs.Zero.{zero_history, gathered, completes_form
 ghost use Rattle.beep_standing.specs.Standing.{Marks};
 ghost use Rattle.beep_decide.specs.Decide.{decide as decided};
 ghost use Rattle.beep_decide.specs.Plain.{plain_offer};
+ghost use Rattle.beep_asked.specs.Kept.{Kept, oldest};
 ghost use Rattle.beep_speaking.specs.declared.emit.Emit.{Emit as EmitValue};
 ghost use Rattle.beep_session.specs.declared.event.Event.{Event as EventValue};
 ghost use Rattle.beep_peer.specs.declared.settle_error.SettleError.{SettleError as SettleErrorValue};
@@ -74,7 +75,7 @@ impl Session {
     ghost use Rattle.beep_peer.specs.Left.{left_to_say};
     ghost use Rattle.beep_peer.specs.Waiting.{IsStuck};
     ghost use Rattle.beep_session.specs.Feeds.{Feeds};
-    ghost use Rattle.beep_answering.specs.Decided.{NoneTunes, IsSettledBy};
+    ghost use Rattle.beep_answering.specs.Decided.{NoneTunes, IsSettledBy, IsSettledAs};
     ghost use Rattle.beep_answering.specs.Sent.{is_uri, greeting_of};
     ghost use Rattle.beep_session.specs.Session.{AreLimits};
     ghost use Rattle.beep_peer.specs.Standing.{standing_of};
@@ -133,6 +134,9 @@ impl Session {
             ≡ Some (record { rule = rule; place = place; left = left })
             → (result.0 ≡ 0) × (result.1 ≡ EventValue.Broken rule place)
             × (self.new ≡ self.old) }
+        ensures waiting { (head : HeadValue) → self.old.peer.released ≡ false
+            → self.old.peer.ear.broken ≡ None → self.old.peer.ear.waits ≡ Some head
+            → (result.0 ≡ 0) × (result.1 ≡ EventValue.Zero) × (self.new ≡ self.old) }
         ensures same { self.new ≡ record self.old { peer = self.new.peer } }
     {
         if self.peer.released {
@@ -156,6 +160,13 @@ impl Session {
             (standing_of self.old.role self.old.offers self.old.peer)
             (message_said (gathered Side.Received (zero_history journal) ++ payload)))
             (message_said (gathered Side.Received (zero_history journal) ++ payload)) settled) }
+
+        ensures replied { (fed : List ℕ) (journal : List Item) (given taken : Marks)
+            (head : HeadValue) (payload : List ℕ) (one : Kept) → WaitsIn self.old.limits.window
+            fed journal given taken head payload self.old.peer → is_msg head.kind ≡ false
+            → oldest self.old.peer.management.mine.requests ≡ Some one
+            → IfOk result (IsSettledAs one
+            (message_said (gathered Side.Received (zero_history journal) ++ payload))) }
 
         // A reply without its form breaks ZeroReply, at the last octet of its last frame.
         ensures fits { (fed : List ℕ) (journal : List Item) (given taken : Marks)

@@ -8,7 +8,7 @@ use Rattle.beep_peer.specs.declared.settle_error.SettleError.{SettleError}
 use Rattle.beep_peer.specs.Peering.{zero_waits}
 use Rattle.beep_session.specs.Session.{Held}
 use Rattle.beep_session.proofs.ReachedLemmas.{is-going}
-use Rattle.beep_session.proofs.SettleLemmas.{held-from, FitsFor, BreaksFor, WaitsStill, reply-fits, reply-breaks, reply-waits, reply-reached, request-decided, request-waits}
+use Rattle.beep_session.proofs.SettleLemmas.{held-from, IsRepliedFor, FitsFor, BreaksFor, WaitsStill, reply-replied, reply-fits, reply-breaks, reply-waits, reply-reached, request-decided, request-waits}
 use Rattle.beep_session.proofs.session.Session.settle.Goals as goal
 
 pub settle_reply-requires-clause-waits : goal.settle_reply-requires-clause-waits
@@ -43,6 +43,15 @@ returns-then-not-is_msg-clause-fits c =
     (reply-fits (held-from c.self.inside.standing.role (map plain_offer c.self.inside.standing.offers.items) c.self.inside.limits c.self.inside.peer)
     c.settle_reply.new.peer c.settle_reply.result c.in-Some.head (sym c.waiting.ensures ∙ c.in-Some.is)
     (sym c.is_msg.ensures ∙ c.if-not-is_msg.true) c.settle_reply.ensures.ok c.settle_reply.ensures.fits c.settle_reply.ensures.broken)
+
+pub returns-then-not-is_msg-clause-replied : goal.returns-then-not-is_msg-clause-replied
+returns-then-not-is_msg-clause-replied c =
+    let peer = c.self.inside.peer in
+    subst (IsRepliedFor c.settle_reply.result c.settle_reply.new.peer) c.self.view_is
+    (reply-replied (held-from c.self.inside.standing.role (map plain_offer c.self.inside.standing.offers.items) c.self.inside.limits peer)
+    c.settle_reply.new.peer c.settle_reply.result c.in-Some.head (sym c.waiting.ensures ∙ c.in-Some.is)
+    (sym c.is_msg.ensures ∙ c.if-not-is_msg.true) c.settle_reply.ensures.ok c.settle_reply.ensures.fits c.settle_reply.ensures.broken
+    (option_map form_of c.in-Ok.said) (c.in-Ok.ensures ∙ ap message_said c.text.ensures) c.settle_reply.ensures.settled)
 
 pub returns-then-not-is_msg-clause-broken : goal.returns-then-not-is_msg-clause-broken
 returns-then-not-is_msg-clause-broken c =
