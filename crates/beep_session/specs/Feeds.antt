@@ -63,7 +63,8 @@ pub record ZeroWaits (size : ℕ) (octets fed : List ℕ) (journal : List Item) 
   pub waits : WaitsIn size (fed ++ octets) (gained ++ journal) given taken_now head payload peer
 
 -- what the event says of the octets used, for a peer that isn't over
-abbrev pub Feeds : Event → ℕ → List ℕ → List ℕ → List Item → Marks → Marks → Peer → Type 0
+abbrev pub Feeds : Event → ℕ → List ℕ → List ℕ → List Item → Marks → Marks
+    → Peer → Type 0
 Feeds Event.More size octets fed journal given taken peer =
     GainsSome size octets fed journal given taken peer
 Feeds (Event.Arrived number) size octets fed journal given taken peer =

@@ -49,6 +49,10 @@ abbrev pub has_begun : Duty → Bool
 has_begun (Fresh handle) = false
 has_begun (Begun handle) = true
 
+-- the second holds the session that the first held
+abbrev pub IsSameReference : MutBor Held → MutBor Held → Type 0
+IsSameReference first second = second.ghost_name ≡ first.ghost_name
+
 -- ---- what a lender ends as
 
 -- the name in an `Err`

@@ -269,3 +269,6 @@ impl Session {
         speak(&mut self.peer, &mut self.scratch, most, out)
     }
 }
+
+#[cfg(test)]
+mod tests;

@@ -26,7 +26,7 @@ use beep_peer::CloseError;
 impl<'s> OpenChannel<'s> {
     ghost use Rattle.std.specs.Borrow.{sem, RestsIfNone};
     ghost use Rattle.beep_session.specs.contracts.session.Session.{the_row};
-    ghost use Rattle.beep_session.specs.Lending.{open_session, open_number, closing_session, closing_number, duty_session, duty_number};
+    ghost use Rattle.beep_session.specs.Lending.{IsSameReference, open_session, open_number, closing_session, closing_number, duty_session, duty_number};
 
     /// Asks, and answers the request's position modulo 2^64. The refusals are tried in the order
     /// Closing, TooManyAsked, Full, NoMemory.
@@ -118,7 +118,7 @@ impl<'s> OpenChannel<'s> {
     /// The channel as one whose close waits.
     pub fn into_closing(self) -> ClosingChannel<'s>
         requires closing { is_closing (open_number self) (open_session self).now ≡ true }
-        ensures same_reference { (closing_session result).ghost_name ≡ (open_session self.entry).ghost_name }
+        ensures same_reference { IsSameReference (open_session self.entry) (closing_session result) }
         ensures same { ((closing_session result).now ≡ (open_session self.entry).now)
             × (closing_number result ≡ open_number self.entry) }
     {

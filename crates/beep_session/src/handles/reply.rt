@@ -14,7 +14,7 @@ use beep_outbox::GiveError;
 impl<'c> Owed<'c> {
     ghost use Rattle.std.specs.Borrow.{sem};
     ghost use Rattle.beep_session.specs.contracts.session.Session.{the_row};
-    ghost use Rattle.beep_session.specs.Lending.{RestsIfOk, owed_session, owed_number, answering_session, answering_number};
+    ghost use Rattle.beep_session.specs.Lending.{IsSameReference, RestsIfOk, owed_session, owed_number, answering_session, answering_number};
 
     /// Replies with RPY, or hands the request back. The refusals are tried in the order Full,
     /// NoMemory.
@@ -64,7 +64,7 @@ impl<'c> Owed<'c> {
 
     /// Replies with many answers. It takes no memory.
     pub fn answers(self) -> Answering<'c>
-        ensures same_reference { (answering_session result).ghost_name ≡ (owed_session self.entry).ghost_name }
+        ensures same_reference { IsSameReference (owed_session self.entry) (answering_session result) }
         ensures same { ((answering_session result).now ≡ (owed_session self.entry).now)
             × (answering_number result ≡ owed_number self.entry) }
     {

@@ -1,0 +1,55 @@
+//! Sessions in memory: two that hear each other, and one that is fed by hand.
+
+mod cases;
+mod fed;
+mod rows;
+mod world;
+
+use super::Session;
+use crate::limits::Limits;
+use crate::listing::is_uri;
+use beep_answering::{Offers, Settled};
+use beep_chars::Text;
+use beep_decide::Offer;
+use beep_journal::Role;
+use std::alloc::Global;
+use std::test::Fail;
+
+/// The profile that each end offers.
+const URI: &str = "http://beep.example/pair";
+
+const LIMITS: Limits = Limits {
+    window: 4096,
+    piece: 4096,
+};
+
+/// Room for one frame of the greatest size, and some more.
+const ROOM: usize = 8192;
+
+fn a_peer(alloc: Global, role: Role) -> Result<Session, Fail> {
+    let uri = Text::of(alloc, URI)?;
+    if !is_uri(&uri) {
+        return Err("no URI".into());
+    }
+    let mut offers = Offers::new(alloc);
+    offers.push(Offer { uri, tuning: false })?;
+    let session = Session::new(alloc, role, offers, LIMITS)?;
+    Ok(session)
+}
+
+/// What an end says of a message that it settled.
+fn shown(settled: &Settled) -> &'static str {
+    match settled {
+        Settled::Greeted => "greeted",
+        Settled::Denied(_) => "denied",
+        Settled::Begun { .. } => "begun",
+        Settled::NotBegun { .. } => "not begun",
+        Settled::PeerStarts { .. } => "peer starts",
+        Settled::PeerRefused { .. } => "peer refused",
+        Settled::PeerCloses { .. } => "peer closes",
+        Settled::Closed { .. } => "closed",
+        Settled::NotClosed { .. } => "not closed",
+        Settled::Stale(_) => "stale",
+        Settled::Released => "released",
+    }
+}
