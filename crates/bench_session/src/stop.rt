@@ -1,0 +1,19 @@
+//! Why a run stops early.
+use beep_octets::NoMemory;
+
+/// Why a run stops early.
+#[derive(Clone, Copy, Debug)]
+pub(crate) enum Stop {
+    /// The words are no run.
+    Words,
+    /// A call was refused that is never refused here.
+    Refused,
+    /// Out of memory.
+    NoMemory,
+}
+
+impl From<NoMemory> for Stop {
+    fn from(_: NoMemory) -> Stop {
+        Stop::NoMemory
+    }
+}
