@@ -1,0 +1,7 @@
+mod NumberLemmas
+mod WordLemmas
+mod EventLemmas
+mod LineLemmas
+mod TextLemmas
+mod MadeLemmas
+mod LawLemmas

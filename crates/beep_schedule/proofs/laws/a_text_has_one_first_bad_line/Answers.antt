@@ -1,0 +1,5 @@
+use Rattle.beep_schedule.proofs.LawLemmas.{one_bad_line}
+use Rattle.beep_schedule.proofs.laws.a_text_has_one_first_bad_line.Goals as goal
+
+pub returns : goal.returns
+returns c = one_bad_line

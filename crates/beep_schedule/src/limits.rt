@@ -1,0 +1,25 @@
+//! The ranges of what an event says.
+
+/// The most octets of a schedule's text.
+pub const MAX_SCHEDULE: usize = 16777216;
+
+/// The greatest number of a channel (RFC 3080, section 2.2.1.1).
+pub const MAX_CHANNEL: u32 = 2147483647;
+
+/// The most octets of a message: twice what a channel keeps.
+pub const MAX_LEN: u32 = 2097152;
+
+/// The greatest fill: an octet.
+pub const MAX_FILL: u32 = 255;
+
+/// The most octets of payload that an end is asked to send in one frame.
+pub const MAX_FRAME: u32 = 4096;
+
+/// The most octets in one piece of a wire, or in one take.
+pub const MAX_COUNT: u32 = 65536;
+
+/// The requests of a schedule that is made from a number.
+pub const REQUESTS: u32 = 1000;
+
+/// The channels of a schedule that is made from a number.
+pub const CHANNELS: u32 = 8;
