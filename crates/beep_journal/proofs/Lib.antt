@@ -1,3 +1,4 @@
+pub mod FormLemmas
 pub mod LivesLemmas
 pub mod LifeLemmas
 pub mod OctetLemmas

@@ -2,23 +2,22 @@
 //!
 //! No session runs this: it is the definitions in code, slow, so that they can be tried on
 //! examples.
-ghost use Rattle.std.specs.Prelude.{◌≡◌, ◌≤◌, ◌++◌, length, map, IfOk, IsTrue, option_map, bytes_eq};
-ghost use Rattle.std.specs.List.{list_any};
+ghost use Rattle.std.specs.Prelude.{◌≡◌, ◌≤◌, ◌++◌, length, map, IfOk, IsTrue, option_map};
 ghost use Rattle.std.specs.Option.{option_copied};
 ghost use Rattle.beep_frame.specs.Frame.{is_reply};
 ghost use Rattle.beep_history.specs.Marks.{position_of};
 ghost use Rattle.beep_history.specs.Journal.{history_of, other};
-ghost use Rattle.beep_mgmt.specs.Form.{form_of, plain_profile};
+ghost use Rattle.beep_mgmt.specs.Form.{form_of};
 ghost use Rattle.beep_mgmt.specs.Message.{message_said};
-ghost use Rattle.beep_journal.specs.Zero.{zero_history, gathered, asked, said_at, is_choice_of, is_grant, is_refusal, has_form, completes_form, coming, granting, effect, zero_events, events};
+ghost use Rattle.beep_journal.specs.Zero.{zero_history, gathered, asked, said_at, completes_form, coming, granting, effect, zero_events, events};
 ghost use Rattle.beep_journal.specs.Plain.{forms_of, form_in, events_of, events_in};
 
 use crate::event::LifeEvent;
+use crate::form::has_form;
 use crate::item::{channel_of, copied, opening, put_first};
-use beep_chars::Text;
 use beep_frame::{Head, Kind};
 use beep_history::{JournalItem, Side, latest_request};
-use beep_mgmt::{Mgmt, MgmtError, Profile, Profiles, read_mgmt};
+use beep_mgmt::{Mgmt, MgmtError, read_mgmt};
 use beep_octets::{NoMemory, Octets};
 use std::alloc::Global;
 
@@ -124,78 +123,6 @@ pub fn said_at(position: usize, forms: &[Option<Mgmt>]) -> Option<&Mgmt>
     }
 }
 
-/// Whether one of these profiles has this URI.
-fn lists(listed: &[Profile], uri: &Text) -> bool
-    ensures { result
-        ≡ list_any (λ candidate. bytes_eq candidate.uri uri.now) (map plain_profile listed.now) }
-{
-    match listed {
-        [] => false,
-        [candidate, others @ ..] => candidate.uri.same(uri) || lists(others, uri),
-    }
-}
-
-/// Whether a profile is one of those listed, and its content could be read.
-fn is_choice_of(listed: &Profiles, profile: &Profile) -> bool
-    ensures { result ≡ is_choice_of (map plain_profile listed.now) (plain_profile profile.now) }
-{
-    lists(listed.as_slice(), &profile.uri) && profile.readable
-}
-
-/// Whether a positive reply to the request at a position says what grants it.
-fn is_grant(position: usize, request: Option<&Mgmt>, reply: Option<&Mgmt>) -> bool
-    ensures { result
-        ≡ is_grant position (form_in (option_copied request.entry))
-        (form_in (option_copied reply.entry)) }
-{
-    let Some(reply) = reply else { return false };
-    match request {
-        None => matches!(reply, Mgmt::Greeting { .. }) && position == 0,
-        Some(Mgmt::Start { profiles, .. }) => match reply {
-            Mgmt::Chosen { profile } => is_choice_of(profiles, profile),
-            Mgmt::Greeting { .. }
-            | Mgmt::Start { .. }
-            | Mgmt::Close { .. }
-            | Mgmt::Okay
-            | Mgmt::Fault { .. } => false,
-        },
-        Some(Mgmt::Close { .. }) => matches!(reply, Mgmt::Okay),
-        Some(Mgmt::Greeting { .. } | Mgmt::Chosen { .. } | Mgmt::Okay | Mgmt::Fault { .. }) => {
-            false
-        }
-    }
-}
-
-/// Whether a negative reply says an error.
-fn is_refusal(reply: Option<&Mgmt>) -> bool
-    ensures { result ≡ is_refusal (form_in (option_copied reply.entry)) }
-{
-    match reply {
-        Some(Mgmt::Fault { .. }) => true,
-        Some(
-            Mgmt::Greeting { .. }
-            | Mgmt::Start { .. }
-            | Mgmt::Chosen { .. }
-            | Mgmt::Close { .. }
-            | Mgmt::Okay,
-        )
-        | None => false,
-    }
-}
-
-/// Whether a whole reply of this kind has the form that its request asks for.
-fn has_form(kind: Kind, position: usize, request: Option<&Mgmt>, reply: Option<&Mgmt>) -> bool
-    ensures { result
-        ≡ has_form kind position (form_in (option_copied request.entry))
-        (form_in (option_copied reply.entry)) }
-{
-    match kind {
-        Kind::Rpy => is_grant(position, request, reply),
-        Kind::Err => is_refusal(reply),
-        Kind::Msg | Kind::Ans | Kind::Nul => false,
-    }
-}
-
 /// The position that a reply of a side names: of the latest request of the other side with its
 /// number, or 0.
 fn replied_position(side: Side, zero: &[JournalItem], head: &Head) -> usize
@@ -222,7 +149,7 @@ pub fn completes_form(
     let reply = completed(alloc, side, payload, zero)?;
     Ok(has_form(
         head.kind,
-        position,
+        position == 0,
         said_at(position, &requests),
         reply.as_ref(),
     ))
