@@ -1,5 +1,4 @@
 pub mod KeptLemmas
-pub mod FormLemmas
 pub mod AskedLemmas
 pub mod MovesLemmas
 pub mod QueueLemmas

@@ -6,7 +6,6 @@
 //! specs/; the laws say what each item of it makes of both queues.
 #![tactic(auto)]
 
-mod form;
 pub mod laws;
 mod request;
 mod waiting;

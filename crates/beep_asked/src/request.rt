@@ -2,8 +2,8 @@
 ghost use Rattle.std.specs.Prelude.{◌≡◌, None, true, false, option_map};
 ghost use Rattle.beep_mgmt.specs.Form.{form_of};
 
-use crate::form::has_form;
 use beep_frame::Kind;
+use beep_journal::has_form;
 use beep_mgmt::Mgmt;
 
 /// A whole request: what it says, where it could be read; whether it is the implied one; and
@@ -93,7 +93,7 @@ impl Request {
     pub(crate) fn fits(&self, kind: Kind, said: &Option<Mgmt>) -> bool
         ensures { result ≡ fits kind (option_map form_of said.now) (kept_of self.now) }
     {
-        has_form(kind, self.implied, &self.said, said)
+        has_form(kind, self.implied, self.said.as_ref(), said.as_ref())
     }
 
     /// The life of this number has ended: where it is a close of the number, it names none.
