@@ -6,9 +6,11 @@ use Rattle.std.proofs.Math.Logic.{∥∥₁_map}
 use Rattle.std.proofs.lemmas.List.{take_rest}
 use Rattle.std.proofs.Math.Seq.{take-add}
 use Rattle.beep_frame.specs.declared.head.Head.{Head}
+use Rattle.beep_frame.specs.Stream.{IsHeadOf}
 use Rattle.beep_frame.specs.Modulo.{modulo_2_64}
 use Rattle.beep_history.specs.declared.journal.Side.{Side}
 use Rattle.beep_history.specs.Journal.{Item, passed}
+use Rattle.beep_history.specs.Broken.{under_way}
 use Rattle.beep_journal.specs.Journal.{spelled}
 use Rattle.beep_channel.specs.Held.{Live}
 use Rattle.beep_standing.specs.Standing.{Marks, AreLiveBy}
@@ -121,6 +123,8 @@ module _ (size : ℕ) (one two fed : List ℕ) (journal : List Item) (given take
         rest = h.rest;
         octets_are = ap (λ x. one ++ x) h.octets_are ∙ sym (append_assoc one h.before (h.octet ∷ []));
         fed_is = sym (append_assoc fed one h.before) ∙ h.fed_is ∙ ap (λ j. spelled Side.Received j ++ h.rest) same;
+        less = h.less;
+        is_head = subst (λ j. IsHeadOf h.rest (under_way Side.Received j)) same h.is_head;
         breaks = subst (λ j. BreaksAt j h.rest h.octet rule) same h.breaks;
         place_is = h.place_is ∙ ap (λ f. modulo_2_64 (length f)) (append_assoc fed one h.before);
         taken_now = h.taken_now;

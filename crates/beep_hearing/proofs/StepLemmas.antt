@@ -1,15 +1,18 @@
 -- What one step of a decoder makes of an ear and of the journal for which it stands.
-use Rattle.std.proofs.Common.{◌≡◌, ℕ, ◌+◌, ◌-◌, ◌^◌, ◌<◌, ◌==◌, inl, inr, Bool, true, false, ◌&&◌, ◌||◌, nat_lt, if◌then◌else◌, List, [], ◌∷◌, ◌++◌, length, map, Option, None, Some, refl, sym, ap, subst, subst₂, ◌∙◌, append_assoc, append-nil, arith, length-append, lt-ltb}
+use Rattle.std.proofs.Common.{◌≡◌, ℕ, ◌+◌, ◌-◌, ◌^◌, ◌<◌, ◌==◌, inl, inr, Bool, true, false, ◌&&◌, ◌||◌, nat_lt, if◌then◌else◌, List, [], ◌∷◌, ◌++◌, length, map, Option, None, Some, refl, sym, ap, subst, subst₂, ◌∙◌, append_assoc, append-nil, replicate, arith, length-append, lt-ltb}
 use Rattle.std.specs.List.{flat_map}
-use Rattle.std.proofs.lemmas.List.{append_cancel_left}
-use Rattle.beep_octets.specs.Held.{Held}
+use Rattle.std.proofs.lemmas.List.{append_cancel_left, length-replicate}
 use Rattle.beep_frame.specs.declared.head.Head.{Head}
 use Rattle.beep_frame.specs.declared.rule.Rule.{Rule}
 use Rattle.beep_frame.specs.declared.seq.Seq.{Seq}
 use Rattle.beep_frame.specs.declared.limits.TheConstants.{MAX_PAYLOAD}
-use Rattle.beep_frame.specs.Frame.{Frame, framed, seq_frame, IsFrame}
-use Rattle.beep_frame.specs.Spelling.{header, spelling}
-use Rattle.beep_frame.specs.Stream.{Stream, BreaksBy}
+use Rattle.beep_frame.specs.Frame.{Frame, framed, seq_frame, IsFrame, IsSeq}
+use Rattle.beep_frame.specs.Spelling.{header, seq_line, line_end, spelling}
+use Rattle.beep_frame.specs.Line.{at_head, at_seq}
+use Rattle.beep_frame.proofs.AliveLemmas.{unfinished_header}
+use Rattle.beep_frame.proofs.LawLemmas.{not_whole, length-seq_line}
+use Rattle.beep_frame.proofs.StreamLemmas.{same_line}
+use Rattle.beep_frame.specs.Stream.{Stream, IsUnfinished, HasNoHead, IsHeadOf, BreaksBy}
 use Rattle.beep_frame.specs.Modulo.{modulo_2_64}
 use Rattle.beep_frame.specs.Decoding.{DecoderState, WasFed}
 use Rattle.beep_frame.specs.Decodes.{GivesHead, GivesFrame, GivesSeq, Breaks as DecoderBreaks}
@@ -24,6 +27,7 @@ use Rattle.beep_journal.specs.Journal.{Past, spelled, fault_at, begins, seq_ends
 use Rattle.beep_journal.proofs.JournalLemmas.{above-zero}
 use Rattle.beep_channel.specs.Held.{Live}
 use Rattle.beep_standing.specs.Standing.{Marks, AreLiveBy}
+use Rattle.beep_hearing.specs.Gathered.{Gathered}
 use Rattle.beep_hearing.specs.declared.ear.Ear.{Ear}
 use Rattle.beep_hearing.specs.Hears.{IsText, IsFed, IsEar, BreaksAt, Goes, Arrives, EndsZero, PassesBy, Breaks, ends_zero}
 use Rattle.beep_hearing.specs.Left.{HasRoom, stopped_at, last_place}
@@ -78,6 +82,18 @@ stream_breaks past octet max rule frames limit stream (inr (inr size)) =
     let first : broken_head none_tunes Side.Received past.journal head ≡ Some rule =
     too_large Side.Received past.journal head (subst (λ n. n < head.size) limit size.3) ∙ ap (λ r. Some r) (sym size.0) in
     inr (inl (record { head = head; is_head = size.2; whole = whole; new_is = ap (λ b. begins b Side.Received octet head past) (sym first) }))
+
+-- no header begins a SEQ without its last octet
+not_in_seq : (seq : Seq) (octets : List ℕ) (octet : ℕ) → IsSeq seq → octets ++ octet ∷ [] ≡ spelling (seq_frame seq) → HasNoHead octets
+not_in_seq seq octets octet is e = record {
+  short = omega (arith, ap length e, length-append octets (octet ∷ []), length-append (seq_line seq) line_end, length-seq_line seq is);
+  none = λ head more is_head begins.
+      let whole : spelling (seq_frame seq) ++ [] ≡ header head ++ (more ++ octet ∷ []) =
+      append-nil (spelling (seq_frame seq)) ∙ sym e ∙ ap (λ x. x ++ octet ∷ []) begins ∙ append_assoc (header head) more (octet ∷ []) in
+      let line = same_line (seq_frame seq) (framed head (replicate head.size 0)) [] (more ++ octet ∷ []) is (is_head, length-replicate head.size 0) whole in
+      let ends : at_seq seq ≡ at_head head = line.end in
+      cc;
+}
 
 -- octets that end are some and a last one
 pub record Ends (octets : List ℕ) : Type 0 where
@@ -258,7 +274,7 @@ module _ (size : ℕ) (fed rest : List ℕ) (journal : List Item) (given taken :
         → gathered Side.Received (zero_history (passed Side.Received head payload ∷ journal)) ≡ gathered Side.Received (zero_history journal) ++ payload
     part_text b zero more = rw (zero, more) refl
 
-    pub goes_part : (text : Held) (later : List Live) → (head.channel == 0) ≡ true → head.more ≡ true
+    pub goes_part : (text : Gathered) (later : List Live) → (head.channel == 0) ≡ true → head.more ≡ true
         → IsText text (gathered Side.Received (zero_history journal) ++ payload)
         → PassesBy size (passed Side.Received head payload ∷ journal) given taken later
         → Goes size octets fed journal given taken (record read { under = None; heard = true; text = text }) later
@@ -285,7 +301,7 @@ module _ (size : ℕ) (fed rest : List ℕ) (journal : List Item) (given taken :
       };
     }
 
-    pub goes_zero : (text : Held) → (head.channel == 0) ≡ true → head.more ≡ false → decoder.whole ≡ true → HasRoom 0 channels
+    pub goes_zero : (text : Gathered) → (head.channel == 0) ≡ true → head.more ≡ false → decoder.whole ≡ true → HasRoom 0 channels
         → IsText text (gathered Side.Received (zero_history journal) ++ payload)
         → EndsZero head size octets fed journal given taken (record read { waits = Some head; text = text }) channels
     goes_zero text zero last whole room is = record {
@@ -318,9 +334,9 @@ module _ (size : ℕ) (fed rest : List ℕ) (journal : List Item) (given taken :
 
   -- a rule is broken by the last octet
   module _ (rule : Rule) (place left : ℕ) (left_is : left ≡ modulo_2_64 (modulo_2_64 (length rest) + length octets)) where
-    breaks_by : (before : List ℕ) (octet : ℕ) → octets ≡ before ++ octet ∷ [] → place ≡ modulo_2_64 (length (fed ++ before)) → BreaksAt journal (rest ++ before) octet rule
-        → Breaks rule place size octets fed journal given taken (stopped_at read rule place left) channels
-    breaks_by before octet cut place_is breaks = record {
+    breaks_by : (before : List ℕ) (octet : ℕ) → octets ≡ before ++ octet ∷ [] → place ≡ modulo_2_64 (length (fed ++ before)) → IsUnfinished (rest ++ before) → IsHeadOf (rest ++ before) under
+        → BreaksAt journal (rest ++ before) octet rule → Breaks rule place size octets fed journal given taken (stopped_at read rule place left) channels
+    breaks_by before octet cut place_is less is_head breaks = record {
       gained = [];
       join = tt;
       quiet = refl;
@@ -329,6 +345,8 @@ module _ (size : ℕ) (fed rest : List ℕ) (journal : List Item) (given taken :
       rest = rest ++ before;
       octets_are = cut;
       fed_is = ap (λ x. x ++ before) s.hears.is_fed.fed_is ∙ append_assoc (spelled Side.Received journal) rest before;
+      less = less;
+      is_head = is_head;
       breaks = breaks;
       place_is = place_is;
       taken_now = taken;
@@ -353,6 +371,8 @@ module _ (size : ℕ) (fed rest : List ℕ) (journal : List Item) (given taken :
     breaks_head head some gives place_is broken =
         let e = ends octets some in
         breaks_by e.before e.last e.whole (at_place place_is e.before e.last e.whole)
+        (unfinished_header (rest ++ e.before) e.last head gives.is_head (joined e.before e.last e.whole ∙ gives.whole))
+        (subst (IsHeadOf (rest ++ e.before)) (sym gives.first) (not_whole head (rest ++ e.before) e.last gives.is_head (joined e.before e.last e.whole ∙ gives.whole)))
         (λ past journal_is rest_is. inr (inl (record {
           head = head;
           is_head = gives.is_head;
@@ -366,6 +386,8 @@ module _ (size : ℕ) (fed rest : List ℕ) (journal : List Item) (given taken :
     breaks_seq seq some gives place_is broken =
         let e = ends octets some in
         breaks_by e.before e.last e.whole (at_place place_is e.before e.last e.whole)
+        (record { frame = seq_frame seq; is_frame = gives.is_seq; next = e.last; others = []; spelled = sym (joined e.before e.last e.whole ∙ gives.whole) })
+        (subst (IsHeadOf (rest ++ e.before)) (sym gives.none) (not_in_seq seq (rest ++ e.before) e.last gives.is_seq (joined e.before e.last e.whole ∙ gives.whole)))
         (λ past journal_is rest_is. inr (inr (inr (inl (record {
           seq = seq;
           is_seq = gives.is_seq;
@@ -376,7 +398,7 @@ module _ (size : ℕ) (fed rest : List ℕ) (journal : List Item) (given taken :
     pub breaks_stream : DecoderBreaks rule place decoder.tracker.max (fed_of fed s.hears.is_fed.frames rest under) octets
         → Breaks rule place size octets fed journal given taken (stopped_at read rule place left) channels
     breaks_stream breaks =
-        breaks_by breaks.before breaks.octet breaks.taken_is breaks.place_is
+        breaks_by breaks.before breaks.octet breaks.taken_is breaks.place_is breaks.stream.unfinished breaks.is_head
         (λ past journal_is rest_is.
         let there : fed ++ breaks.before ≡ spelled Side.Received past.journal ++ past.rest Side.Received =
         ap (λ x. x ++ breaks.before) s.hears.is_fed.fed_is ∙ append_assoc (spelled Side.Received journal) rest breaks.before

@@ -1,12 +1,8 @@
 -- What is kept of the octets of channel zero, and what a take leaves.
-use Rattle.std.proofs.Common.{◌≡◌, ◌⊎◌, inl, inr, ℕ, ◌+◌, ◌-◌, ◌<◌, ◌≤◌, ◌==◌, ◌^◌, nat_lt, nat_le, true, false, Bool, List, ◌∷◌, ◌++◌, length, take, min, Option, refl, sym, ap, ◌∙◌, arith, length-append}
+use Rattle.std.proofs.Common.{◌≡◌, ℕ, ◌+◌, ◌-◌, ◌<◌, ◌==◌, ◌^◌, nat_lt, nat_le, true, false, Bool, List, [], ◌∷◌, ◌++◌, length, take, min, Option, None, refl, sym, ap, ◌∙◌, arith, length-append}
 use Rattle.std.specs.Prelude.{drop}
-use Rattle.std.proofs.lemmas.Grind.{common_steps}
-use Rattle.std.proofs.lemmas.Bool.{cases_lt, leb-false, lt-leb}
-use Rattle.std.proofs.lemmas.List.{take_all, length-take, length-drop}
-use Rattle.std.proofs.Math.Seq.{take-append-add}
+use Rattle.std.proofs.lemmas.List.{length-take, length-drop}
 use Rattle.std.proofs.lemmas.Bool.Decides.{nat_tests}
-use Rattle.beep_octets.specs.Held.{Held, KeepsRoom}
 use Rattle.beep_frame.specs.declared.head.Head.{Head}
 use Rattle.beep_frame.specs.Frame.{Frame, framed, seq_frame, IsFrame}
 use Rattle.beep_frame.specs.Spelling.{header, header_line, line_end, seq_line, spelling, trailer}
@@ -16,6 +12,7 @@ use Rattle.beep_frame.specs.Decoding.{DecoderState, WasFed}
 use Rattle.beep_frame.specs.Fed.{fed_of}
 use Rattle.beep_frame.proofs.LawLemmas.{means, length-header_line, length-seq_line}
 use Rattle.beep_text.specs.declared.limits.TheConstants.{MAX_TEXT}
+use Rattle.beep_text.specs.Said.{element_said}
 use Rattle.beep_mgmt.specs.Message.{message_said}
 use Rattle.beep_inbox.specs.declared.part.Part.{Part}
 use Rattle.beep_inbox.specs.Runs.{Run, octets_of, left_runs}
@@ -24,28 +21,16 @@ use Rattle.beep_channel.specs.Held.{Live}
 use Rattle.beep_lives.specs.Lives.{live_at}
 use Rattle.beep_lives.specs.Edits.{Edits, Takes}
 use Rattle.beep_hearing.specs.Hears.{kept_text}
-use Rattle.beep_hearing.specs.Left.{Gathers, untaken_of}
+use Rattle.beep_hearing.specs.Left.{untaken_of}
 
-text-more : (limit : ℕ) (text whole payload : List ℕ) → text ≡ take limit whole → text ++ take (limit - length text) payload ≡ take limit (whole ++ payload)
-text-more limit text whole payload e = rw e (of (cases_lt (length whole) limit))
-  where
-    of : (length whole < limit) ⊎ (limit ≤ length whole) → take limit whole ++ take (limit - length (take limit whole)) payload ≡ take limit (whole ++ payload)
-    of (inl short) =
-        let all : take limit whole ≡ whole = take_all limit whole (omega (arith, short)) in
-        let sum : length whole + (limit - length whole) ≡ limit = omega (arith, short) in
-        ap (λ (xs : List ℕ). xs ++ take (limit - length xs) payload) all
-        ∙ sym (ap (λ (n : ℕ). take n (whole ++ payload)) (sym sum) ∙ take-append-add whole payload (limit - length whole))
-    of (inr long) = grind (arith, common_steps)
+-- ---- what is kept
 
--- a piece of a payload is kept
-pub gathers : (old new : Held) (payload piece : List ℕ) → piece ≡ take (MAX_TEXT + 1 - length old.octets) payload
-    → (length piece ≤ old.spare → new.octets ≡ old.octets ++ piece) → KeepsRoom old new → Gathers old new payload
-gathers old new payload piece is appended room octets text =
-    let fits : length piece ≤ old.spare = omega (arith, text.room, ap length is, length-take (MAX_TEXT + 1 - length old.octets) payload) in
-    record {
-      is = appended fits ∙ ap (λ (p : List ℕ). old.octets ++ p) is ∙ text-more (MAX_TEXT + 1) old.octets octets payload text.is;
-      room = omega (arith, text.room, room);
-    }
+-- what is no longer than can be read is kept whole
+kept-whole : (octets : List ℕ) → nat_le (length octets) MAX_TEXT ≡ true → kept_text octets ≡ octets
+kept-whole octets short = rw short refl
+
+kept-none : (octets : List ℕ) → nat_le (length octets) MAX_TEXT ≡ false → kept_text octets ≡ []
+kept-none octets long = rw long refl
 
 -- ---- what a take lowers
 
@@ -101,18 +86,17 @@ none-left decoder fed frames rest known left was_fed is =
 
 -- ---- what is kept says what the whole says
 
-kept-long : (octets : List ℕ) → nat_le (length octets) MAX_TEXT ≡ false → nat_le (length (kept_text octets)) MAX_TEXT ≡ false
-kept-long octets long =
-    let above : MAX_TEXT < length octets = leb-false (length octets) MAX_TEXT long in
-    lt-leb (length (kept_text octets)) MAX_TEXT (omega (arith, above, length-take (MAX_TEXT + 1) octets))
+nothing-said : message_said [] ≡ None
+unfolding message_said element_said
+nothing-said = refl
 
-kept-whole : (octets : List ℕ) → nat_le (length octets) MAX_TEXT ≡ true → kept_text octets ≡ octets
-kept-whole octets short = take_all (MAX_TEXT + 1) octets (grind (arith, nat_tests, short))
+long-says : (octets : List ℕ) → nat_le (length octets) MAX_TEXT ≡ false → message_said octets ≡ None
+unfolding message_said
+long-says octets long = rw long refl
 
 pub kept-says : (octets : List ℕ) → message_said (kept_text octets) ≡ message_said octets
-unfolding message_said
 kept-says octets = of (nat_le (length octets) MAX_TEXT) refl
   where
     of : (b : Bool) → nat_le (length octets) MAX_TEXT ≡ b → message_said (kept_text octets) ≡ message_said octets
     of true short = ap message_said (kept-whole octets short)
-    of false long = rw (kept-long octets long, long) refl
+    of false long = ap message_said (kept-none octets long) ∙ nothing-said ∙ sym (long-says octets long)

@@ -1,7 +1,6 @@
 -- The frame of channel zero that waits: that it may pass, and what it leaves once it has passed.
 use Rattle.std.proofs.Common.{◌≡◌, ℕ, ◌+◌, ◌-◌, ◌<◌, ◌≤◌, true, List, [], ◌∷◌, ◌++◌, length, Option, None, Some, refl, sym, ap, subst, ◌∙◌, append-nil, arith, length-append, eqb-true}
 use Rattle.std.proofs.Math.Logic.{∥∥₁_map}
-use Rattle.beep_octets.specs.Held.{Held}
 use Rattle.beep_frame.specs.declared.head.Head.{Head}
 use Rattle.beep_frame.specs.Frame.{framed}
 use Rattle.beep_frame.specs.Spelling.{header, spelling}
@@ -14,15 +13,12 @@ use Rattle.beep_channel.specs.Held.{Live}
 use Rattle.beep_lives.specs.Lives.{live_at, receiving_of}
 use Rattle.beep_standing.specs.Standing.{Marks}
 use Rattle.beep_standing.proofs.ArriveLemmas.{is-each}
+use Rattle.beep_hearing.specs.Gathered.{Gathered}
 use Rattle.beep_hearing.specs.declared.ear.Ear.{Ear}
 use Rattle.beep_hearing.specs.Hears.{IsText, Hears, Waits}
 use Rattle.beep_hearing.specs.Answers.{IsWaiting}
 use Rattle.beep_hearing.specs.Left.{HasRoom, MayPass, last_place}
 use Rattle.beep_hearing.proofs.TextLemmas.{trailer-short}
-
--- an emptied text
-text-emptied : (old new : Held) (octets : List ℕ) → IsText old octets → new.octets ≡ [] → old.spare + length old.octets ≤ new.spare → IsText new []
-text-emptied old new octets text emptied room = record { is = emptied; room = omega (arith, text.room, room) }
 
 place-last : (fed : List ℕ) (used : ℕ) → used ≡ modulo_2_64 (length fed) → 0 < length fed → last_place used ≡ modulo_2_64 (length fed - 1)
 place-last fed used is some = omega (arith, is, some)
@@ -50,9 +46,9 @@ module _ (size : ℕ) (fed : List ℕ) (journal : List Item) (given taken : Mark
   no-text = rw (w.zero_is, w.last) refl
 
   -- the ear once the frame has passed
-  pub hears-passed : (text : Held) → text.octets ≡ [] → old.text.spare + length old.text.octets ≤ text.spare
+  pub hears-passed : (text : Gathered) → IsText text []
       → Hears fed [] (passed Side.Received head payload ∷ journal) (record old { text = text; heard = true; under = None; waits = None })
-  hears-passed text emptied room = record {
+  hears-passed text emptied = record {
     is_fed = record {
       frames = w.frames ++ framed head payload ∷ [];
       fed_is = w.fed_is ∙ sym (append-nil (spelled Side.Received journal ++ spelling (framed head payload)));
@@ -61,7 +57,7 @@ module _ (size : ℕ) (fed : List ℕ) (journal : List Item) (given taken : Mark
       used_is = w.used_is;
     };
     heard = refl;
-    text = subst (IsText text) (sym no-text) (text-emptied old.text text (gathered Side.Received (zero_history journal) ++ payload) w.text emptied room);
+    text = subst (IsText text) (sym no-text) emptied;
     under = refl;
     going = w.going;
     none = refl;

@@ -1,7 +1,7 @@
 -- What a feed answers of the octets that it used, for every journal for which the ear stood, and
 -- what callers know of an ear.
 -- The code goes from step to step of its decoder; here no step appears but the last.
-use Rattle.std.specs.Prelude.{◌≡◌, ℕ, List, Option, None, Some}
+use Rattle.std.specs.Prelude.{◌≡◌, ℕ, Bool, true, false, List, Option, None, Some}
 use Rattle.beep_frame.specs.declared.head.Head.{Head}
 use Rattle.beep_frame.specs.declared.rule.Rule.{Rule}
 use Rattle.beep_history.specs.Journal.{Item}
@@ -25,6 +25,14 @@ Answers (Heard.Broken rule place) size octets fed journal given taken ear channe
     Breaks rule place size octets fed journal given taken ear channels
 Answers Heard.NoMemory size octets fed journal given taken ear channels =
     Goes size octets fed journal given taken ear channels
+
+-- octets were used, and no rule is broken by them: some step ended, or all octets are used
+abbrev pub is_going : Heard → Bool
+is_going Heard.More = true
+is_going (Heard.Arrived number) = true
+is_going (Heard.Zero head) = true
+is_going (Heard.Broken rule place) = false
+is_going Heard.NoMemory = false
 
 -- an ear and the live channels stand for something
 abbrev pub IsHeld : Ear → List Live → Type 0

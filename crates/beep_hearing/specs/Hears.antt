@@ -2,15 +2,15 @@
 -- it (RFC 3080, sections 2.2.1 and 2.3.1; RFC 3081, section 3.1).
 -- The code keeps no journal: here the octets so far are those that the journal spells, and then
 -- less than a frame.
-use Rattle.std.specs.Prelude.{◌≡◌, ℕ, ◌+◌, ◌<◌, ◌≤◌, ◌==◌, Bool, true, false, not, ◌&&◌, List, [], ◌∷◌, ◌++◌, length, take, map, None, Some, is_some, IfSome}
+use Rattle.std.specs.Prelude.{◌≡◌, ℕ, ◌+◌, ◌<◌, ◌≤◌, ◌==◌, nat_le, if◌then◌else◌, Bool, true, false, not, ◌&&◌, List, [], ◌∷◌, ◌++◌, length, map, None, Some, is_some, IfSome}
 use Rattle.std.specs.List.{list_any}
-use Rattle.beep_octets.specs.Held.{Held}
 use Rattle.beep_text.specs.declared.limits.TheConstants.{MAX_TEXT}
 use Rattle.beep_frame.specs.declared.head.Head.{Head}
 use Rattle.beep_frame.specs.declared.rule.Rule.{Rule}
 use Rattle.beep_frame.specs.declared.limits.TheConstants.{MAX_PAYLOAD}
 use Rattle.beep_frame.specs.Frame.{Frame, framed, IsHead, IsFrame, IsSeq}
 use Rattle.beep_frame.specs.Spelling.{spelling}
+use Rattle.beep_frame.specs.Stream.{IsUnfinished, IsHeadOf}
 use Rattle.beep_frame.specs.Modulo.{modulo_2_64}
 use Rattle.beep_frame.specs.Decoding.{DecoderState, WasFed}
 use Rattle.beep_frame.specs.Fed.{fed_of}
@@ -24,18 +24,21 @@ use Rattle.beep_journal.specs.Journal.{Past, spelled, fault_at, TakesOctet}
 use Rattle.beep_lives.specs.Lives.{live_at, numbers}
 use Rattle.beep_channel.specs.Held.{Live, HasRoomOut}
 use Rattle.beep_standing.specs.Standing.{Marks, AreLive, AreLiveBy}
+use Rattle.beep_hearing.specs.Gathered.{Gathered}
 use Rattle.beep_hearing.specs.declared.ear.Ear.{Ear}
 
 -- ---- what is kept
 
--- the octets of a message of channel zero that are kept: one more than can be read, at most
+-- the octets of a message of channel zero that are kept: all, or none where there are more than can
+-- be read
 abbrev pub kept_text : List ℕ → List ℕ
-kept_text octets = take (MAX_TEXT + 1) octets
+kept_text octets = if nat_le (length octets) MAX_TEXT then octets else []
 
 -- the text is these octets, and has room for as many as are ever kept
-pub record IsText (text : Held) (octets : List ℕ) : Type 0 where
+pub record IsText (text : Gathered) (octets : List ℕ) : Type 0 where
   pub is : text.octets ≡ kept_text octets
-  pub room : MAX_TEXT + 1 ≤ length text.octets + text.spare
+  pub long : text.long ≡ not (nat_le (length octets) MAX_TEXT)
+  pub room : MAX_TEXT ≤ length text.octets + text.spare
 
 -- the decoder was fed octets that the received items of a journal spell, and then this rest
 pub record IsFed (fed rest : List ℕ) (journal : List Item) (decoder : DecoderState) (used : ℕ)
@@ -220,6 +223,8 @@ pub record Breaks (rule : Rule) (place size : ℕ) (octets fed : List ℕ) (jour
   pub rest : List ℕ
   pub octets_are : octets ≡ before ++ octet ∷ []
   pub fed_is : fed ++ before ≡ spelled Side.Received (gained ++ journal) ++ rest
+  pub less : IsUnfinished rest
+  pub is_head : IsHeadOf rest (under_way Side.Received (gained ++ journal))
   pub breaks : BreaksAt (gained ++ journal) rest octet rule
   pub place_is : place ≡ modulo_2_64 (length (fed ++ before))
   pub taken_now : Marks

@@ -1,6 +1,5 @@
 -- What the steps of a feed need and leave: for proofs.
 use Rattle.std.specs.Prelude.{◌≡◌, ℕ, ◌+◌, ◌-◌, ◌^◌, ◌<◌, true, List, [], ◌∷◌, ◌++◌, length, Option, None, Some, IfSome, is_some}
-use Rattle.beep_octets.specs.Held.{Held}
 use Rattle.beep_frame.specs.declared.head.Head.{Head}
 use Rattle.beep_frame.specs.declared.rule.Rule.{Rule}
 use Rattle.beep_frame.specs.Frame.{Frame, framed}
@@ -14,6 +13,7 @@ use Rattle.beep_hearing.specs.declared.heard.Heard.{Heard}
 use Rattle.beep_hearing.specs.declared.ear.Ear.{Ear}
 use Rattle.beep_history.specs.Journal.{Item}
 use Rattle.beep_standing.specs.Standing.{Marks, AreLive}
+use Rattle.beep_hearing.specs.Gathered.{Gathered}
 use Rattle.beep_hearing.specs.Hears.{IsText, SameAbove}
 
 -- what channel zero holds untaken, as a number that each take lowers
@@ -73,5 +73,5 @@ pub record MayPass (ear : Ear) (channels : List Live) : Type 0 where
   pub zero : is_some (live_at 0 channels) ≡ true
 
 -- the text gained these octets
-abbrev pub Gathers : Held → Held → List ℕ → Type 0
+abbrev pub Gathers : Gathered → Gathered → List ℕ → Type 0
 Gathers old new payload = (octets : List ℕ) → IsText old octets → IsText new (octets ++ payload)

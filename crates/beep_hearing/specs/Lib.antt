@@ -1,4 +1,5 @@
 -- What public clauses cite.
+pub mod Gathered
 pub mod Hears
 pub mod Answers
 -- What proofs alone need.

@@ -3,6 +3,7 @@ ghost use Rattle.std.specs.Prelude.{◌≡◌, ℕ, List, [], ◌∷◌, ◌++�
 ghost use Rattle.beep_frame.specs.declared.head.Head.{Head as HeadValue};
 ghost use Rattle.beep_frame.specs.declared.rule.Rule.{Rule as RuleValue};
 ghost use Rattle.beep_frame.specs.declared.limits.TheConstants.{MAX_PAYLOAD};
+ghost use Rattle.beep_text.specs.declared.limits.TheConstants.{MAX_TEXT};
 ghost use Rattle.beep_history.specs.declared.journal.Side.{Side};
 ghost use Rattle.beep_history.specs.Journal.{Item, began, passed, told};
 ghost use Rattle.beep_history.specs.Marks.{previous};
@@ -15,18 +16,17 @@ ghost use Rattle.beep_standing.specs.Standing.{Marks, AreLiveBy};
 use crate::hear::{drop_untaken, hear_frame, hear_head, hear_seq};
 use crate::heard::Heard;
 use crate::stopped::Stopped;
-use crate::text::gather;
+use crate::text::ZeroText;
 use beep_frame::{Decoder, FrameRef, Head, MAX_PAYLOAD, Rule, Seq, Step};
 use beep_lives::Lives;
-use beep_octets::{NoMemory, Octets};
-use beep_text::MAX_TEXT;
+use beep_octets::NoMemory;
 use std::alloc::Global;
 
 /// What a session keeps of the octets that it is fed, beside its live channels.
 #[derive(Drop)]
 pub struct Ear {
     decoder: Decoder,
-    text: Octets,
+    text: ZeroText,
     heard: bool,
     used: u64,
     under: Option<Head>,
@@ -39,7 +39,7 @@ impl Ear {
     ghost use Rattle.beep_hearing.specs.declared.heard.Heard.{Heard as HeardValue};
     ghost use Rattle.beep_hearing.specs.declared.stopped.Stopped.{Stopped as StoppedValue};
     ghost use Rattle.beep_hearing.specs.Hears.{Hears, IsEar, Waits, Passes, PassesBy, KeepsOthers, KeepsZeroRoom};
-    ghost use Rattle.beep_hearing.specs.Answers.{Answers, IsHeld, IsReached, IsWaiting, broken_at};
+    ghost use Rattle.beep_hearing.specs.Answers.{Answers, is_going, IsHeld, IsReached, IsWaiting, broken_at};
     ghost use Rattle.beep_hearing.specs.Left.{IfUnder, IsWhole, MayPass, Gathers, heard_by, last_place, stopped_at};
 
     /// An ear to which nothing was fed. It takes room for one payload and for the text of channel
@@ -48,8 +48,7 @@ impl Ear {
         ensures { IfOk result (λ ear. Hears [] [] [] ear) }
     {
         let decoder = Decoder::new(alloc, MAX_PAYLOAD)?;
-        let mut text = Octets::new(alloc);
-        text.reserve(MAX_TEXT + 1)?;
+        let text = ZeroText::new(alloc)?;
         Ok(Ear {
             decoder,
             text,
@@ -86,14 +85,16 @@ impl Ear {
         ensures waiting { (size : ℕ) (fed : List ℕ) (journal : List Item) (given taken : Marks)
             (head : HeadValue) (payload : List ℕ) (channels : List Live)
             → Waits size fed journal given taken head payload self.now channels → result ≡ true }
+        ensures broken { IfSome self.now.broken (λ stopped. result ≡ (stopped.left == 0)) }
     {
         self.left() == 0
     }
 
-    /// The octets so far of the message of channel zero that is under way or waits: at most
-    /// `MAX_TEXT` and one more.
+    /// The octets so far of the message of channel zero that is under way or waits; none where it
+    /// has more than `MAX_TEXT`.
     pub fn text(&self) -> &[u8]
-        ensures { result.now ≡ self.now.text.octets }
+        ensures value { result.now ≡ self.now.text.octets }
+        ensures few { length result.now ≤ MAX_TEXT }
     {
         self.text.as_slice()
     }
@@ -277,7 +278,7 @@ impl Ear {
             self.heard = true;
             return Heard::Arrived(head.channel);
         }
-        gather(&mut self.text, frame.payload);
+        self.text.gather(frame.payload);
         if !head.more {
             self.waits = Some(head);
             return Heard::Zero(head);
@@ -295,7 +296,7 @@ impl Ear {
         requires room { IfUnder self.old lives.old }
         requires some { 0 < length bytes.now }
         ensures within { result.0 ≤ length bytes.now }
-        ensures progress { result.1 ≡ HeardValue.More → 0 < result.0 }
+        ensures progress { is_going result.1 ≡ true → 0 < result.0 }
         ensures answers { (size : ℕ) (fed rest : List ℕ) (journal : List Item)
             (given taken : Marks)
             → IsEar size fed rest journal given taken self.old lives.old
@@ -361,6 +362,8 @@ impl Ear {
             → Answers result.1 size (take result.0 bytes.now) fed journal given taken
             self.new lives.new }
         ensures all { result.1 ≡ HeardValue.More → result.0 ≡ length bytes.now }
+        ensures progress { self.old.broken ≡ None → self.old.waits ≡ None
+            → 0 < length bytes.now → is_going result.1 ≡ true → 0 < result.0 }
         ensures reached { IsReached self.new lives.new }
         ensures waits { (head : HeadValue) → self.old.waits ≡ None
             → result.1 ≡ HeardValue.Zero head → IsWaiting self.new lives.new }

@@ -11,3 +11,4 @@ mod text;
 
 pub use ear::Ear;
 pub use heard::Heard;
+pub use text::ZeroText;

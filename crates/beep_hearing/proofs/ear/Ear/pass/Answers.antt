@@ -62,8 +62,8 @@ pub returns-then-not-head-clause-last : goal.returns-then-not-head-clause-last
 returns-then-not-head-clause-last c head payload w zero last =
     let e = c.frame-frame.ensures w.octets w.frames head payload w.was_fed in (
       ap (λ (h : Head). Heard.Zero h) e.0,
-      ap (λ (h : Head). record c.args.self.now { waits = Some h; text = c.gather.new.text }) e.0,
-      subst (λ (p : List ℕ). Gathers c.args.self.now.text c.gather.new.text p) e.1 c.gather.ensures,
+      ap (λ (h : Head). record c.args.self.now { waits = Some h; text = c.gather.new.self }) e.0,
+      subst (λ (p : List ℕ). Gathers c.args.self.now.text c.gather.new.self p) e.1 c.gather.ensures,
       refl,
     )
 
@@ -72,7 +72,7 @@ returns-clause-part c head payload w zero more =
     let e = c.frame-frame.ensures w.octets w.frames head payload w.was_fed in (
       refl,
       refl,
-      subst (λ (p : List ℕ). Gathers c.args.self.now.text c.gather.new.text p) e.1 c.gather.ensures,
+      subst (λ (p : List ℕ). Gathers c.args.self.now.text c.gather.new.self p) e.1 c.gather.ensures,
       λ size journal given taken s begun.
           subst₂ (λ (h : Head) (p : List ℕ). PassesBy size (passed Side.Received h p ∷ journal) given taken c.drop_untaken.new.lives) e.0 e.1
           (c.drop_untaken.ensures.passes size (passed Side.Received c.frame-frame.result.head c.frame-frame.result.payload.now ∷ journal)

@@ -37,7 +37,8 @@ drop_untaken-requires c = record {
 
 pub returns-clause-hears : goal.returns-clause-hears
 returns-clause-hears c size fed journal given taken head payload w =
-    hears-passed size fed journal given taken head payload c.args.self.now c.args.lives.now w c.clear.new.self c.clear.ensures.emptied c.clear.ensures.room
+    hears-passed size fed journal given taken head payload c.args.self.now c.args.lives.now w c.clear.new.self
+    (c.clear.ensures _ w.text)
 
 pub returns-clause-passes : goal.returns-clause-passes
 returns-clause-passes c size fed journal given taken head payload w =
