@@ -1,0 +1,4 @@
+-- What public clauses cite.
+pub mod Turns
+pub mod Upright
+pub mod Frames
