@@ -78,6 +78,13 @@ pub record IsAnswer (size : ℕ) (said : Option Form) (answer : Prepared) (chann
   pub granted : (kept : Kept) → kept.said ≡ said
       → AreFresh size (numbers_granted (one ∷ []) (kept ∷ [])) (option_to_list channel)
 
+-- the kind of the answer to a request, by the decision: a refusal is an ERR
+abbrev pub kind_of : Decision → Kind
+kind_of (refuse code) = Kind.Err
+kind_of (choose place) = Kind.Rpy
+kind_of (tune place content) = Kind.Rpy
+kind_of grant_close = Kind.Rpy
+
 -- the octets are the message of what the answer to a request says, by the decision
 abbrev pub SaysAnswer : PlainStanding → Decision → List ℕ → Type 0
 SaysAnswer standing decision octets =

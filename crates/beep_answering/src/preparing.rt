@@ -13,7 +13,7 @@ ghost use Rattle.beep_decide.specs.declared.limits.TheConstants.{MAX_CHANNELS};
 ghost use Rattle.beep_decide.specs.Plain.{plain_standing};
 ghost use Rattle.beep_management.specs.Values.{prepared_of};
 ghost use Rattle.beep_answering.specs.Sent.{is_uri};
-ghost use Rattle.beep_answering.specs.Decided.{NoneTunes, number_in, code_in, SettledBy, IsAnswer, SaysAnswer};
+ghost use Rattle.beep_answering.specs.Decided.{NoneTunes, number_in, code_in, SettledBy, IsAnswer, kind_of, SaysAnswer};
 ghost use Rattle.beep_answering.specs.declared.offers.TheConstants.{MAX_OFFERS};
 
 use crate::answer::{choice_text, okay_text, refusal_text};
@@ -56,6 +56,8 @@ pub fn prepare(
     ensures settled { IfOk result (λ prepared. SettledBy
         (decided (plain_standing standing.now) (form_in (option_copied said.entry)))
         (form_in (option_copied said.entry)) prepared.settled prepared.answer.waits) }
+    ensures kind { IfOk result (λ prepared. prepared.answer.kind
+        ≡ kind_of (decided (plain_standing standing.now) (form_in (option_copied said.entry)))) }
     ensures few { IfOk result (λ prepared. is_some prepared.channel ≡ true
         → used_count (plain_standing standing.now) < MAX_CHANNELS) }
 {
@@ -78,6 +80,7 @@ fn prepare_refusal(alloc: Global, code: u16) -> Result<Prepared, NoMemory>
         SaysAnswer standing (refuse code) prepared.answer.octets.octets) }
     ensures settled { (form : Option Form) → IfOk result (λ prepared.
         SettledBy (refuse code) form prepared.settled prepared.answer.waits) }
+    ensures kind { IfOk result (λ prepared. prepared.answer.kind ≡ kind_of (refuse code)) }
     ensures none { IfOk result (λ prepared. prepared.channel ≡ None) }
 {
     Ok(Prepared {
@@ -116,6 +119,7 @@ fn prepare_choice(
         → decided (plain_standing standing.now) form ≡ choose place → number_in form ≡ number
         → IfOk result (λ prepared.
         SettledBy (choose place) form prepared.settled prepared.answer.waits) }
+    ensures kind { IfOk result (λ prepared. prepared.answer.kind ≡ kind_of (choose place)) }
 {
     let Some(offer) = standing.offers.get(place) else {
         unreachable!()
@@ -146,6 +150,7 @@ fn prepare_close(alloc: Global, number: u32, code: u16) -> Result<Prepared, NoMe
         → decided standing form ≡ grant_close
         → number_in form ≡ number → code_in form ≡ code → IfOk result (λ prepared.
         SettledBy grant_close form prepared.settled prepared.answer.waits) }
+    ensures kind { IfOk result (λ prepared. prepared.answer.kind ≡ kind_of grant_close) }
     ensures none { IfOk result (λ prepared. prepared.channel ≡ None) }
 {
     Ok(Prepared {
