@@ -175,11 +175,15 @@ module _ (size : ℕ) (fed : List ℕ) (journal : List Item) (given taken : Mark
       refused : grants head.kind form one ≡ false
       refused = grants-one p.later p.split false refuses
 
+      pub refused-moves : MovesNone (events journal) (events now)
+      refused-moves =
+          subst (λ (z : List Item). MovesNone (events journal) (zero_events z)) (sym (zero-now size fed journal given taken head payload peer w))
+          (refusal-moves Side.Received head payload past (answers p.later p.split) p.later one (waited p.later one p.split) refused)
+
       refused-live : AreLiveBy size now given pass.taken_now channels
       refused-live =
           lives-stay size journal given pass.taken_now channels (passed Side.Received head payload) pass.live
-          (subst (λ (z : List Item). MovesNone (events journal) (zero_events z)) (sym (zero-now size fed journal given taken head payload peer w))
-          (refusal-moves Side.Received head payload past (answers p.later p.split) p.later one (waited p.later one p.split) refused)) w.waits.zero_is
+          refused-moves w.waits.zero_is
 
       refused-managed : IsManaged size now given new w.manages.spoken w.manages.prepared
       refused-managed =
@@ -193,6 +197,7 @@ module _ (size : ℕ) (fed : List ℕ) (journal : List Item) (given taken : Mark
         given_now = given;
         taken_now = pass.taken_now;
         given_is = carries-same journal now channels channels given pass.live.there refused-live.there refl;
+        zero_is = refl;
         taken_is = carries-on journal now taken taken pass.taken_now (carries-same journal now channels channels taken pass.live.there refused-live.there refl) pass.same;
         holds = record {
           live = refused-live;
@@ -211,13 +216,13 @@ module _ (size : ℕ) (fed : List ℕ) (journal : List Item) (given taken : Mark
       granted : grants head.kind form one ≡ true
       granted = grants-one p.later p.split true allows
 
-      moved : IsGranted (is_live_in channels) one (events journal) (events now)
+      pub moved : IsGranted (is_live_in channels) one (events journal) (events now)
       moved =
           subst (λ (z : List Item). IsGranted (is_live_in channels) one (events journal) (zero_events z)) (sym (zero-now size fed journal given taken head payload peer w))
           (grant-moves Side.Received head payload past (answers p.later p.split) p.later one (waited p.later one p.split) granted (is_live_in channels)
           (says-live size journal now given pass.taken_now channels pass.live))
 
-      fresh : AreFresh size (number_started one.said) (option_to_list channel)
+      pub fresh : AreFresh size (number_started one.said) (option_to_list channel)
       fresh =
           (oldest-starts size journal given m w.manages.spoken w.manages.prepared d p.later one p.split (option_to_list channel) new.starting p.starting p.sized).0
 
@@ -285,6 +290,7 @@ module _ (size : ℕ) (fed : List ℕ) (journal : List Item) (given taken : Mark
           given_now = marks_after one.said channels given;
           taken_now = marks_after one.said channels pass.taken_now;
           given_is = carries-done journal now channels after given pass.live.there granted-live.there size one.said one.names (some-channel channel) done;
+          zero_is = zero-after one.said channels given;
           taken_is = carries-from journal now taken pass.taken_now (marks_after one.said channels pass.taken_now) pass.same
               (carries-done journal now channels after pass.taken_now pass.live.there granted-live.there size one.said one.names (some-channel channel) done);
           holds = record {

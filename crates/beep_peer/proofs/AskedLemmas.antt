@@ -29,7 +29,7 @@ use Rattle.beep_management.proofs.SameLemmas.{room-same}
 use Rattle.beep_peer.specs.declared.peer.Peer.{Peer}
 use Rattle.beep_peer.specs.Peering.{Holds, AreHeld}
 use Rattle.beep_answering.specs.Sent.{IsMessage}
-use Rattle.beep_peer.specs.Acts.{asked_of, GivesZero}
+use Rattle.beep_peer.specs.Acts.{asked_of, GivesZero, KeepsManaged}
 use Rattle.beep_peer.proofs.OwedLemmas.{said-short}
 use Rattle.beep_peer.proofs.RoomLemmas.{room-equal, room-used}
 
@@ -79,26 +79,18 @@ same-length old new order =
 
 module _ (size : ℕ) (journal : List Item) (given taken : Marks) (old : List Live) (m : Managed) (h : Holds size journal given taken old m) where
   -- nothing that is kept
-  pub room-holds : (new : List Live) (now : Managed) → Edits 0 KeepsHeld old new → now ≡ record m { mine = now.mine; acts = now.acts }
-      → KeepsQueue m.mine now.mine → KeepsQueue m.acts now.acts → Holds size journal given taken new now
-  room-holds new now e same mine acts = record {
+  pub room-holds : (new : List Live) (now : Managed) → Edits 0 KeepsHeld old new → KeepsManaged m now → Holds size journal given taken new now
+  room-holds new now e k = record {
     live = room-stays size 0 journal journal given taken old new h.live true e;
     zero = h.zero;
     manages = record {
       spoken = h.manages.spoken;
       prepared = h.manages.prepared;
-      is = room-same size journal given m now h.manages.spoken h.manages.prepared h.manages.is mine.requests acts.requests (ap (λ (x : Managed). x.theirs.requests) same)
-          (ap (λ (x : Managed). x.answers) same) (ap (λ (x : Managed). x.starting) same) (ap (λ (x : Managed). x.granted) same)
-          (omega (arith, h.manages.is.room, mine.room, ap length acts.requests));
+      is = room-same size journal given m now h.manages.spoken h.manages.prepared h.manages.is k.mine.requests k.acts.requests k.theirs.requests k.answers k.starting k.granted
+          (omega (arith, h.manages.is.room, k.mine.room, ap length k.acts.requests));
     };
-    few = omega (
-      arith,
-      h.few,
-      same-length old new e.order,
-      ap (λ (x : Managed). length x.starting) same,
-      ap (λ (x : Managed). length x.granted) same,
-    );
-    room = room-equal m.answers now.answers new (ap (λ (x : Managed). x.answers) same) (room-edit 0 KeepsHeld old new (λ b a t. t.keeps) e _ _ h.room);
+    few = omega (arith, h.few, same-length old new e.order, ap length k.starting, ap length k.granted);
+    room = room-equal m.answers now.answers new k.answers (room-edit 0 KeepsHeld old new (λ b a t. t.keeps) e _ _ h.room);
   }
 
   -- ---- what it makes of what is kept

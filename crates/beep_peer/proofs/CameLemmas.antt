@@ -166,6 +166,7 @@ module _ (size : ℕ) (fed : List ℕ) (journal : List Item) (given taken : Mark
     given_now = given;
     taken_now = p.taken_now;
     given_is = carries-same journal now channels channels given p.live.there came-live.there refl;
+    zero_is = refl;
     taken_is = carries-on journal now taken taken p.taken_now (carries-same journal now channels channels taken p.live.there came-live.there refl) p.same;
     holds = record { live = came-live; zero = p.zero; manages = came-managed; few = omega (arith, h.few w.few, same-count peer.lives channels order); room = keeps _ _ h.room };
     releases = released-now size fed journal given taken head payload peer w (is_released journal)

@@ -13,10 +13,12 @@ use Rattle.beep_channel.specs.Held.{Live}
 use Rattle.beep_lives.specs.Lives.{numbers}
 use Rattle.beep_standing.specs.Standing.{Marks}
 use Rattle.beep_hearing.specs.Hears.{Hears, SameAbove}
-use Rattle.beep_management.specs.Managed.{Managed}
+use Rattle.beep_management.specs.Managed.{Prepared, Managed}
 use Rattle.beep_peer.specs.declared.peer.Peer.{Peer}
 use Rattle.beep_peer.specs.Peering.{WaitsIn, Carries}
-use Rattle.beep_peer.specs.Calls.{LetsGo, IsDone, Settles}
+use Rattle.beep_peer.specs.Calls.{LetsGo, IsDone, Settles, words_of}
+use Rattle.beep_peer.specs.Waiting.{AreLetGo, KeepsAbove}
+use Rattle.beep_peer.proofs.LetLemmas.{gives-first}
 
 -- what is given or taken more in channel zero alone carries what was carried
 pub carries-on : (before after : List Item) (old mid new : Marks) → Carries before after old mid → SameAbove mid new → Carries before after old new
@@ -48,14 +50,18 @@ carries-from before after old mid new same c = record { same = λ n above there.
     apart n above = grind (arith, nat_tests)
 
 -- it is done, and what may go of the answers has gone
-pub done-settles : (size : ℕ) (fed : List ℕ) (journal : List Item) (given taken : Marks) (head : Head) (payload : List ℕ) (peer : Peer)
+abbrev pub done-settles : (size : ℕ) (fed : List ℕ) (journal : List Item) (given taken : Marks) (head : Head) (payload : List ℕ) (peer : Peer)
     → WaitsIn size fed journal given taken head payload peer → (channels : List Live) (m : Managed) (released : Bool)
     → (d : IsDone size journal (passed Side.Received head payload ∷ journal) given taken released channels m)
     → (after : Peer) → Hears fed [] (passed Side.Received head payload ∷ journal) after.ear → after.released ≡ (peer.released || released)
+    → (answers : List Prepared) → words_of m.answers ≡ words_of answers
     → LetsGo size (passed Side.Received head payload ∷ journal) d.given_now d.taken_now m.answers after.lives after.management
+    → AreLetGo channels m after.management → KeepsAbove channels after.lives
     → Settles size fed journal given taken head payload after
-done-settles size fed journal given taken head payload peer w channels m released d after hears is g = record {
+done-settles size fed journal given taken head payload peer w channels m released d after hears is answers same g a k = record {
+  answers = answers;
   given_now = g.given_now;
+  gives = gives-first size (passed Side.Received head payload ∷ journal) d.given_now d.taken_now given channels m answers after d.zero_is same g a k;
   taken_now = d.taken_now;
   given_is = carries-on journal (passed Side.Received head payload ∷ journal) given d.given_now g.given_now d.given_is g.same;
   taken_is = d.taken_is;

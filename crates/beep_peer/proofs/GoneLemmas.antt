@@ -113,6 +113,7 @@ module _ (size : ℕ) (journal : List Item) (given taken : Marks) (head : Head) 
     given_now = given;
     taken_now = taken;
     given_is = carries-same before now channels channels given g.live.there live.there refl;
+    zero_is = refl;
     taken_is = carries-same before now channels channels taken g.live.there live.there refl;
     holds = record {
       live = live;
@@ -162,6 +163,7 @@ module _ (size : ℕ) (journal : List Item) (given taken : Marks) (head : Head) 
       given_now = given;
       taken_now = taken;
       given_is = carries-same before now channels channels given g.live.there live.there refl;
+      zero_is = refl;
       taken_is = carries-same before now channels channels taken g.live.there live.there refl;
       holds = record {
         live = live;
@@ -242,6 +244,7 @@ module _ (size : ℕ) (journal : List Item) (given taken : Marks) (head : Head) 
         given_now = marks_after one.said channels given;
         taken_now = marks_after one.said channels taken;
         given_is = carries-done before now channels after given g.live.there live.there size one.said one.names (some-channel channel) done;
+        zero_is = zero-after one.said channels given;
         taken_is = carries-done before now channels after taken g.live.there live.there size one.said one.names (some-channel channel) done;
         holds = record {
           live = live;

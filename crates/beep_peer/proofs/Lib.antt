@@ -3,6 +3,7 @@ pub mod AskedLemmas
 pub mod CameLemmas
 pub mod CarriesLemmas
 pub mod CountLemmas
+pub mod LetLemmas
 pub mod DoneLemmas
 pub mod DrainedLemmas
 pub mod FallLemmas
@@ -20,3 +21,15 @@ pub mod SpeakLemmas
 pub mod StandingLemmas
 pub mod StuckLemmas
 pub mod WaitingLemmas
+pub mod KindsLemmas
+pub mod LawfulLemmas
+pub mod LetGoLemmas
+pub mod WentLemmas
+pub mod GoesLemmas
+pub mod ObeyLemmas
+pub mod HeardLemmas
+pub mod AskLemmas
+pub mod BeginLemmas
+pub mod MayLemmas
+pub mod ReleasesLemmas
+pub mod UnchangedLemmas

@@ -13,7 +13,7 @@ use Rattle.beep_channel.specs.Held.{Live}
 use Rattle.beep_decide.specs.Decide.{PlainOffer}
 use Rattle.beep_lives.specs.Lives.{live_at}
 use Rattle.beep_lives.specs.Edits.{AreNew, Edits, KeepsHeld}
-use Rattle.beep_standing.specs.Standing.{Marks, AreLiveBy, no_marks}
+use Rattle.beep_standing.specs.Standing.{AreLive, Marks, AreLiveBy, no_marks}
 use Rattle.beep_standing.proofs.NewLemmas.{new-session}
 use Rattle.beep_standing.proofs.SendLemmas.{room-stays}
 use Rattle.beep_asked.specs.Kept.{implied_request}
@@ -120,6 +120,9 @@ module _ (size : ℕ) (octets : List ℕ) (answers : List Prepared) (is : answer
         {B = (fed : List ℕ) × (rest : List ℕ) × (journal : List Item) × (given : Marks) × (taken : Marks) × IsPeer size fed rest journal given taken peer}
         held (λ l. ([], [], [], l.given_now, no_marks, stands l));
     waiting = λ head b w. absurd (let e : None ≡ Some head = sym hears.none ∙ w in cc);
+    stands = ∥∥₁_map {A = LetsGo size [] no_marks no_marks answers peer.lives peer.management}
+        {B = (lives : List Item) × (journal : List Item) × (given : Marks) × (taken : Marks) × AreLive size lives journal given taken peer.lives}
+        held (λ l. ([], [], l.given_now, no_marks, l.holds.live));
   }
 
   pub new-empty : ∥ LetsGo size [] no_marks no_marks answers peer.lives peer.management ∥₁ → peer.management.answers ≡ []

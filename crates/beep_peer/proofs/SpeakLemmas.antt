@@ -24,13 +24,15 @@ use Rattle.beep_standing.proofs.DueLemmas.{sent-next, told-due, none-by, channel
 use Rattle.beep_hearing.specs.declared.ear.Ear.{Ear}
 use Rattle.beep_hearing.specs.Hears.{Hears, IsZeroTaken, SameAbove, ends_zero}
 use Rattle.beep_hearing.proofs.RoomLemmas.{room-edit}
-use Rattle.beep_management.specs.Managed.{Prepared, Managed}
+use Rattle.beep_management.specs.Managed.{Managed}
 use Rattle.beep_management.proofs.ItemLemmas.{header-stays, seq-stays}
 use Rattle.beep_speaking.specs.declared.emit.Emit.{Emit}
 use Rattle.beep_speaking.specs.Emits.{Emits, SendsNext, IsReached}
 use Rattle.beep_peer.specs.declared.peer.Peer.{Peer}
 use Rattle.beep_peer.specs.Peering.{AreFew, Holds, IsPeer, Carries, AreHeld, IsGoing, is_greeted}
-use Rattle.beep_peer.specs.Calls.{LetsGo, HasGone, IsDone, HasSent, IsSent, Speaks}
+use Rattle.beep_peer.specs.Calls.{LetsGo, HasGone, IsDone, HasSent, IsSent, Speaks, words_of}
+use Rattle.beep_peer.specs.Waiting.{AreLetGo, KeepsAbove}
+use Rattle.beep_peer.proofs.LetLemmas.{gives-first}
 use Rattle.beep_peer.proofs.GainLemmas.{quiet-events, quiet-managed}
 use Rattle.beep_peer.proofs.SentItemLemmas.{deaf-header, deaf-frame, deaf-seq, deaf-hears, deaf-zero}
 
@@ -124,7 +126,7 @@ module _ (size most : ℕ) (fed rest : List ℕ) (journal : List Item) (given ta
   }
 
   pub data-speaks : (head : Head) (later : Peer) (w : SendsNext most head peer.lives new before after)
-      → IsSent size fed rest journal (passed Side.Sent head w.payload ∷ began Side.Sent head ∷ journal) given taken later
+      → IsSent size fed rest journal (passed Side.Sent head w.payload ∷ began Side.Sent head ∷ journal) given taken peer.management.answers later
       → Speaks (Emit.Data head) size most fed rest journal given taken peer later before after
   data-speaks head later w sent = (
     w.payload,
@@ -193,10 +195,12 @@ module _ (size : ℕ) (journal : List Item) (given taken : Marks) (head : Head) 
         (deaf-hears (began Side.Sent head) journal fed rest peer.ear (deaf-header head journal) h)
 
     -- answers were let go after it
-    pub quiet-sent : (answers : List Prepared) (now : Peer) → ends_zero (passed Side.Sent head payload) ≡ false → now.ear ≡ peer.ear → now.released ≡ peer.released
-        → LetsGo size whole given taken answers now.lives now.management → IsSent size fed rest journal whole given taken now
-    quiet-sent answers now quiet ear released l = record {
+    pub quiet-sent : (now : Peer) → ends_zero (passed Side.Sent head payload) ≡ false → now.ear ≡ peer.ear → now.released ≡ peer.released
+        → LetsGo size whole given taken peer.management.answers now.lives now.management → AreLetGo peer.lives peer.management now.management
+        → KeepsAbove peer.lives now.lives → IsSent size fed rest journal whole given taken peer.management.answers now
+    quiet-sent now quiet ear released l a k = record {
       given_now = l.given_now;
+      gives = gives-first size whole given taken given peer.lives peer.management peer.management.answers now refl refl l a k;
       taken_now = taken;
       given_is = carries-above journal whole given given l.given_now (carries-same journal whole given same) l.same;
       taken_is = carries-same journal whole taken same;
@@ -214,11 +218,13 @@ module _ (size : ℕ) (journal : List Item) (given taken : Marks) (head : Head) 
     pub gone-sent : (releases : Bool) (lives : List Live) (m : Managed) (now : Peer) → IsDone size begun whole given taken releases lives m
         → now.ear ≡ peer.ear → now.released ≡ (releases || peer.released)
         → ((given_now taken_now : Marks) → Holds size whole given_now taken_now lives m → LetsGo size whole given_now taken_now m.answers now.lives now.management)
-        → IsSent size fed rest journal whole given taken now
-    gone-sent releases lives m now d ear released lets =
+        → words_of m.answers ≡ words_of peer.management.answers → AreLetGo lives m now.management → KeepsAbove lives now.lives
+        → IsSent size fed rest journal whole given taken peer.management.answers now
+    gone-sent releases lives m now d ear released lets same a k =
         let l = lets d.given_now d.taken_now d.holds in
         record {
           given_now = l.given_now;
+          gives = gives-first size whole d.given_now d.taken_now given lives m peer.management.answers now d.zero_is same l a k;
           taken_now = d.taken_now;
           given_is = carries-above journal whole given d.given_now l.given_now (from-begun given d.given_now d.given_is) l.same;
           taken_is = from-begun taken d.taken_now d.taken_is;

@@ -6,12 +6,13 @@ use Rattle.beep_history.specs.declared.limits.TheConstants.{MAX_REQUESTS}
 use Rattle.beep_exchange.specs.Given.{first_asked_now}
 use Rattle.beep_frame.specs.declared.kind.Kind.{Kind}
 use Rattle.beep_outbox.specs.Queue.{Message, message_marks}
-use Rattle.beep_channel.specs.Held.{Live}
+use Rattle.beep_channel.specs.Held.{Held, Live}
 use Rattle.beep_lives.specs.Lives.{live_at, numbers}
 use Rattle.beep_decide.specs.declared.limits.TheConstants.{MAX_CHANNELS}
 use Rattle.beep_standing.specs.Standing.{Marks, with_marks}
 use Rattle.beep_asked.specs.Kept.{Kept, is_leaving}
 use Rattle.beep_management.specs.Managed.{Managed, numbers_of, has_number, lowest}
+use Rattle.beep_management.specs.Steps.{KeepsQueue}
 use Rattle.beep_peer.specs.Standing.{rest_of, leaves}
 use Rattle.beep_peer.specs.declared.refusals.StartError.{StartError}
 use Rattle.beep_peer.specs.declared.refusals.ReleaseError.{ReleaseError}
@@ -108,10 +109,28 @@ pub record KeepsRequest (request : Kept) (fresh : List Live) (old new : Managed)
   pub acts : new.acts.requests ≡ request ∷ old.acts.requests
   pub starting : new.starting ≡ old.starting ++ fresh
 
+-- ---- what stays
+
+-- what is held of a channel, where it lives
+abbrev pub held_of : Option Live → Option Held
+held_of None = None
+held_of (Some channel) = Some channel.held
+
+-- what is kept of channel zero stays, but for room in its queues
+pub record KeepsManaged (old new : Managed) : Type 0 where
+  pub mine : KeepsQueue old.mine new.mine
+  pub acts : KeepsQueue old.acts new.acts
+  pub theirs : KeepsQueue old.theirs new.theirs
+  pub answers : new.answers ≡ old.answers
+  pub starting : new.starting ≡ old.starting
+  pub granted : new.granted ≡ old.granted
+
 -- nothing is changed but room that was made
 pub record IsUnchanged (old new : Peer) : Type 0 where
   pub ear : new.ear ≡ old.ear
   pub released : new.released ≡ old.released
+  pub held : (n : ℕ) → held_of (live_at n new.lives) ≡ held_of (live_at n old.lives)
+  pub kept : KeepsManaged old.management new.management
   pub holds : (size : ℕ) (journal : List Item) (given taken : Marks)
       → Holds size journal given taken old.lives old.management
       → Holds size journal given taken new.lives new.management

@@ -7,7 +7,7 @@ use Rattle.beep_history.specs.Journal.{Item}
 use Rattle.beep_journal.specs.Life.{is_there, is_released}
 use Rattle.beep_channel.specs.Held.{Live}
 use Rattle.beep_decide.specs.declared.limits.TheConstants.{MAX_CHANNELS}
-use Rattle.beep_standing.specs.Standing.{Marks, AreLiveBy}
+use Rattle.beep_standing.specs.Standing.{Marks, AreLive, AreLiveBy}
 use Rattle.beep_hearing.specs.Hears.{Hears, IsZeroTaken, Waits, HasZeroRoom}
 use Rattle.beep_asked.specs.Kept.{Kept, oldest}
 use Rattle.beep_management.specs.Managed.{Prepared, Managed, octets_prepared}
@@ -92,11 +92,18 @@ IsWaiting size head peer =
     ∥ ((fed : List ℕ) × (journal : List Item) × (given : Marks) × (taken : Marks)
     × (payload : List ℕ) × WaitsIn size fed journal given taken head payload peer) ∥₁
 
--- it does one or the other, unless a rule was broken
+-- the channels stand for some journal, by the lives of an earlier part of it
+abbrev pub AreStanding : ℕ → List Live → Type 0
+AreStanding size channels =
+    ∥ ((lives : List Item) × (journal : List Item) × (given : Marks) × (taken : Marks)
+    × AreLive size lives journal given taken channels) ∥₁
+
+-- it does one or the other, unless a rule was broken, and its channels always stand for something
 pub record IsReached (size : ℕ) (peer : Peer) : Type 0 where
   pub going : peer.ear.broken ≡ None → peer.ear.waits ≡ None → IsGoing size peer
   pub waiting : (head : Head) → peer.ear.broken ≡ None → peer.ear.waits ≡ Some head
       → IsWaiting size head peer
+  pub stands : AreStanding size peer.lives
 
 -- ---- what was given and taken, after a step
 

@@ -7,11 +7,14 @@ ghost use Rattle.beep_history.specs.declared.limits.TheConstants.{MAX_REQUESTS};
 ghost use Rattle.beep_mgmt.specs.Form.{form_of, plain_profile, start};
 ghost use Rattle.beep_decide.specs.declared.limits.TheConstants.{MAX_CHANNELS};
 ghost use Rattle.beep_lives.specs.Lives.{live_at};
+ghost use Rattle.beep_lawful.specs.declared.terms.Terms.{Terms};
 ghost use Rattle.beep_standing.specs.Standing.{Marks};
+ghost use Rattle.beep_upright.specs.Upright.{IsUpright};
 ghost use Rattle.beep_management.specs.Managed.{number_started};
 ghost use Rattle.beep_management.specs.Manages.{AreFresh};
 ghost use Rattle.beep_peer.specs.Peering.{Holds, AreHeld, is_over};
 ghost use Rattle.beep_answering.specs.Sent.{IsMessage};
+ghost use Rattle.beep_peer.specs.Asking.{MayAsk};
 ghost use Rattle.beep_peer.specs.Acts.{asked_of, first_asked_of, lowest_used, count_used, start_refusal, release_refusal, close_refusal, GivesZero, KeepsRequest, IsUnchanged};
 
 use crate::peer::Peer;
@@ -140,6 +143,14 @@ impl Peer {
             → AreFresh size (number_started (Some (form_of value))) (option_to_list channel)
             → count_used self.old + length (option_to_list channel) ≤ MAX_CHANNELS + 1
             → OnOk result (GivesZero size journal given taken text.now.octets self.new) }
+        ensures upright { (terms : Terms) (journal : List Item) (given taken : Marks)
+            → Holds terms.window journal given taken self.old.lives self.old.management
+            → AreFresh terms.window (number_started (Some (form_of value)))
+            (option_to_list channel)
+            → count_used self.old + length (option_to_list channel) ≤ MAX_CHANNELS + 1
+            → IsUpright terms journal self.old.lives self.old.management
+            → MayAsk terms.role self.old names (Some (form_of value))
+            → IsUpright terms journal self.new.lives self.new.management }
         ensures kept { OnOk result (KeepsRequest
             (record { said = Some (form_of value); implied = false; names = names })
             (option_to_list channel) self.old.management self.new.management) }

@@ -2,6 +2,8 @@
 ghost use Rattle.std.specs.Prelude.{◌≡◌, ◌≤◌, List, [], IfOk};
 ghost use Rattle.beep_seq.specs.declared.limits.TheConstants.{MIN_WINDOW, MAX_WINDOW};
 ghost use Rattle.beep_decide.specs.Decide.{PlainOffer};
+ghost use Rattle.beep_lawful.specs.declared.terms.Terms.{Terms};
+ghost use Rattle.beep_upright.specs.Upright.{IsUpright};
 ghost use Rattle.beep_answering.specs.Sent.{IsMessage, greeting_of};
 ghost use Rattle.beep_peer.specs.Peering.{IsReached};
 ghost use Rattle.beep_peer.specs.Calls.{Begins};
@@ -24,6 +26,9 @@ impl Peer {
             × IsMessage greeting.octets (greeting_of offers)) ∥₁ }
         ensures begins { (offers : List PlainOffer) → IsMessage greeting.octets (greeting_of offers)
             → IfOk result (λ peer. Begins window greeting.octets peer) }
+        ensures upright { (terms : Terms) (offers : List PlainOffer)
+            → IsMessage greeting.octets (greeting_of offers)
+            → IfOk result (λ peer. IsUpright terms [] peer.lives peer.management) }
         ensures reached { IfOk result (λ peer. IsReached window peer) }
         ensures empty { IfOk result (λ peer. peer.management.answers ≡ []) }
     {

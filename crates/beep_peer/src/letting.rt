@@ -1,7 +1,9 @@
 //! Answers that are given once nothing holds them back (RFC 3080, section 2.3.1.3).
 ghost use Rattle.std.specs.Prelude.{◌≡◌, ◌↔◌, ◌≤◌, ℕ, ◌==◌, true, false, List, Some, IfSome, IfNone};
 ghost use Rattle.beep_history.specs.Journal.{Item};
+ghost use Rattle.beep_lawful.specs.declared.terms.Terms.{Terms};
 ghost use Rattle.beep_standing.specs.Standing.{Marks};
+ghost use Rattle.beep_upright.specs.Upright.{IsUpright};
 ghost use Rattle.beep_management.specs.Managed.{first_of};
 ghost use Rattle.beep_management.specs.Values.{prepared_of};
 ghost use Rattle.beep_peer.specs.Peering.{Holds, AreHeld};
@@ -23,6 +25,10 @@ pub fn let_go(lives: &mut Lives, management: &mut Management)
     ensures stuck { IsStuck lives.new management.new }
     ensures falls { left_to_say lives.new management.new ≤ left_to_say lives.old management.old }
     ensures kept { KeepsAbove lives.old lives.new }
+    ensures upright { (terms : Terms) (journal : List Item) (given taken : Marks)
+        → Holds terms.window journal given taken lives.old management.old
+        → IsUpright terms journal lives.old management.old
+        → IsUpright terms journal lives.new management.new }
 {
     while let Some(answer) = next_answer(lives, management) {
         match lives.give_reply(0, answer.kind, answer.octets.as_slice()) {

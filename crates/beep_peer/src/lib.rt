@@ -20,7 +20,7 @@ pub use acts::start_of;
 pub use letting::let_go;
 pub use peer::Peer;
 pub use refusals::{CloseError, ReleaseError, StartError};
-pub use settle::{said_in, settle_reply, settle_request};
+pub use settle::{settle_reply, settle_request};
 pub use settle_error::SettleError;
 pub use speech::speak;
 pub use standing::stand;

@@ -1,22 +1,24 @@
 //! What a whole message of channel zero makes of a session (RFC 3080, section 2.3.1).
-ghost use Rattle.std.specs.Prelude.{◌≡◌, ◌≢◌, ◌↔◌, ◌∷◌, [], ℕ, ◌≤◌, ◌+◌, ◌-◌, ◌&&◌, List, length, true, false, Some, IfSome, IfOk, IfErr, OnOk, OnErr, IsOk, option_map};
+ghost use Rattle.std.specs.Prelude.{◌≡◌, ◌≢◌, ◌↔◌, ◌∷◌, [], ℕ, ◌≤◌, ◌+◌, ◌-◌, ◌&&◌, List, length, true, false, Some, Err, IfSome, IfOk, IfErr, OnOk, OnErr, IsOk, option_map};
 ghost use Rattle.std.specs.List.{list_all};
 ghost use Rattle.std.specs.Option.{option_map_or, option_to_list};
 ghost use Rattle.beep_frame.specs.declared.rule.Rule.{Rule};
 ghost use Rattle.beep_frame.specs.Modulo.{modulo_2_64};
 ghost use Rattle.beep_frame.specs.Frame.{is_msg};
 ghost use Rattle.beep_history.specs.declared.journal.Side.{Side};
-ghost use Rattle.beep_history.specs.Journal.{Item};
+ghost use Rattle.beep_history.specs.Journal.{Item, passed};
 ghost use Rattle.beep_mgmt.specs.Form.{form_of};
 ghost use Rattle.beep_mgmt.specs.Message.{message_said};
 ghost use Rattle.beep_journal.specs.Zero.{zero_history, completes_form};
 ghost use Rattle.beep_seq.specs.declared.limits.TheConstants.{MIN_WINDOW, MAX_WINDOW};
 ghost use Rattle.beep_turns.specs.declared.turns.TheConstants.{MAX_CHANNELS};
 ghost use Rattle.beep_channel.specs.Held.{Live};
-ghost use Rattle.beep_lives.specs.Lives.{numbers};
+ghost use Rattle.beep_lawful.specs.declared.terms.Terms.{Terms};
 ghost use Rattle.beep_standing.specs.Standing.{Marks};
+ghost use Rattle.beep_upright.specs.Upright.{IsUpright};
+ghost use Rattle.beep_hearing.specs.Hears.{Passes, KeepsOthers};
 ghost use Rattle.beep_decide.specs.Asks.{is_close_of};
-ghost use Rattle.beep_decide.specs.Decide.{decide as decided};
+ghost use Rattle.beep_decide.specs.Decide.{PlainOffer, decide as decided};
 ghost use Rattle.beep_decide.specs.Plain.{plain_standing};
 ghost use Rattle.beep_asked.specs.Kept.{Kept, names_one, oldest, fits};
 ghost use Rattle.beep_asked.specs.Request.{kept_of};
@@ -29,8 +31,10 @@ ghost use Rattle.beep_answering.specs.Sent.{is_uri};
 ghost use Rattle.beep_answering.specs.Decided.{NoneTunes, IsSettledBy, IsSettledAs};
 ghost use Rattle.beep_peer.specs.Grants.{NamesAbove};
 ghost use Rattle.beep_peer.specs.Peering.{WaitsIn, IsWaiting};
-ghost use Rattle.beep_peer.specs.Calls.{Settles};
+ghost use Rattle.beep_peer.specs.Calls.{Settles, SettlesReply, SettlesRequest};
+ghost use Rattle.beep_peer.specs.Standing.{standing_of};
 ghost use Rattle.beep_peer.specs.Waiting.{IsStuck};
+ghost use Rattle.beep_peer.specs.Acts.{IsUnchanged};
 
 use crate::grant::grant;
 use crate::letting::let_go;
@@ -43,35 +47,9 @@ use beep_decide::Standing;
 use beep_frame::{Head, Kind};
 use beep_lives::Lives;
 use beep_management::Answered;
-use beep_mgmt::{Mgmt, MgmtError, read_mgmt};
+use beep_mgmt::Mgmt;
 use beep_octets::NoMemory;
 use std::alloc::Global;
-
-/// What a message says; nothing where it can't be read.
-pub fn said_in(alloc: Global, octets: &[u8]) -> Result<Option<Mgmt>, NoMemory>
-    ensures { IfOk result (λ said. option_map form_of said ≡ message_said octets.now) }
-{
-    match read_mgmt(alloc, octets) {
-        Ok(value) => Ok(Some(value)),
-        Err(error) => if is_memory(error) {
-            Err(NoMemory)
-        } else {
-            Ok(None)
-        },
-    }
-}
-
-/// Whether it is that memory ran out.
-fn is_memory(error: MgmtError) -> bool
-    ensures { result ≡ false → error ≢ MgmtError.NoMemory }
-{
-    match error {
-        MgmtError::NoMemory => true,
-        MgmtError::Malformed(_) | MgmtError::Entity(_) | MgmtError::TooLong | MgmtError::Shape => {
-            false
-        }
-    }
-}
 
 /// A request of the peer that waits, and says this, is answered. `window` is the own window of each
 /// channel.
@@ -101,12 +79,23 @@ pub fn settle_request(
     ensures settled { IfOk result (λ settled. IsSettledBy
         (decided (plain_standing standing.now) (option_map form_of said))
         (option_map form_of said) settled) }
+    ensures answers { (fed : List ℕ) (journal : List Item) (given taken : Marks)
+        (payload : List ℕ)
+        → WaitsIn window fed journal given taken head.now payload peer.old
+        → IfOk result (λ settled. SettlesRequest window fed journal given taken head.now payload
+        (plain_standing standing.now) (option_map form_of said) settled
+        peer.old.management.answers peer.new) }
+    ensures upright { (terms : Terms) (offers : List PlainOffer) (fed : List ℕ)
+        (journal : List Item) (given taken : Marks) (payload : List ℕ) → terms.window ≡ window
+        → plain_standing standing.now ≡ standing_of terms.role offers peer.old
+        → WaitsIn window fed journal given taken head.now payload peer.old
+        → IsUpright terms journal peer.old.lives peer.old.management
+        → OnOk result (IsUpright terms (passed Side.Received head.now payload ∷ journal)
+        peer.new.lives peer.new.management) }
     ensures err { OnErr result ((fed : List ℕ) (journal : List Item) (given taken : Marks)
         (payload : List ℕ) → WaitsIn window fed journal given taken head.now payload peer.old
         → WaitsIn window fed journal given taken head.now payload peer.new) }
-    ensures same { OnErr result ((peer.new.ear ≡ peer.old.ear)
-        × (numbers peer.new.lives ≡ numbers peer.old.lives)
-        × (peer.new.released ≡ peer.old.released)) }
+    ensures same { OnErr result (IsUnchanged peer.old peer.new) }
     ensures stuck { OnOk result (IsStuck peer.new.lives peer.new.management) }
 {
     let Prepared {
@@ -157,6 +146,10 @@ pub fn settle_reply(
     ensures ok { (size : ℕ) (fed : List ℕ) (journal : List Item) (given taken : Marks)
         (payload : List ℕ) → WaitsIn size fed journal given taken head.now payload peer.old
         → OnOk result (Settles size fed journal given taken head.now payload peer.new) }
+    ensures answers { (size : ℕ) (fed : List ℕ) (journal : List Item) (given taken : Marks)
+        (payload : List ℕ) → WaitsIn size fed journal given taken head.now payload peer.old
+        → OnOk result (SettlesReply size fed journal given taken head.now payload
+        peer.old.management.answers peer.new) }
     ensures settled { (one : Kept) → oldest peer.old.management.mine.requests ≡ Some one
         → IfOk result (λ settled. IsSettledAs one (option_map form_of said) settled) }
     ensures fits { (size : ℕ) (fed : List ℕ) (journal : List Item) (given taken : Marks)
@@ -167,6 +160,28 @@ pub fn settle_reply(
         (payload : List ℕ) → WaitsIn size fed journal given taken head.now payload peer.old
         → IfErr result (λ error. error
         ≡ SettleErrorValue.Broken Rule.ZeroReply (modulo_2_64 (length fed - 1))) }
+    ensures upright { (terms : Terms) (fed : List ℕ) (journal : List Item) (given taken : Marks)
+        (payload : List ℕ)
+        → WaitsIn terms.window fed journal given taken head.now payload peer.old
+        → IsUpright terms journal peer.old.lives peer.old.management
+        → OnOk result (IsUpright terms (passed Side.Received head.now payload ∷ journal)
+        peer.new.lives peer.new.management) }
+
+    // A reply without its form changes nothing that is still to be said.
+    ensures refused { (terms : Terms) (fed : List ℕ) (journal : List Item) (given taken : Marks)
+        (payload : List ℕ)
+        → WaitsIn terms.window fed journal given taken head.now payload peer.old
+        → IsUpright terms journal peer.old.lives peer.old.management
+        → OnErr result (IsUpright terms journal peer.new.lives peer.new.management) }
+
+    ensures passes { (size : ℕ) (fed : List ℕ) (journal : List Item) (given taken : Marks)
+        (payload : List ℕ) → WaitsIn size fed journal given taken head.now payload peer.old
+        → OnErr result (Passes size journal (passed Side.Received head.now payload ∷ journal)
+        given taken peer.new.lives) }
+    ensures rests { OnErr result (KeepsOthers 0 peer.old.lives peer.new.lives
+        × (peer.new.management ≡ peer.old.management)
+        × (peer.new.released ≡ peer.old.released)) }
+    ensures memory { result ≢ Err SettleErrorValue.NoMemory }
     ensures stopped { IfErr result (λ error. (rule : Rule) (place : ℕ)
         → error ≡ SettleErrorValue.Broken rule place → peer.new.ear.broken
         ≡ Some (record { rule = rule; place = place; left = 0 })) }
@@ -189,9 +204,16 @@ fn obey_reply(peer: &mut Peer, head: &Head, said: Option<Mgmt>) -> Settled
         (oldest peer.old.management.mine.requests) false ≡ true }
     ensures stands { (size : ℕ) (fed : List ℕ) (journal : List Item) (given taken : Marks)
         (payload : List ℕ) → WaitsIn size fed journal given taken head.now payload peer.old
-        → Settles size fed journal given taken head.now payload peer.new }
+        → SettlesReply size fed journal given taken head.now payload
+        peer.old.management.answers peer.new }
     ensures settled { (one : Kept) → oldest peer.old.management.mine.requests ≡ Some one
         → IsSettledAs one (option_map form_of said) result }
+    ensures upright { (terms : Terms) (fed : List ℕ) (journal : List Item) (given taken : Marks)
+        (payload : List ℕ)
+        → WaitsIn terms.window fed journal given taken head.now payload peer.old
+        → IsUpright terms journal peer.old.lives peer.old.management
+        → IsUpright terms (passed Side.Received head.now payload ∷ journal) peer.new.lives
+        peer.new.management }
     ensures stuck { IsStuck peer.new.lives peer.new.management }
 {
     let grants = Kind::Rpy.is_same(head.kind);

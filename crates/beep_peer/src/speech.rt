@@ -1,18 +1,24 @@
 //! What goes out next of a peer (RFC 3080, sections 2.2.1 and 2.3.1; RFC 3081, section 3.1).
-ghost use Rattle.std.specs.Prelude.{◌≡◌, ◌≢◌, ◌||◌, ◌+◌, ◌<◌, ◌≤◌, ◌∷◌, ℕ, List, true, length};
+ghost use Rattle.std.specs.Prelude.{◌≡◌, ◌≢◌, ◌||◌, ◌+◌, ◌<◌, ◌≤◌, ◌∷◌, ℕ, List, true, false, length};
 ghost use Rattle.beep_octets.specs.Held.{KeepsRoom};
 ghost use Rattle.beep_frame.specs.declared.head.Head.{Head as HeadValue};
+ghost use Rattle.beep_frame.specs.declared.head.TheConstants.{MAX_NUMBER};
+ghost use Rattle.beep_frame.specs.declared.limits.TheConstants.{MAX_PAYLOAD};
 ghost use Rattle.beep_frame.specs.declared.spelling.TheConstants.{SPELL_ROOM};
 ghost use Rattle.beep_history.specs.declared.journal.Side.{Side};
 ghost use Rattle.beep_history.specs.Journal.{Item, began, passed};
 ghost use Rattle.beep_journal.specs.Life.{is_released};
+ghost use Rattle.beep_lawful.specs.declared.terms.Terms.{Terms};
 ghost use Rattle.beep_standing.specs.Standing.{Marks};
+ghost use Rattle.beep_upright.specs.Upright.{IsUpright};
+ghost use Rattle.beep_upright.specs.Frames.{AreFrames, IsFramed};
 ghost use Rattle.beep_hearing.specs.Hears.{Hears, ends_zero};
 ghost use Rattle.beep_speaking.specs.declared.emit.Emit.{Emit as EmitValue};
 ghost use Rattle.beep_peer.specs.Peering.{IsPeer, IsGoing};
-ghost use Rattle.beep_peer.specs.Calls.{HasSent, IsSent, Speaks};
+ghost use Rattle.beep_peer.specs.Calls.{HasSent, IsSent, Speaks, TakesTurn};
 ghost use Rattle.beep_peer.specs.Waiting.{IsStuck};
 ghost use Rattle.beep_peer.specs.Left.{left_to_say};
+ghost use Rattle.beep_peer.specs.Lawfully.{IsLawfulPeer, GoesUprightly, SpeaksLawfully};
 
 use crate::letting::let_go;
 use crate::peer::Peer;
@@ -32,6 +38,16 @@ pub fn speak(peer: &mut Peer, scratch: &mut Octets, most: u32, out: &mut Octets)
         → IsPeer size fed rest journal given taken peer.old
         → Speaks result size most fed rest journal given taken peer.old peer.new
         out.old.octets out.new.octets }
+    ensures lawful { (terms : Terms) (fed rest : List ℕ) (journal : List Item)
+        (given taken : Marks) → most ≤ terms.piece → terms.piece ≤ MAX_PAYLOAD
+        → peer.old.released ≡ false → IsLawfulPeer terms fed rest journal given taken peer.old
+        → SpeaksLawfully result terms fed rest journal given taken peer.old peer.new
+        out.old.octets out.new.octets }
+    ensures framed { (terms : Terms) (fed rest : List ℕ) (journal : List Item)
+        (given taken : Marks) → most ≤ MAX_NUMBER → terms.window ≤ MAX_NUMBER
+        → IsLawfulPeer terms fed rest journal given taken peer.old → AreFrames journal
+        → IsFramed result }
+    ensures turn { TakesTurn result peer.old }
     ensures ear { peer.new.ear ≡ peer.old.ear }
     ensures stuck { (head : HeadValue) → result ≡ EmitValue.Data head
         → IsStuck peer.new.lives peer.new.management }
@@ -64,7 +80,13 @@ fn gone(peer: &mut Peer, head: &Head)
         → Hears fed rest journal peer.old.ear → peer.old.released ≡ is_released journal
         → IsSent size fed rest journal
         (passed Side.Sent head.now payload ∷ began Side.Sent head.now ∷ journal) given taken
-        peer.new }
+        peer.old.management.answers peer.new }
+    ensures upright { (terms : Terms) (journal : List Item) (given taken : Marks)
+        (payload : List ℕ) → HasSent terms.window journal given taken head.now payload
+        peer.old.lives peer.old.management
+        → GoesUprightly terms journal head.now payload peer.old.lives peer.old.management
+        → IsUpright terms (passed Side.Sent head.now payload ∷ began Side.Sent head.now ∷ journal)
+        peer.new.lives peer.new.management }
     ensures ear { peer.new.ear ≡ peer.old.ear }
     ensures stuck { IsStuck peer.new.lives peer.new.management }
     ensures falls { left_to_say peer.new.lives peer.new.management

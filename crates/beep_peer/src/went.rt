@@ -4,8 +4,11 @@ ghost use Rattle.std.specs.Prelude.{◌≡◌, ◌≤◌, ℕ, ◌∷◌, List};
 ghost use Rattle.beep_frame.specs.declared.head.Head.{Head};
 ghost use Rattle.beep_history.specs.declared.journal.Side.{Side};
 ghost use Rattle.beep_history.specs.Journal.{Item, began, passed};
+ghost use Rattle.beep_lawful.specs.declared.terms.Terms.{Terms};
 ghost use Rattle.beep_standing.specs.Standing.{Marks};
-ghost use Rattle.beep_peer.specs.Calls.{HasGone, IsDone};
+ghost use Rattle.beep_upright.specs.Turns.{kinds_at};
+ghost use Rattle.beep_upright.specs.Upright.{asked_at, AreReady, IsUpright};
+ghost use Rattle.beep_peer.specs.Calls.{HasGone, IsDone, words_of};
 ghost use Rattle.beep_peer.specs.Left.{left_to_say};
 
 use crate::grant::grant;
@@ -25,6 +28,14 @@ pub(crate) fn went(lives: &mut Lives, management: &mut Management, kind: Kind) -
         → IsDone size (began Side.Sent head ∷ journal)
         (passed Side.Sent head payload ∷ began Side.Sent head ∷ journal) given taken result
         lives.new management.new }
+    ensures upright { (terms : Terms) (journal : List Item) (given taken : Marks) (head : Head)
+        (payload : List ℕ) → head.kind ≡ kind
+        → HasGone terms.window journal given taken head payload lives.old management.old
+        → AreReady terms journal (head.kind ∷ kinds_at 0 lives.old) (asked_at lives.old)
+        management.old
+        → IsUpright terms (passed Side.Sent head payload ∷ began Side.Sent head ∷ journal)
+        lives.new management.new }
+    ensures words { words_of management.new.answers ≡ words_of management.old.answers }
     ensures falls { left_to_say lives.new management.new ≤ left_to_say lives.old management.old }
 {
     if kind.is_msg() {

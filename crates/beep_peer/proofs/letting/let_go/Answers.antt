@@ -10,6 +10,7 @@ use Rattle.beep_management.specs.Values.{prepared_of}
 use Rattle.beep_peer.proofs.DrainedLemmas.{drained-other, lets-one, lets-nothing, keeps-all, keeps-more}
 use Rattle.beep_peer.proofs.OwedLemmas.{lets-none, lets-held, lets-more, surely-let, zero-there, answer-may, answer-fits, first-then, first-rest, rest-of}
 use Rattle.beep_peer.proofs.FallLemmas.{lets-left}
+use Rattle.beep_peer.proofs.LetGoLemmas.{let-upright}
 use Rattle.beep_peer.proofs.letting.let_go.Goals as goal
 
 pub loop-answer-init : goal.loop-answer-init
@@ -77,3 +78,8 @@ unreachable-requires c =
     let none : false ≡ true = surely-let c.loop-answer.lives m (lets-held c.args.lives.now c.loop-answer.lives c.args.management.now m c.loop-answer.invariant.goes c.requires.held)
     first (rest-of m.answers) (first-then m.answers first c.in-Some.ensures.first) c.as_slice.result.now c.as_slice.ensures c.in-Err.ensures.succeeds in
     cc
+
+pub returns-clause-upright : goal.returns-clause-upright
+returns-clause-upright c = λ terms journal given taken h u.
+    let-upright terms journal given taken c.args.lives.now c.loop-answer.lives c.args.management.now c.loop-answer.management h
+    (c.loop-answer.invariant.goes terms.window journal given taken h) c.loop-answer.invariant.lets c.loop-answer.invariant.kept u

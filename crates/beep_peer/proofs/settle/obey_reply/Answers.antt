@@ -1,5 +1,5 @@
 -- A reply that has its form takes the oldest own request, passes, and what it says is done.
-use Rattle.std.proofs.Common.{◌≡◌, ℕ, Bool, true, false, ◌||◌, List, ◌∷◌, Option, Some, option_map, sym, ◌∙◌, subst}
+use Rattle.std.proofs.Common.{◌≡◌, ℕ, Bool, true, false, ◌||◌, List, ◌∷◌, Option, Some, option_map, refl, sym, ap, ◌∙◌, subst}
 use Rattle.std.proofs.Math.Logic.{∥∥₁_map}
 use Rattle.std.specs.Option.{option_map_or}
 use Rattle.beep_mgmt.specs.Form.{form_of}
@@ -12,8 +12,11 @@ use Rattle.beep_hearing.specs.Hears.{Passes}
 use Rattle.beep_hearing.proofs.RoomLemmas.{room-others}
 use Rattle.beep_answering.specs.Decided.{IsSettledAs}
 use Rattle.beep_peer.specs.Peering.{WaitsIn}
-use Rattle.beep_peer.specs.Calls.{IsDone}
+use Rattle.beep_peer.specs.Calls.{IsDone, words_of}
+use Rattle.beep_peer.proofs.LetLemmas.{words-answered}
 use Rattle.beep_peer.proofs.DoneLemmas.{done-settles}
+use Rattle.beep_peer.proofs.LetGoLemmas.{let-upright}
+use Rattle.beep_peer.proofs.ObeyLemmas.{answered-upright}
 use Rattle.beep_answering.proofs.ReplyLemmas.{replies}
 use Rattle.beep_peer.proofs.WaitingLemmas.{any-waits, any-ear}
 use Rattle.beep_peer.proofs.AnsweredLemmas.{taken-oldest, answered-done, any-starts, any-room, any-number, any-above}
@@ -40,6 +43,12 @@ settled_as-settled-requires c =
           (subst (λ (o : Option Kept). option_map_or (fits c.args.head.now.kind said) o false ≡ true)
           (is-oldest (goal.at.settled_as-settled-requires c).After-take_mine-answered) c.requires.fits);
     }
+
+-- no answer is added or lost
+words-taken : (c : After-take_mine-answered) → words_of c.take_mine-answered.new.self.answers ≡ words_of c.args.peer.now.management.answers
+words-taken c =
+    ap words_of c.take_mine-answered.ensures.answers
+    ∙ words-answered c.is_same-grants.result (kept_of c.take_mine-answered.result.request) c.args.peer.now.management.answers
 
 passes : (c : After-pass_zero) (size : ℕ) (fed : List ℕ) (journal : List Item) (given taken : Marks) (payload : List ℕ)
     → WaitsIn size fed journal given taken c.args.head.now payload c.args.peer.now
@@ -102,12 +111,30 @@ returns-clause-stands c size fed journal given taken payload w =
       | then-peer w ↦ either-then c.args.peer.now.released c.grant_where-released.result c.if-peer.peer w.if-peer.true w.peer-is
       | else-peer w ↦ either-else c.args.peer.now.released c.grant_where-released.result c.if-peer.peer w.if-peer.false w.peer-is
     ] in
-    done-settles size fed journal given taken c.args.head.now payload c.args.peer.now w c.grant_where-released.new.lives c.take_mine-answered.new.self
-    c.grant_where-released.result d _ (c.pass_zero.ensures.hears size fed journal given taken c.args.head.now payload w.waits) released
-    (c.let_go.ensures.holds size (passed Side.Received c.args.head.now payload ∷ journal) d.given_now d.taken_now d.holds)
+    record {
+      settles = done-settles size fed journal given taken c.args.head.now payload c.args.peer.now w c.grant_where-released.new.lives c.take_mine-answered.new.self
+          c.grant_where-released.result d _ (c.pass_zero.ensures.hears size fed journal given taken c.args.head.now payload w.waits) released
+          c.args.peer.now.management.answers (words-taken (goal.at.returns-clause-stands c).After-take_mine-answered)
+          (c.let_go.ensures.holds size (passed Side.Received c.args.head.now payload ∷ journal) d.given_now d.taken_now d.holds)
+          c.let_go.ensures.waits c.let_go.ensures.kept;
+      joined = refl;
+    }
 
 some-same : (o : Option Kept) (one other : Kept) → o ≡ Some one → o ≡ Some other → one ≡ other
 some-same o one other e f = let g : Some one ≡ Some other = sym e ∙ f in cc
+
+pub returns-clause-upright : goal.returns-clause-upright
+returns-clause-upright c terms fed journal given taken payload w u =
+    let d = is-done (goal.at.returns-clause-upright c).After-grant_where-released terms.window fed journal given taken payload w in
+    let now = passed Side.Received c.args.head.now payload ∷ journal in
+    let-upright terms now d.given_now d.taken_now c.grant_where-released.new.lives c.let_go.new.lives c.take_mine-answered.new.self c.let_go.new.management d.holds
+    (c.let_go.ensures.holds terms.window now d.given_now d.taken_now d.holds) c.let_go.ensures.waits c.let_go.ensures.kept
+    (answered-upright terms fed journal given taken c.args.head.now payload c.args.peer.now w c.requires.reply (option_map form_of c.args.said) c.requires.said
+    c.requires.fits (kept_of c.take_mine-answered.result.request) c.take_mine-answered.result.channel c.take_mine-answered.new.self c.pass_zero.new.lives
+    c.pass_zero.ensures.others.order (room-others 0 c.args.peer.now.lives c.pass_zero.new.lives c.pass_zero.ensures.others)
+    (c.pass_zero.ensures.passes terms.window fed journal given taken c.args.head.now payload w.waits) u
+    c.is_same-grants.result c.is_same-grants.ensures c.take_mine-answered.ensures c.grant_where-released.new.lives c.grant_where-released.result
+    c.grant_where-released.ensures.done c.grant_where-released.ensures.kept c.grant_where-released.ensures.released)
 
 pub returns-clause-settled : goal.returns-clause-settled
 returns-clause-settled c one is =

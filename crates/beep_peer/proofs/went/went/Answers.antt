@@ -5,8 +5,10 @@ use Rattle.beep_frame.specs.Frame.{is_msg, same_kind}
 use Rattle.beep_history.specs.declared.journal.Side.{Side}
 use Rattle.beep_history.specs.Journal.{began, passed}
 use Rattle.beep_asked.specs.Request.{kept_of}
-use Rattle.beep_peer.specs.Calls.{IsDone}
+use Rattle.beep_peer.specs.Calls.{IsDone, words_of}
+use Rattle.beep_peer.proofs.LetLemmas.{words-answered}
 use Rattle.beep_peer.proofs.GoneLemmas.{taken-by, request-gone, refusal-gone, grant-gone, out-act, out-room, out-answer, out-starts, out-joins, out-number, out-above, out-left}
+use Rattle.beep_peer.proofs.WentLemmas.{request-upright, refusal-upright, grant-upright}
 use Rattle.beep_management.specs.Moved.{is_live_in}
 use Rattle.beep_peer.proofs.FallLemmas.{request-falls, refusal-falls, grant-falls}
 use Rattle.beep_peer.proofs.went.went.Goals as goal
@@ -73,6 +75,11 @@ returns-else-grants-clause-done c size journal given taken head payload kind g =
 pub returns-then-is_msg-clause-falls : goal.returns-then-is_msg-clause-falls
 returns-then-is_msg-clause-falls c = request-falls (is_live_in c.args.lives.now) c.args.management.now c.pass_act.new.self c.args.lives.now c.pass_act.ensures
 
+pub returns-then-grants-clause-words : goal.returns-then-grants-clause-words
+returns-then-grants-clause-words c =
+    ap words_of c.take_theirs-answered.ensures.answers
+    ∙ words-answered c.is_same-grants.result (kept_of c.take_theirs-answered.result.request) c.args.management.now.answers
+
 pub returns-then-grants-clause-falls : goal.returns-then-grants-clause-falls
 returns-then-grants-clause-falls c =
     let one = kept_of c.take_theirs-answered.result.request in
@@ -87,4 +94,27 @@ returns-else-grants-clause-falls c =
     let one = kept_of c.take_theirs-answered.result.request in
     let channel = c.take_theirs-answered.result.channel in
     refusal-falls one channel c.args.management.now c.take_theirs-answered.new.self c.args.lives.now
+    (taken-by c.is_same-grants.result false c.if-grants.false one channel c.args.management.now c.take_theirs-answered.new.self c.take_theirs-answered.ensures)
+
+pub returns-then-is_msg-clause-upright : goal.returns-then-is_msg-clause-upright
+returns-then-is_msg-clause-upright c terms journal given taken head payload kind g u =
+    request-upright terms journal given taken head payload c.args.lives.now c.args.management.now g u (ap is_msg kind ∙ sym c.is_msg.ensures ∙ c.if-is_msg.true)
+    c.pass_act.new.self c.pass_act.ensures
+
+pub returns-then-grants-clause-upright : goal.returns-then-grants-clause-upright
+returns-then-grants-clause-upright c terms journal given taken head payload kind g u =
+    let one = kept_of c.take_theirs-answered.result.request in
+    let channel = c.take_theirs-answered.result.channel in
+    grant-upright terms journal given taken head payload c.args.lives.now c.args.management.now g u (ap (same_kind Kind.Rpy) kind ∙ sym c.is_same-grants.ensures ∙ c.if-grants.true)
+    one channel c.take_theirs-answered.new.self
+    (taken-by c.is_same-grants.result true c.if-grants.true one channel c.args.management.now c.take_theirs-answered.new.self c.take_theirs-answered.ensures)
+    c.grant.new.lives c.grant.result c.grant.ensures.done c.grant.ensures.released
+
+pub returns-else-grants-clause-upright : goal.returns-else-grants-clause-upright
+returns-else-grants-clause-upright c terms journal given taken head payload kind g u =
+    let one = kept_of c.take_theirs-answered.result.request in
+    let channel = c.take_theirs-answered.result.channel in
+    refusal-upright terms journal given taken head payload c.args.lives.now c.args.management.now g u
+    (ap is_msg kind ∙ sym c.is_msg.ensures ∙ c.if-is_msg.false) (ap (same_kind Kind.Rpy) kind ∙ sym c.is_same-grants.ensures ∙ c.if-grants.false)
+    one channel c.take_theirs-answered.new.self
     (taken-by c.is_same-grants.result false c.if-grants.false one channel c.args.management.now c.take_theirs-answered.new.self c.take_theirs-answered.ensures)

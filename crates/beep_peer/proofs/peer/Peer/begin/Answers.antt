@@ -7,6 +7,8 @@ use Rattle.beep_lives.specs.Lives.{live_at}
 use Rattle.beep_standing.specs.Standing.{no_marks}
 use Rattle.beep_answering.specs.Sent.{IsMessage, greeting_of}
 use Rattle.beep_peer.specs.Calls.{LetsGo}
+use Rattle.beep_peer.specs.declared.peer.Peer.{Peer}
+use Rattle.beep_peer.proofs.BeginLemmas.{begin-upright}
 use Rattle.beep_peer.proofs.NewLemmas.{zero-new, new-holds, new-held, new-begins, new-reached, new-empty}
 use Rattle.beep_peer.proofs.peer.Peer.begin.Goals.{After-let_go}
 use Rattle.beep_peer.proofs.peer.Peer.begin.Goals as goal
@@ -50,3 +52,14 @@ returns-clause-empty c =
     new-empty c.args.window c.args.greeting.octets c.in_ok-management.management.answers c.in_ok-management.ensures.answers
     (record { ear = c.in_ok-ear.ear; lives = c.let_go.new.lives; management = c.let_go.new.management; released = false }) c.in_ok-ear.ensures refl
     c.let_go.ensures.stuck (some-lets c)
+
+pub returns-clause-upright : goal.returns-clause-upright
+returns-clause-upright c terms offers message =
+    let kept = c.in_ok-management.ensures in
+    let peer : Peer = record { ear = c.in_ok-ear.ear; lives = c.let_go.new.lives; management = c.let_go.new.management; released = false } in
+    begin-upright terms c.args.window c.args.greeting.octets peer
+    (new-begins c.args.window c.args.greeting.octets c.in_ok-management.management.answers kept.answers peer c.in_ok-ear.ensures refl c.let_go.ensures.stuck
+    (lets (goal.at.returns-clause-upright c).After-let_go offers message))
+    c.in_ok-management.management c.let_go.ensures.waits.same kept.mine kept.acts kept.theirs kept.starting.0 kept.starting.1
+    (new-empty c.args.window c.args.greeting.octets c.in_ok-management.management.answers kept.answers peer c.in_ok-ear.ensures refl
+    c.let_go.ensures.stuck (some-lets (goal.at.returns-clause-upright c).After-let_go))

@@ -1,5 +1,5 @@
 -- Room is made first, so that the request is surely given once it is kept.
-use Rattle.std.proofs.Common.{◌≡◌, ℕ, ◌+◌, true, false, List, length, Result, Ok, Err, OnErr, refl, sym, ap, ◌∙◌, ◌≤◌, subst, arith}
+use Rattle.std.proofs.Common.{◌≡◌, ℕ, ◌+◌, true, false, List, length, Some, Result, Ok, Err, OnErr, sym, ap, ◌∙◌, ◌≤◌, subst}
 use Rattle.std.specs.Prelude.{IfSome}
 use Rattle.std.specs.Option.{option_to_list}
 use Rattle.beep_mgmt.specs.Form.{form_of}
@@ -11,7 +11,9 @@ use Rattle.beep_lives.specs.Edits.{Edits, Gives, UsesRoom}
 use Rattle.beep_hearing.specs.Hears.{HasZeroRoom}
 use Rattle.beep_management.specs.Managed.{Managed, octets_prepared}
 use Rattle.beep_peer.proofs.OwedLemmas.{zero-there}
-use Rattle.beep_peer.proofs.AskedLemmas.{message-short, surely-given, room-holds, given-zero}
+use Rattle.beep_peer.proofs.AskLemmas.{ask-upright}
+use Rattle.beep_peer.proofs.AskedLemmas.{message-short, surely-given, given-zero}
+use Rattle.beep_peer.proofs.UnchangedLemmas.{acts-kept, unchanged-roomed, unchanged-kept, unchanged-upright}
 use Rattle.beep_peer.proofs.peer.Peer.give_request.Goals as goal
 
 after-error : {A E P : Type 0} (result : Result A E) → P → OnErr result P
@@ -24,24 +26,25 @@ reserve_with-requires c = record { live = zero-there c.args.self.now.lives c.arg
 pub returns-in_err-reserve_with-clause-err : goal.returns-in_err-reserve_with-clause-err
 returns-in_err-reserve_with-clause-err c =
     let peer = c.args.self.now in
-    after-error c.from_residual.result record {
-      ear = refl;
-      released = refl;
-      holds = λ size journal given taken h. room-holds size journal given taken peer.lives peer.management h c.reserve_with.new.lives peer.management c.reserve_with.ensures.kept refl
-          (record { requests = refl; room = omega arith }) (record { requests = refl; room = omega arith });
-      numbers_are = c.reserve_with.ensures.kept.order;
-    }
+    after-error c.from_residual.result (unchanged-roomed peer c.reserve_with.new.lives c.reserve_with.ensures.kept)
+
+pub returns-in_err-reserve_with-clause-upright : goal.returns-in_err-reserve_with-clause-upright
+returns-in_err-reserve_with-clause-upright c terms journal given taken h starts few u may =
+    let peer = c.args.self.now in
+    unchanged-upright terms journal peer (record peer { lives = c.reserve_with.new.lives }) (unchanged-roomed peer c.reserve_with.new.lives c.reserve_with.ensures.kept) u
 
 pub returns-in_err-act-clause-err : goal.returns-in_err-act-clause-err
 returns-in_err-act-clause-err c =
     let peer = c.args.self.now in
-    after-error c.from_residual-in_err-act.result record {
-      ear = refl;
-      released = refl;
-      holds = λ size journal given taken h. room-holds size journal given taken peer.lives peer.management h c.reserve_with.new.lives c.act.new.self c.reserve_with.ensures.kept c.in_err-act.ensures.err
-          c.act.ensures.mine c.in_err-act.ensures.kept;
-      numbers_are = c.reserve_with.ensures.kept.order;
-    }
+    after-error c.from_residual-in_err-act.result (unchanged-kept peer c.reserve_with.new.lives c.reserve_with.ensures.kept c.act.new.self
+    (acts-kept peer.management c.act.new.self c.in_err-act.ensures.err c.act.ensures.mine c.in_err-act.ensures.kept))
+
+pub returns-in_err-act-clause-upright : goal.returns-in_err-act-clause-upright
+returns-in_err-act-clause-upright c terms journal given taken h starts few u may =
+    let peer = c.args.self.now in
+    unchanged-upright terms journal peer (record peer { lives = c.reserve_with.new.lives; management = c.act.new.self })
+    (unchanged-kept peer c.reserve_with.new.lives c.reserve_with.ensures.kept c.act.new.self
+    (acts-kept peer.management c.act.new.self c.in_err-act.ensures.err c.act.ensures.mine c.in_err-act.ensures.kept)) u
 
 pub give_ask-requires-clause-fits : goal.give_ask-requires-clause-fits
 give_ask-requires-clause-fits c zero =
@@ -68,6 +71,22 @@ returns-clause-ok c size journal given taken h starts few =
     (subst (λ (n : ℕ). HasZeroRoom (octets_prepared peer.management.answers + n) (length peer.management.answers + 1) c.reserve_with.new.lives) c.len.ensures
     c.in_ok-reserve_with.ensures.ok)
     c.requires.message c.in_ok-act.ensures.ok c.in_ok-act.ensures.acts c.act.ensures.mine c.in_ok-act.ensures.room starts few
+
+pub returns-clause-upright : goal.returns-clause-upright
+returns-clause-upright c terms journal given taken h starts few u may =
+    let peer = c.args.self.now in
+    let new = record peer { lives = c.give_ask.new.self; management = c.act.new.self } in
+    ask-upright terms journal given taken c.args.text.now.octets peer new h
+    (given-zero terms.window journal given taken peer.lives peer.management h c.reserve_with.new.lives new c.args.text.now.octets (form_of c.args.value) c.args.names
+    (option_to_list c.args.channel) c.reserve_with.ensures.kept
+    (subst (λ (o : List ℕ). IfSome (live_at 0 c.reserve_with.new.lives) (λ channel. Edits 0 (Gives (message_marks (next_ask channel.held o))) c.reserve_with.new.lives c.give_ask.new.self))
+    c.as_slice.ensures c.in-Ok.ensures.ok)
+    (subst (λ (o : List ℕ). Edits 0 (UsesRoom (length o)) c.reserve_with.new.lives c.give_ask.new.self) c.as_slice.ensures c.in-Ok.ensures.used)
+    (subst (λ (n : ℕ). HasZeroRoom (octets_prepared peer.management.answers + n) (length peer.management.answers + 1) c.reserve_with.new.lives) c.len.ensures
+    c.in_ok-reserve_with.ensures.ok)
+    c.requires.message c.in_ok-act.ensures.ok c.in_ok-act.ensures.acts c.act.ensures.mine c.in_ok-act.ensures.room starts few)
+    u (record { said = Some (form_of c.args.value); implied = false; names = c.args.names }) c.args.channel c.in_ok-act.ensures.acts c.act.ensures.mine.requests
+    c.in_ok-act.ensures.ok starts may
 
 pub returns-clause-kept : goal.returns-clause-kept
 returns-clause-kept c = record { acts = c.in_ok-act.ensures.acts; starting = ap (λ (m : Managed). m.starting) c.in_ok-act.ensures.ok }
