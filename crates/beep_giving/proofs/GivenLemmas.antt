@@ -12,7 +12,7 @@ use Rattle.beep_history.specs.Marks.{Mark}
 use Rattle.beep_exchange.specs.declared.given.Given.{Given}
 use Rattle.beep_exchange.specs.Given.{after_given, next_asked_now}
 use Rattle.beep_outbox.specs.Queue.{Message, message_marks}
-use Rattle.beep_channel.specs.Held.{Live, IsReply, next_ask, next_reply}
+use Rattle.beep_channel.specs.Held.{Held, Live, IsReply, next_ask, next_reply}
 use Rattle.beep_channel.specs.Stands.{IsCounted, ends_of}
 use Rattle.beep_lives.specs.Lives.{live_at, numbers}
 use Rattle.beep_lives.specs.Edits.{Edits, Gives, KeepsHeld}
@@ -23,8 +23,10 @@ use Rattle.beep_management.specs.Managed.{Managed, octets_prepared}
 use Rattle.beep_management.proofs.ItemLemmas.{given-above}
 use Rattle.beep_peer.specs.declared.peer.Peer.{Peer}
 use Rattle.beep_peer.specs.Peering.{AreFew, Holds, IsPeer, AreHeld}
-use Rattle.beep_peer.specs.Acts.{IsUnchanged}
+use Rattle.beep_peer.specs.Acts.{held_of, IsUnchanged}
 use Rattle.beep_peer.proofs.DoneLemmas.{same-count}
+use Rattle.beep_peer.proofs.KindsLemmas.{at-edit}
+use Rattle.beep_peer.proofs.UnchangedLemmas.{managed-itself}
 use Rattle.beep_giving.specs.Looks.{given_of, owes_of}
 use Rattle.beep_giving.specs.Giving.{next_message, GivesMessage}
 use Rattle.beep_giving.proofs.CountLemmas.{above-zero, counted-above, asked-next, ask-is, reply-is, after-ask, after-reply, answer-owed}
@@ -72,6 +74,8 @@ pub room-unchanged : (number : ℕ) (old : Peer) (lives : List Live) → 0 < num
 room-unchanged number old lives above e = record {
   ear = refl;
   released = refl;
+  held = at-edit held_of number KeepsHeld old.lives lives e (ap (λ (h : Held). Some h) e.step.held);
+  kept = managed-itself old.management;
   holds = λ size journal given taken h. room-holds size number journal given taken old.lives lives old.management (above-zero number above) e h;
   numbers_are = e.order;
 }

@@ -3,3 +3,4 @@ pub mod CountLemmas
 pub mod GivenLemmas
 pub mod LooksLemmas
 pub mod TakenLemmas
+pub mod UprightLemmas

@@ -1,5 +1,5 @@
 -- What a part that is taken above zero makes of a peer, for every journal for which it stood.
-use Rattle.std.proofs.Common.{◌≡◌, ℕ, ◌<◌, ◌==◌, false, if◌then◌else◌, List, [], ◌∷◌, ◌++◌, length, Option, Some, option_map, take, sym, ap, ◌∙◌, subst}
+use Rattle.std.proofs.Common.{◌≡◌, ℕ, ◌<◌, ◌==◌, false, if◌then◌else◌, List, [], ◌∷◌, ◌++◌, length, Option, Some, option_map, take, refl, sym, ap, ◌∙◌, subst}
 use Rattle.std.proofs.Math.Logic.{∥∥₁_elim, ∥∥₁_map}
 use denote.Struct.Props.{props}
 use Rattle.beep_history.specs.Journal.{Item}
@@ -20,6 +20,7 @@ use Rattle.beep_peer.specs.declared.peer.Peer.{Peer}
 use Rattle.beep_peer.specs.Peering.{Holds, IsPeer, AreHeld}
 use Rattle.beep_peer.specs.Calls.{LetsGo}
 use Rattle.beep_peer.specs.Waiting.{HasCome, AllHaveCome, AreLetGo, KeepsAbove}
+use Rattle.beep_peer.proofs.LetLemmas.{gives-first}
 use Rattle.beep_giving.specs.Looks.{given_of}
 use Rattle.beep_giving.specs.Giving.{TakesMarks}
 use Rattle.beep_giving.proofs.CountLemmas.{above-zero, turned, counted-above, after-part}
@@ -70,11 +71,18 @@ module _ (number : ℕ) (old : Peer) (lives : List Live) (above : 0 < number) (p
 
     pub takes-marks : (size : ℕ) (fed rest : List ℕ) (journal : List Item) (given taken : Marks) → IsPeer size fed rest journal given taken old
         → ((size : ℕ) (journal : List Item) (given taken : Marks) → Holds size journal given taken lives old.management → LetsGo size journal given taken old.management.answers last now)
-        → TakesMarks number size fed rest journal given taken part after (record old { lives = last; management = now })
-    takes-marks size fed rest journal given taken s goes =
+        → AreLetGo lives old.management now
+        → TakesMarks number size fed rest journal given taken part after old.management.answers (record old { lives = last; management = now })
+    takes-marks size fed rest journal given taken s goes lets =
         let l = goes size journal given (with_marks number (taken number ++ part_marks part after) taken)
         (holds-taken size number journal given taken old.lives lives old.management above s.holds part before after e) in
-        record { given_now = l.given_now; same = l.same; stands = record { hears = s.hears; holds = l.holds; released = s.released } }
+        record {
+          given_now = l.given_now;
+          gives = gives-first size journal given (with_marks number (taken number ++ part_marks part after) taken) given lives old.management old.management.answers
+              (record old { lives = last; management = now }) refl refl l lets kept;
+          same = l.same;
+          stands = record { hears = s.hears; holds = l.holds; released = s.released };
+        }
 
     pub part-counts : AreHeld old.lives old.management → given_of (live_at number last)
         ≡ option_map (λ given. if part.ended then after_taken given part.tag.kind else given) (given_of (live_at number old.lives))

@@ -20,7 +20,9 @@ use Rattle.beep_standing.specs.Standing.{Marks, with_marks}
 use Rattle.beep_hearing.specs.Hears.{SameAbove}
 use Rattle.beep_asked.specs.Kept.{closes, is_leaving}
 use Rattle.beep_peer.specs.declared.peer.Peer.{Peer}
+use Rattle.beep_management.specs.Managed.{Prepared}
 use Rattle.beep_peer.specs.Peering.{IsPeer}
+use Rattle.beep_peer.specs.Calls.{GivesFirst}
 
 -- ---- the message
 
@@ -72,10 +74,13 @@ pub record GivesMessage (number size : ℕ) (fed rest : List ℕ) (journal : Lis
       (given number ++ message_marks (next_message kind octets (given number))) given)
       taken peer
 
--- a part was taken from the life of this number; answers of channel zero may have been let go
+-- a part was taken from the life of this number, and of these answers of channel zero the first
+-- were given
 pub record TakesMarks (number size : ℕ) (fed rest : List ℕ) (journal : List Item)
-    (given taken : Marks) (part : Part) (octets : List ℕ) (peer : Peer) : Type 0 where
+    (given taken : Marks) (part : Part) (octets : List ℕ) (answers : List Prepared) (peer : Peer)
+    : Type 0 where
   pub given_now : Marks
+  pub gives : GivesFirst given given_now answers peer
   pub same : SameAbove given given_now
   pub stands : IsPeer size fed rest journal given_now
       (with_marks number (taken number ++ part_marks part octets) taken) peer

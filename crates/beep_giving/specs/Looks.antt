@@ -3,12 +3,7 @@
 use Rattle.std.specs.Prelude.{ℕ, ◌==◌, nat_lt, Bool, false, not, List, [], length, Option, None, Some}
 use Rattle.beep_exchange.specs.declared.given.Given.{Given}
 use Rattle.beep_inbox.specs.Runs.{Run}
-use Rattle.beep_channel.specs.Held.{Held, Live}
-
--- what is held
-abbrev pub held_of : Option Live → Option Held
-held_of None = None
-held_of (Some channel) = Some channel.held
+use Rattle.beep_channel.specs.Held.{Live}
 
 -- the requests that wait and those that are owed, as calls tell them
 abbrev pub given_of : Option Live → Option Given

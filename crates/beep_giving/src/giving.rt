@@ -1,5 +1,5 @@
 //! Messages that a program gives in a live life above zero (RFC 3080, section 2.1).
-ghost use Rattle.std.specs.Prelude.{◌≡◌, ◌≢◌, ◌<◌, ◌==◌, ℕ, List, length, None, Some, true, option_map, IsSome, IfSome, IfOk, IfErr, OnOk, OnErr};
+ghost use Rattle.std.specs.Prelude.{◌≡◌, ◌≢◌, ◌<◌, ◌==◌, ◌||◌, ℕ, List, length, None, Some, true, false, option_map, IsSome, IfSome, IfOk, IfErr, OnOk, OnErr};
 ghost use Rattle.beep_frame.specs.declared.kind.Kind.{Kind as KindValue};
 ghost use Rattle.beep_frame.specs.Frame.{is_msg, is_ans};
 ghost use Rattle.beep_frame.specs.Modulo.{modulo_2_64};
@@ -10,10 +10,13 @@ ghost use Rattle.beep_channel.specs.declared.ask_error.AskError.{AskError as Ask
 ghost use Rattle.beep_channel.specs.Held.{IsReply};
 ghost use Rattle.beep_channel.specs.Stands.{ends_of};
 ghost use Rattle.beep_lives.specs.Lives.{live_at};
+ghost use Rattle.beep_lawful.specs.declared.terms.Terms.{Terms};
 ghost use Rattle.beep_standing.specs.Standing.{Marks};
+ghost use Rattle.beep_asked.specs.Kept.{closes};
+ghost use Rattle.beep_upright.specs.Upright.{IsUpright};
 ghost use Rattle.beep_peer.specs.Peering.{IsPeer, AreHeld};
-ghost use Rattle.beep_peer.specs.Acts.{IsUnchanged};
-ghost use Rattle.beep_giving.specs.Looks.{given_of, held_of, owes_of};
+ghost use Rattle.beep_peer.specs.Acts.{held_of, IsUnchanged};
+ghost use Rattle.beep_giving.specs.Looks.{given_of, owes_of};
 ghost use Rattle.beep_giving.specs.Giving.{ask_refusal_at, reply_refusal_at, GivesMessage, ChangesOnly};
 
 use beep_channel::AskError;
@@ -33,6 +36,14 @@ pub fn ask(peer: &mut Peer, number: u32, octets: &[u8]) -> Result<u64, AskError>
     ensures value { (size : ℕ) (fed rest : List ℕ) (journal : List Item) (given taken : Marks)
         → IsPeer size fed rest journal given taken peer.old
         → IfOk result (λ position. position ≡ modulo_2_64 (ends_of is_msg (given number))) }
+
+    // What an end has to say may still go out, where no own close of the life waits.
+    ensures upright { (terms : Terms) (fed rest : List ℕ) (journal : List Item)
+        (given taken : Marks) → IsPeer terms.window fed rest journal given taken peer.old
+        → (closes number peer.old.management.mine.requests
+        || closes number peer.old.management.acts.requests) ≡ false
+        → IsUpright terms journal peer.old.lives peer.old.management
+        → IsUpright terms journal peer.new.lives peer.new.management }
     ensures counts { AreHeld peer.old.lives peer.old.management
         → OnOk result (given_of (live_at number peer.new.lives)
         ≡ option_map (λ given. after_given given KindValue.Msg)
@@ -68,6 +79,10 @@ pub fn give_reply(peer: &mut Peer, number: u32, kind: Kind, octets: &[u8]) -> Re
         → IsPeer size fed rest journal given taken peer.old
         → OnOk result (GivesMessage number size fed rest journal given taken kind
         octets.now peer.new) }
+    ensures upright { (terms : Terms) (fed rest : List ℕ) (journal : List Item)
+        (given taken : Marks) → IsPeer terms.window fed rest journal given taken peer.old
+        → IsUpright terms journal peer.old.lives peer.old.management
+        → IsUpright terms journal peer.new.lives peer.new.management }
     ensures counts { AreHeld peer.old.lives peer.old.management
         → OnOk result (given_of (live_at number peer.new.lives)
         ≡ option_map (λ given. after_given given kind)

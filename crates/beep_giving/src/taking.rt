@@ -4,7 +4,9 @@ ghost use Rattle.beep_history.specs.Journal.{Item};
 ghost use Rattle.beep_exchange.specs.Given.{after_taken};
 ghost use Rattle.beep_inbox.specs.Untaken.{IsTaken};
 ghost use Rattle.beep_lives.specs.Lives.{live_at};
+ghost use Rattle.beep_lawful.specs.declared.terms.Terms.{Terms};
 ghost use Rattle.beep_standing.specs.Standing.{Marks};
+ghost use Rattle.beep_upright.specs.Upright.{IsUpright};
 ghost use Rattle.beep_peer.specs.Peering.{IsPeer, AreHeld};
 ghost use Rattle.beep_peer.specs.Waiting.{AreLetGo, IsStuck};
 ghost use Rattle.beep_giving.specs.Looks.{given_of, inbox_of};
@@ -24,7 +26,12 @@ pub fn take(peer: &mut Peer, number: u32, buf: &mut [u8]) -> Option<Part>
     requires held { AreHeld peer.old.lives peer.old.management }
     ensures some { (size : ℕ) (fed rest : List ℕ) (journal : List Item) (given taken : Marks)
         → IsPeer size fed rest journal given taken peer.old → IfSome result (λ part.
-        TakesMarks number size fed rest journal given taken part buf.new peer.new) }
+        TakesMarks number size fed rest journal given taken part buf.new
+        peer.old.management.answers peer.new) }
+    ensures upright { (terms : Terms) (fed rest : List ℕ) (journal : List Item)
+        (given taken : Marks) → IsPeer terms.window fed rest journal given taken peer.old
+        → IsUpright terms journal peer.old.lives peer.old.management
+        → IsUpright terms journal peer.new.lives peer.new.management }
     ensures part { IfSome result (λ part. IsTaken part (inbox_of (live_at number peer.old.lives))
         (inbox_of (live_at number peer.new.lives)) buf.old buf.new) }
     ensures counts { IfSome result (λ part. given_of (live_at number peer.new.lives)

@@ -1,6 +1,7 @@
 -- What the channel gives is the next request of the life.
 use Rattle.std.proofs.lemmas.Result.{on_err_weaker}
-use Rattle.std.proofs.Common.{◌≡◌, refl}
+use Rattle.std.proofs.Common.{◌≡◌, refl, sym, ap, ◌∙◌}
+use Rattle.beep_asked.specs.Kept.{Queue, closes, is_leaving}
 use Rattle.std.specs.Prelude.{option_map}
 use Rattle.beep_frame.specs.declared.kind.Kind.{Kind}
 use Rattle.beep_exchange.specs.Given.{after_given}
@@ -11,6 +12,9 @@ use Rattle.beep_lives.specs.Edits.{Edits, Gives}
 use Rattle.beep_giving.specs.Looks.{given_of}
 use Rattle.beep_giving.specs.Giving.{GivesMessage}
 use Rattle.beep_giving.proofs.GivenLemmas.{at-live, position-is, gives-ask, ask-counts, room-unchanged}
+use Rattle.beep_upright.specs.Upright.{IsUpright}
+use Rattle.beep_peer.proofs.UnchangedLemmas.{unchanged-upright}
+use Rattle.beep_giving.proofs.UprightLemmas.{by-result, ask-upright}
 use Rattle.beep_giving.proofs.giving.ask.Goals as goal
 
 pub returns-clause-ok : goal.returns-clause-ok
@@ -40,3 +44,12 @@ returns-clause-counts c held =
 
 pub returns-clause-err : goal.returns-clause-err
 returns-clause-err c = on_err_weaker c.give_ask.result (room-unchanged c.args.number c.args.peer.now c.give_ask.new.self c.requires.above) c.give_ask.ensures.err
+
+pub returns-clause-upright : goal.returns-clause-upright
+returns-clause-upright c = λ terms fed rest journal given taken s unclosed u.
+    let new = record c.args.peer.now { lives = c.give_ask.new.self } in
+    by-result c.give_ask.result (IsUpright terms journal new.lives new.management) (returns-clause-ok c terms.window fed rest journal given taken s) (returns-clause-err c)
+    (λ g. ask-upright terms fed rest journal given taken c.args.peer.now new s refl u c.args.number c.requires.above Kind.Msg c.args.octets.now g unclosed
+    (sym (ap (λ (q : Queue). is_leaving q.requests) c.theirs.ensures) ∙ sym c.is_leaving.ensures ∙ c.if-is_leaving.false)
+    (sym (ap (λ (q : Queue). closes c.args.number q.requests) c.theirs-else-is_leaving.ensures) ∙ sym c.closes.ensures ∙ c.if-closes.false))
+    (λ k. unchanged-upright terms journal c.args.peer.now new k u)

@@ -1,6 +1,6 @@
 -- What the channel gives is the next message of the reply to the oldest request that is owed.
 use Rattle.std.proofs.lemmas.Result.{on_err_weaker}
-use Rattle.std.proofs.Common.{◌≡◌, true}
+use Rattle.std.proofs.Common.{◌≡◌, true, refl}
 use Rattle.std.specs.Prelude.{option_map}
 use Rattle.beep_exchange.specs.Given.{after_given}
 use Rattle.beep_outbox.specs.Queue.{message_marks}
@@ -10,6 +10,9 @@ use Rattle.beep_lives.specs.Edits.{Edits, Gives}
 use Rattle.beep_giving.specs.Looks.{given_of, owes_of}
 use Rattle.beep_giving.specs.Giving.{GivesMessage}
 use Rattle.beep_giving.proofs.GivenLemmas.{at-live, may-there, gives-reply, reply-counts, answer-owes, room-unchanged}
+use Rattle.beep_upright.specs.Upright.{IsUpright}
+use Rattle.beep_peer.proofs.UnchangedLemmas.{unchanged-upright}
+use Rattle.beep_giving.proofs.UprightLemmas.{by-result, reply-is-one, reply-upright}
 use Rattle.beep_giving.proofs.giving.give_reply.Goals as goal
 
 pub returns-clause-ok : goal.returns-clause-ok
@@ -53,3 +56,11 @@ returns-clause-owes c held answer =
 
 pub returns-clause-err : goal.returns-clause-err
 returns-clause-err c = on_err_weaker c.give_reply.result (room-unchanged c.args.number c.args.peer.now c.give_reply.new.self c.requires.above) c.give_reply.ensures.err
+
+pub returns-clause-upright : goal.returns-clause-upright
+returns-clause-upright c = λ terms fed rest journal given taken s u.
+    let new = record c.args.peer.now { lives = c.give_reply.new.self } in
+    by-result c.give_reply.result (IsUpright terms journal new.lives new.management) (returns-clause-ok c terms.window fed rest journal given taken s) (returns-clause-err c)
+    (λ g. reply-upright terms fed rest journal given taken c.args.peer.now new s refl u c.args.number c.requires.above c.args.kind c.args.octets.now g
+    (reply-is-one (live_at c.args.number c.args.peer.now.lives) c.args.kind c.args.octets.now c.requires.live c.requires.may))
+    (λ k. unchanged-upright terms journal c.args.peer.now new k u)
