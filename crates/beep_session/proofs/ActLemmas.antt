@@ -1,6 +1,7 @@
 -- What a request on channel zero leaves of a peer, for every journal for which it stood.
-use Rattle.std.proofs.Common.{◌≡◌, ℕ, ◌||◌, ◌&&◌, not, Bool, true, false, List, ◌++◌, Option, None, Some, is_some, Result, Ok, Err, refl, sym, ap, ◌∙◌}
+use Rattle.std.proofs.Common.{◌≡◌, ℕ, ◌<◌, ◌==◌, ◌||◌, ◌&&◌, not, Bool, true, false, List, ◌++◌, Option, None, Some, is_some, Result, Ok, Err, refl, sym, ◌∙◌, subst, arith}
 use Rattle.std.specs.Prelude.{OnOk, OnErr}
+use Rattle.std.proofs.lemmas.Bool.Decides.{nat_tests}
 use Rattle.std.proofs.Math.Logic.{∥∥₁_elim, ∥∥₁_map}
 use denote.Struct.Props.{props}
 use Rattle.beep_frame.specs.declared.head.Head.{Head}
@@ -9,16 +10,27 @@ use Rattle.beep_history.specs.Journal.{Item}
 use Rattle.beep_hearing.specs.declared.stopped.Stopped.{Stopped}
 use Rattle.beep_outbox.specs.Queue.{message_marks}
 use Rattle.beep_lives.specs.Lives.{live_at}
-use Rattle.beep_standing.specs.Standing.{Marks, with_marks}
+use Rattle.beep_channel.specs.Held.{Live}
+use Rattle.beep_standing.specs.Standing.{Marks, with_marks, AreLive}
 use Rattle.beep_peer.specs.declared.peer.Peer.{Peer}
 use Rattle.beep_peer.specs.Peering.{Holds, IsPeer, IsGoing, IsReached, AreHeld, is_over, zero_waits}
-use Rattle.beep_peer.specs.Acts.{GivesZero, IsUnchanged}
+use Rattle.beep_peer.specs.Acts.{GivesZero, IsUnchanged, close_refusal}
+use Rattle.beep_peer.specs.Asking.{MayCloseWhere}
+use Rattle.beep_peer.proofs.MayLemmas.{may-close}
+use Rattle.beep_peer.proofs.UnchangedLemmas.{unchanged-upright}
+use Rattle.beep_session.specs.Session.{Held}
+use Rattle.beep_session.specs.Lawfully.{terms_of, KeepsUpright}
 use Rattle.beep_session.specs.Acts.{AsksZero}
 
 -- some journal for which a peer stands
 abbrev pub SomePeer : ℕ → Peer → Type 0
 SomePeer size peer =
     (fed : List ℕ) × (rest : List ℕ) × (journal : List Item) × (given : Marks) × (taken : Marks) × IsPeer size fed rest journal given taken peer
+
+-- some journal for which channels stand, by the lives of an earlier part
+abbrev pub SomeStanding : ℕ → List Live → Type 0
+SomeStanding size channels =
+    (lives : List Item) × (journal : List Item) × (given : Marks) × (taken : Marks) × AreLive size lives journal given taken channels
 
 -- ---- a session that goes on
 
@@ -74,14 +86,16 @@ pub still-peer : (size : ℕ) (old new : Peer) (fed rest : List ℕ) (journal : 
 still-peer size old new fed rest journal given taken u s =
     record { hears = rw u.ear s.hears; holds = u.holds size journal given taken s.holds; released = u.released ∙ s.released }
 
-pub unchanged-same : (peer : Peer) → IsUnchanged peer peer
-unchanged-same peer = record { ear = refl; released = refl; holds = λ size journal given taken h. h; numbers_are = refl }
+-- so what the session has to say may go as before
+pub still-upright : (old new : Held) → IsUnchanged old.peer new.peer → KeepsUpright old new
+still-upright old new same fed rest journal given taken s u = unchanged-upright (terms_of old) journal old.peer new.peer same u
 
 -- a peer that went on goes on after it
 pub going-reached : (size : ℕ) (new : Peer) → IsGoing size new → IsReached size new
 going-reached size new held = record {
   going = λ b w. held;
   waiting = λ head b w. ∥∥₁_elim held (hlevel props) (λ s. absurd (let e : None ≡ Some head = sym s.5.hears.none ∙ w in cc));
+  stands = ∥∥₁_map {A = SomePeer size new} {B = SomeStanding size new.lives} held (λ s. (s.2, s.2, s.3, s.4, s.5.holds.live));
 }
 
 pub reached-given : (size : ℕ) (octets : List ℕ) (old new : Peer) → IsGoing size old
@@ -108,3 +122,12 @@ still-there size octets old new n (Ok value) held ok err = ∥∥₁_elim held (
     sym ((ok s.2 s.3 s.4 s.5.holds).holds.live.there n) ∙ s.5.holds.live.there n)
 still-there size octets old new n (Err error) held ok err = ∥∥₁_elim held (hlevel props) (λ s.
     sym ((err.holds size s.2 s.3 s.4 s.5.holds).live.there n) ∙ s.5.holds.live.there n)
+
+-- a close above zero that isn't refused may be asked
+above-zero : (n : ℕ) → 0 < n → (n == 0) ≡ false
+above-zero n above = grind (arith, nat_tests)
+
+pub close-may : (peer : Peer) (n : ℕ) → 0 < n → close_refusal peer n ≡ None → is_some (live_at n peer.lives) ≡ true
+    → MayCloseWhere (n == 0) peer n (not (n == 0))
+close-may peer n above none live =
+    subst (λ (b : Bool). MayCloseWhere b peer n (not b)) (sym (above-zero n above)) (may-close peer n none live)

@@ -1,9 +1,8 @@
 -- What a feed leaves of a peer, for every journal for which it stood.
-use Rattle.std.proofs.Common.{◌≡◌, ℕ, ◌==◌, Bool, true, false, List, [], ◌∷◌, ◌++◌, length, Option, None, Some, refl, sym, ap, ◌∙◌, subst}
+use Rattle.std.proofs.Common.{◌≡◌, ℕ, List, ◌∷◌, ◌++◌, length, Option, None, Some, refl, sym, ap, ◌∙◌, subst}
 use Rattle.std.proofs.Math.Logic.{∥∥₁_elim, ∥∥₁_map}
 use Rattle.std.proofs.lemmas.Grind.{merely}
 use denote.Struct.Props.{props}
-use Rattle.std.specs.List.{list_any}
 use Rattle.std.specs.Option.{option_map_or}
 use Rattle.beep_frame.specs.declared.head.Head.{Head}
 use Rattle.beep_history.specs.declared.journal.Side.{Side}
@@ -13,13 +12,13 @@ use Rattle.beep_standing.specs.Standing.{Marks}
 use Rattle.beep_hearing.specs.declared.ear.Ear.{Ear}
 use Rattle.beep_hearing.specs.declared.heard.Heard.{Heard}
 use Rattle.beep_hearing.specs.declared.stopped.Stopped.{Stopped}
-use Rattle.beep_hearing.specs.Hears.{IsEar, Goes, Arrives, EndsZero, Breaks, Brings, KeepsZeroRoom}
+use Rattle.beep_hearing.specs.Hears.{IsEar, EndsZero, Brings, KeepsZeroRoom}
 use Rattle.beep_hearing.specs.Answers.{Answers, IsHeld}
 use Rattle.beep_management.specs.Managed.{octets_prepared}
 use Rattle.beep_peer.specs.declared.peer.Peer.{Peer}
 use Rattle.beep_session.specs.Events.{event_of}
-use Rattle.beep_peer.specs.Peering.{Holds, IsPeer, WaitsIn, IsGoing, IsWaiting, IsReached}
-use Rattle.beep_session.specs.Feeds.{Gains, GainsSome, HasArrived, ZeroWaits, Feeds}
+use Rattle.beep_peer.specs.Peering.{IsPeer, IsGoing, IsWaiting, IsReached}
+use Rattle.beep_session.specs.Feeds.{Gains, ZeroWaits, Feeds}
 use Rattle.beep_peer.proofs.GainLemmas.{gained-managed, gained-released, gained-few}
 
 same-head : (a b : Head) → Some a ≡ Some b → a ≡ b
@@ -93,6 +92,7 @@ module _ (size : ℕ) (octets fed rest : List ℕ) (journal : List Item) (given 
   still-going gained g = record {
     going = λ b w. merely (fed ++ octets, g.rest, gained ++ journal, given, g.taken_now, g.stands);
     waiting = λ head b w. absurd (let e : None ≡ Some head = sym g.stands.hears.none ∙ w in cc);
+    stands = merely (gained ++ journal, gained ++ journal, given, g.taken_now, g.stands.holds.live);
   }
 
   still-waiting : ZeroWaits size octets fed journal given taken now → IsReached size now
@@ -100,6 +100,7 @@ module _ (size : ℕ) (octets fed rest : List ℕ) (journal : List Item) (given 
     going = λ b w. absurd (let h : Some z.head ≡ None = sym z.waits.waits.waiting ∙ w in cc);
     waiting = λ other b w. subst (λ (h : Head). IsWaiting size h now) (same-head z.head other (sym z.waits.waits.waiting ∙ w))
         (merely (fed ++ octets, z.gained ++ journal, given, z.taken_now, z.payload, z.waits));
+    stands = merely (z.gained ++ journal, z.gained ++ journal, given, z.taken_now, z.waits.waits.live);
   }
 
   pub reached : (heard : Heard) → Answers heard size octets fed journal given taken ear lives → IsReached size now
@@ -110,6 +111,7 @@ module _ (size : ℕ) (octets fed rest : List ℕ) (journal : List Item) (given 
   reached (Heard.Broken rule place) b = record {
     going = λ none w. absurd (let h : Some (record { rule = rule; place = place; left = _ }) ≡ None = sym b.stopped ∙ none in cc);
     waiting = λ head none w. absurd (let h : Some (record { rule = rule; place = place; left = _ }) ≡ None = sym b.stopped ∙ none in cc);
+    stands = merely (b.gained ++ journal, b.gained ++ journal, given, b.taken_now, b.live);
   }
   reached Heard.NoMemory g = still-going g.gained (gains g.gained g.brings)
 
@@ -132,6 +134,7 @@ module _ (size : ℕ) (octets : List ℕ) (peer : Peer) (ear : Ear) (lives : Lis
       of None b None w = record {
         going = λ x y. ∥∥₁_elim (was.going b w) (hlevel props) (λ s. (by s).going x y);
         waiting = λ head x y. ∥∥₁_elim (was.going b w) (hlevel props) (λ s. (by s).waiting head x y);
+        stands = ∥∥₁_elim (was.going b w) (hlevel props) (λ s. (by s).stands);
       }
         where
           by : ((fed : List ℕ) × (rest : List ℕ) × (journal : List Item) × (given : Marks) × (taken : Marks) × IsPeer size fed rest journal given taken peer)

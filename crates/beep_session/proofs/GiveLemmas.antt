@@ -41,16 +41,16 @@ module _ {A E : Type 0} (number : ℕ) (kind : Kind) (octets : List ℕ) where
   pub session-gives : (old new : Held) (result : Result A E)
       → ((fed rest : List ℕ) (journal : List Item) (given taken : Marks) → IsPeer old.limits.window fed rest journal given taken old.peer
       → OnOk result (GivesMessage number old.limits.window fed rest journal given taken kind octets new.peer))
-      → IsOfPeer old new → OnOk result (Gives number kind octets old new)
-  session-gives old new (Ok value) ok same = record { gives = ok; same = same }
-  session-gives old new (Err error) ok same = tt
+      → new.peer.management ≡ old.peer.management → IsOfPeer old new → OnOk result (Gives number kind octets old new)
+  session-gives old new (Ok value) ok kept same = record { gives = ok; kept = kept; same = same }
+  session-gives old new (Err error) ok kept same = tt
 
 -- ---- a part that is taken
 
 module _ (number : ℕ) (octets : List ℕ) where
   pub taken-reached : (size : ℕ) (old new : Peer) → IsGoing size old → (result : Option Part)
       → ((fed rest : List ℕ) (journal : List Item) (given taken : Marks) → IsPeer size fed rest journal given taken old
-      → IfSome result (λ part. TakesMarks number size fed rest journal given taken part octets new))
+      → IfSome result (λ part. TakesMarks number size fed rest journal given taken part octets old.management.answers new))
       → IfNone result (new ≡ old) → IsReached size new
   taken-reached size old new held (Some part) some none = going-reached size new
       (∥∥₁_map {A = SomePeer size old} {B = SomePeer size new} held (λ s.
@@ -60,7 +60,7 @@ module _ (number : ℕ) (octets : List ℕ) where
 
   pub session-takes : (old new : Held) (result : Option Part)
       → ((fed rest : List ℕ) (journal : List Item) (given taken : Marks) → IsPeer old.limits.window fed rest journal given taken old.peer
-      → IfSome result (λ part. TakesMarks number old.limits.window fed rest journal given taken part octets new.peer))
+      → IfSome result (λ part. TakesMarks number old.limits.window fed rest journal given taken part octets old.peer.management.answers new.peer))
       → IsOfPeer old new → IfSome result (λ part. Takes number part octets old new)
   session-takes old new (Some part) some same = record { takes = some; same = same }
   session-takes old new None some same = tt

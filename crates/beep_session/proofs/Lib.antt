@@ -6,3 +6,6 @@ pub mod LooksLemmas
 pub mod ReachedLemmas
 pub mod SettleLemmas
 pub mod StandLemmas
+pub mod LawfulLemmas
+pub mod StuckLemmas
+pub mod BoundedLemmas

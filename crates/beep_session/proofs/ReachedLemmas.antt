@@ -13,17 +13,14 @@ use Rattle.beep_hearing.specs.declared.stopped.Stopped.{Stopped}
 use Rattle.beep_standing.specs.Standing.{Marks}
 use Rattle.beep_peer.specs.declared.peer.Peer.{Peer}
 use Rattle.beep_answering.specs.declared.settled.Settled.{Settled}
-use Rattle.beep_peer.specs.Peering.{IsPeer, WaitsIn, IsGoing, IsWaiting, IsReached, zero_waits}
+use Rattle.beep_peer.specs.Peering.{WaitsIn, IsWaiting, IsReached, zero_waits}
 use Rattle.beep_peer.specs.Calls.{Settles}
+use Rattle.beep_session.proofs.ActLemmas.{SomePeer, SomeStanding}
 
 -- a message waits in some journal
 abbrev SomeWaits : ℕ → Head → Peer → Type 0
 SomeWaits size head peer =
     (fed : List ℕ) × (journal : List Item) × (given : Marks) × (taken : Marks) × (payload : List ℕ) × WaitsIn size fed journal given taken head payload peer
-
-abbrev SomePeer : ℕ → Peer → Type 0
-SomePeer size peer =
-    (fed : List ℕ) × (rest : List ℕ) × (journal : List Item) × (given : Marks) × (taken : Marks) × IsPeer size fed rest journal given taken peer
 
 -- a message waits whose header this is, and no rule was broken
 not-over : (released : Bool) (stopped : Option Stopped) (w : Bool) → (not (released || is_some stopped) && w) ≡ true → stopped ≡ None
@@ -48,6 +45,9 @@ module _ (size : ℕ) (head : Head) (old new : Peer) (waiting : IsWaiting size h
         (s.0, [], passed Side.Received head s.4 ∷ s.1, t.given_now, t.taken_now, t.stands));
     waiting = λ other b w. ∥∥₁_elim waiting (hlevel props) (λ s. absurd (
         let e : None ≡ Some other = sym (all s.0 s.1 s.2 s.3 s.4 s.5).stands.hears.none ∙ w in cc));
+    stands = ∥∥₁_map {A = SomeWaits size head old} {B = SomeStanding size new.lives} waiting (λ s.
+        let t = all s.0 s.1 s.2 s.3 s.4 s.5 in
+        (passed Side.Received head s.4 ∷ s.1, passed Side.Received head s.4 ∷ s.1, t.given_now, t.taken_now, t.stands.holds.live));
   }
 
   -- it waits still
@@ -62,6 +62,8 @@ module _ (size : ℕ) (head : Head) (old new : Peer) (waiting : IsWaiting size h
         (ap (λ (o : Option Head). option_map_or (λ (x : Head). x) o head) (sym now.waits.waiting ∙ w))
         (∥∥₁_map {A = SomeWaits size head old} {B = SomeWaits size head new} waiting (λ r.
         (r.0, r.1, r.2, r.3, r.4, all r.0 r.1 r.2 r.3 r.4 r.5))));
+    stands = ∥∥₁_map {A = SomeWaits size head old} {B = SomeStanding size new.lives} waiting (λ s.
+        (s.1, s.1, s.2, s.3, (all s.0 s.1 s.2 s.3 s.4 s.5).waits.live));
   }
 
   pub reached-asked : (result : Result Settled NoMemory)

@@ -1,7 +1,7 @@
 -- What a settle answers, for every journal in which the message waits.
-use Rattle.std.proofs.Common.{◌≡◌, ℕ, ◌-◌, ◌++◌, Bool, true, false, List, length, Option, None, Some, Result, Ok, Err, refl, sym, ap, ◌∙◌, subst}
-use Rattle.std.specs.Prelude.{◌↔◌, IsOk, IfOk, IfErr, OnOk}
-use Rattle.std.proofs.Math.Logic.{∥∥₁_elim}
+use Rattle.std.proofs.Common.{◌≡◌, ℕ, ◌-◌, ◌∷◌, ◌++◌, Bool, true, false, List, length, Option, None, Some, Result, Ok, Err, refl, sym, ◌∙◌, subst}
+use Rattle.std.specs.Prelude.{◌↔◌, IsOk, IfOk, IfErr, OnOk, OnErr}
+use Rattle.std.proofs.Math.Logic.{∥∥₁_elim, ∥∥₁_map}
 use denote.Struct.Props.{props}
 use Rattle.beep_frame.specs.declared.head.Head.{Head}
 use Rattle.beep_frame.specs.declared.rule.Rule.{Rule}
@@ -10,7 +10,7 @@ use Rattle.beep_frame.specs.Modulo.{modulo_2_64}
 use Rattle.beep_mgmt.specs.Form.{Form}
 use Rattle.beep_mgmt.specs.Message.{message_said}
 use Rattle.beep_history.specs.declared.journal.Side.{Side}
-use Rattle.beep_history.specs.Journal.{Item}
+use Rattle.beep_history.specs.Journal.{Item, passed}
 use Rattle.beep_journal.specs.Zero.{zero_history, gathered, completes_form}
 use Rattle.beep_journal.specs.declared.role.Role.{Role}
 use Rattle.beep_standing.specs.Standing.{Marks}
@@ -23,11 +23,13 @@ use Rattle.beep_answering.specs.declared.settled.Settled.{Settled}
 use Rattle.beep_asked.specs.Kept.{Kept, oldest}
 use Rattle.beep_answering.specs.Decided.{IsSettledBy, IsSettledAs}
 use Rattle.beep_peer.specs.Peering.{WaitsIn, IsWaiting, IsReached}
-use Rattle.beep_peer.specs.Calls.{Settles}
+use Rattle.beep_peer.specs.Calls.{Settles, SettlesReply, SettlesRequest}
 use Rattle.beep_session.specs.Session.{Held}
 use Rattle.beep_peer.specs.Standing.{standing_of}
 use Rattle.beep_peer.proofs.WaitingLemmas.{says-whole}
-use Rattle.beep_session.proofs.ReachedLemmas.{reached-settled, same-head, for-head}
+use Rattle.beep_hearing.specs.Hears.{Passes}
+use Rattle.beep_session.proofs.ActLemmas.{SomeStanding}
+use Rattle.beep_session.proofs.ReachedLemmas.{reached-settled, for-head}
 
 -- a session, by its parts
 abbrev pub held-from : Role → List PlainOffer → Limits → Peer → Held
@@ -51,6 +53,19 @@ module _ (r : Result Settled SettleError) (new : Peer) where
       → oldest h.peer.management.mine.requests ≡ Some one
       → IfOk r (IsSettledAs one (message_said (gathered Side.Received (zero_history journal) ++ payload)))
 
+  -- a request is answered as the decision calls for, and nothing else is given
+  abbrev pub AskedFor : Held → Type 0
+  AskedFor h = (fed : List ℕ) (journal : List Item) (given taken : Marks) (head : Head) (payload : List ℕ)
+      → WaitsIn h.limits.window fed journal given taken head payload h.peer → is_msg head.kind ≡ true
+      → IfOk r (λ settled. SettlesRequest h.limits.window fed journal given taken head payload (standing_of h.role h.offers h.peer)
+      (message_said (gathered Side.Received (zero_history journal) ++ payload)) settled h.peer.management.answers new)
+
+  -- a reply adds no answer
+  abbrev pub AnsweredFor : Held → Type 0
+  AnsweredFor h = (fed : List ℕ) (journal : List Item) (given taken : Marks) (head : Head) (payload : List ℕ)
+      → WaitsIn h.limits.window fed journal given taken head payload h.peer → is_msg head.kind ≡ false
+      → OnOk r (SettlesReply h.limits.window fed journal given taken head payload h.peer.management.answers new)
+
   -- a reply that is settled has its form
   abbrev pub FitsFor : Held → Type 0
   FitsFor h = (fed : List ℕ) (journal : List Item) (given taken : Marks) (head : Head) (payload : List ℕ)
@@ -61,7 +76,8 @@ module _ (r : Result Settled SettleError) (new : Peer) where
   abbrev pub BreaksFor : Held → Type 0
   BreaksFor h = (fed : List ℕ) (journal : List Item) (given taken : Marks) (head : Head) (payload : List ℕ) (rule : Rule) (place : ℕ)
       → WaitsIn h.limits.window fed journal given taken head payload h.peer → r ≡ Err (SettleError.Broken rule place)
-      → (rule ≡ Rule.ZeroReply) × (place ≡ modulo_2_64 (length fed - 1)) × (completes_form Side.Received head payload (zero_history journal) ≡ false)
+      → (rule ≡ Rule.ZeroReply) × (place ≡ modulo_2_64 (length fed - 1)) × (is_msg head.kind ≡ false)
+      × (completes_form Side.Received head payload (zero_history journal) ≡ false)
 
   -- where memory is wanting, the message waits still
   abbrev pub WaitsStill : Held → Type 0
@@ -100,6 +116,14 @@ module _ (h : Held) (new : Peer) (r : Result Settled SettleError) (head : Head) 
       subst (λ (form : Option Form). IfOk r (λ settled. IsSettledAs one form settled))
       (says-whole size fed journal given taken other payload h.peer w said says) (by one is_one)
 
+  pub reply-answered : ((size : ℕ) (fed : List ℕ) (journal : List Item) (given taken : Marks) (payload : List ℕ)
+      → WaitsIn size fed journal given taken head payload h.peer
+      → OnOk r (SettlesReply size fed journal given taken head payload h.peer.management.answers new)) → AnsweredFor r new h
+  reply-answered answers fed journal given taken other payload w reply =
+      for-head size fed journal given taken other payload h.peer w head is
+      (λ (x : Head). OnOk r (SettlesReply size fed journal given taken x payload h.peer.management.answers new))
+      (λ v. answers size fed journal given taken payload v)
+
   pub reply-fits : FitsFor r new h
   reply-fits fed journal given taken other payload w reply all =
       for-head size fed journal given taken other payload h.peer w head is (λ (x : Head). completes_form Side.Received x payload (zero_history journal) ≡ true)
@@ -113,6 +137,7 @@ module _ (h : Held) (new : Peer) (r : Result Settled SettleError) (head : Head) 
       none (broken size fed journal given taken payload v))) in (
         same.0,
         same.1,
+        for-head size fed journal given taken other payload h.peer w head is (λ (x : Head). is_msg x.kind ≡ false) (λ v. reply),
         for-head size fed journal given taken other payload h.peer w head is (λ (x : Head). completes_form Side.Received x payload (zero_history journal) ≡ false)
             (λ v. not-true (completes_form Side.Received head payload (zero_history journal))
             (λ form. not-ok r (SettleError.Broken rule place) none ((fits size fed journal given taken payload v).1 form))),
@@ -127,8 +152,10 @@ module _ (h : Held) (new : Peer) (r : Result Settled SettleError) (head : Head) 
   -- the peer stands for something after it, unless it broke the rule
   pub reply-reached : IsWaiting size head h.peer
       → IfErr r (λ error. (rule : Rule) (place : ℕ) → error ≡ SettleError.Broken rule place
-      → new.ear.broken ≡ Some (record { rule = rule; place = place; left = 0 })) → IsReached size new
-  reply-reached waiting stopped = of r refl
+      → new.ear.broken ≡ Some (record { rule = rule; place = place; left = 0 }))
+      → ((size : ℕ) (fed : List ℕ) (journal : List Item) (given taken : Marks) (payload : List ℕ) → WaitsIn size fed journal given taken head payload h.peer
+      → OnErr r (Passes size journal (passed Side.Received head payload ∷ journal) given taken new.lives)) → IsReached size new
+  reply-reached waiting stopped passes = of r refl
     where
       of : (o : Result Settled SettleError) → r ≡ o → IsReached size new
       of (Ok settled) at = reached-settled size head h.peer new waiting
@@ -147,6 +174,11 @@ module _ (h : Held) (new : Peer) (r : Result Settled SettleError) (head : Head) 
           record {
             going = λ none w. ∥∥₁_elim waiting (hlevel props) (λ s. absurd (over s.0 s.1 s.2 s.3 s.4 s.5 none));
             waiting = λ other none w. ∥∥₁_elim waiting (hlevel props) (λ s. absurd (over s.0 s.1 s.2 s.3 s.4 s.5 none));
+            stands = ∥∥₁_map {A = (fed : List ℕ) × (journal : List Item) × (given : Marks) × (taken : Marks) × (payload : List ℕ) × WaitsIn size fed journal given taken head payload h.peer}
+                {B = SomeStanding size new.lives} waiting (λ s.
+                let p = subst (λ (o : Result Settled SettleError). OnErr o (Passes size s.1 (passed Side.Received head s.4 ∷ s.1) s.2 s.3 new.lives)) at
+                (passes size s.0 s.1 s.2 s.3 s.4 s.5) in
+                (s.1, passed Side.Received head s.4 ∷ s.1, s.2, p.taken_now, p.live));
           }
 
 -- ---- of a request
@@ -160,6 +192,19 @@ module _ (h : Held) (new : Peer) (r : Result Settled SettleError) (head : Head) 
   request-decided said says by fed journal given taken other payload w request =
       subst (λ (form : Option Form). IfOk r (λ settled. IsSettledBy (decide (standing_of h.role h.offers h.peer) form) form settled))
       (says-whole window fed journal given taken other payload h.peer w said says) by
+
+  pub request-asked : (said : Option Form) → said ≡ message_said h.peer.ear.text.octets
+      → ((fed : List ℕ) (journal : List Item) (given taken : Marks) (payload : List ℕ) → WaitsIn window fed journal given taken head payload h.peer
+      → IfOk r (λ settled. SettlesRequest window fed journal given taken head payload (standing_of h.role h.offers h.peer) said settled
+      h.peer.management.answers new)) → AskedFor r new h
+  request-asked said says by fed journal given taken other payload w request =
+      subst (λ (form : Option Form). IfOk r (λ settled. SettlesRequest window fed journal given taken other payload (standing_of h.role h.offers h.peer) form settled
+      h.peer.management.answers new))
+      (says-whole window fed journal given taken other payload h.peer w said says)
+      (for-head window fed journal given taken other payload h.peer w head is
+      (λ (x : Head). IfOk r (λ settled. SettlesRequest window fed journal given taken x payload (standing_of h.role h.offers h.peer) said settled
+      h.peer.management.answers new))
+      (λ v. by fed journal given taken payload v))
 
   pub request-waits : ((fed : List ℕ) (journal : List Item) (given taken : Marks) (payload : List ℕ) → WaitsIn window fed journal given taken head payload h.peer
       → WaitsIn window fed journal given taken head payload new) → WaitsStill r new h

@@ -1,7 +1,7 @@
 -- What a start, a close and the release leave of a session (RFC 3080, sections 2.3.1.2 and
 -- 2.3.1.3).
 -- Each speaks of every journal for which the session stood: none is kept.
-use Rattle.std.specs.Prelude.{◌≡◌, ℕ, ◌++◌, ◌∷◌, [], nat_lt, min, List, length, map, Option, None}
+use Rattle.std.specs.Prelude.{◌≡◌, ℕ, ◌++◌, ◌∷◌, [], nat_lt, min, List, length, Option, None}
 use Rattle.beep_frame.specs.declared.kind.Kind.{Kind}
 use Rattle.beep_history.specs.Journal.{Item}
 use Rattle.beep_text.specs.declared.limits.TheConstants.{MAX_TEXT}

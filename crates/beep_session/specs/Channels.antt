@@ -44,11 +44,13 @@ pub record IsStill (old new : Held) : Type 0 where
   pub peer : IsUnchanged old.peer new.peer
   pub same : IsOfPeer old new
 
--- a message was given in the life of this number, and nothing else was given or taken
+-- a message was given in the life of this number, and nothing else was given or taken; what is kept
+-- of channel zero stays
 pub record Gives (number : ℕ) (kind : Kind) (octets : List ℕ) (old new : Held) : Type 0 where
   pub gives : (fed rest : List ℕ) (journal : List Item) (given taken : Marks)
       → IsPeer old.limits.window fed rest journal given taken old.peer
       → GivesMessage number old.limits.window fed rest journal given taken kind octets new.peer
+  pub kept : new.peer.management ≡ old.peer.management
   pub same : IsOfPeer old new
 
 -- a close of this number was given to channel zero, and nothing else was given or taken
@@ -64,5 +66,6 @@ pub record Closes (number : ℕ) (old new : Held) : Type 0 where
 pub record Takes (number : ℕ) (part : Part) (octets : List ℕ) (old new : Held) : Type 0 where
   pub takes : (fed rest : List ℕ) (journal : List Item) (given taken : Marks)
       → IsPeer old.limits.window fed rest journal given taken old.peer
-      → TakesMarks number old.limits.window fed rest journal given taken part octets new.peer
+      → TakesMarks number old.limits.window fed rest journal given taken part octets
+      old.peer.management.answers new.peer
   pub same : IsOfPeer old new

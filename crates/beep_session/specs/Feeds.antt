@@ -1,26 +1,16 @@
 -- What a feed makes of the journal for which a peer stands (RFC 3080, sections
 -- 2.2.1 and 2.3.1).
 -- Each speaks of every journal for which the peer stood: none is kept.
-use Rattle.std.specs.Prelude.{◌≡◌, ℕ, ◌==◌, ◌||◌, Bool, true, false, List, [], ◌∷◌, ◌++◌, None, Some}
+use Rattle.std.specs.Prelude.{◌≡◌, ℕ, ◌==◌, false, List, ◌∷◌, ◌++◌}
 use Rattle.std.specs.List.{list_any}
 use Rattle.beep_frame.specs.declared.head.Head.{Head}
-use Rattle.beep_frame.specs.declared.kind.Kind.{Kind}
 use Rattle.beep_history.specs.declared.journal.Side.{Side}
-use Rattle.beep_history.specs.Journal.{Item, began, passed, told}
-use Rattle.beep_journal.specs.Life.{history, is_there, is_released}
-use Rattle.beep_frame.specs.Frame.{framed, seq_frame}
-use Rattle.beep_frame.specs.Spelling.{spelling}
-use Rattle.beep_channel.specs.Held.{Held, Live}
-use Rattle.beep_channel.specs.Stands.{IsNext}
-use Rattle.beep_standing.specs.Standing.{Marks, no_marks, AreLive}
-use Rattle.beep_standing.specs.Due.{has_due, has_ready}
-use Rattle.beep_speaking.specs.declared.emit.Emit.{Emit}
-use Rattle.beep_hearing.specs.Hears.{IsZeroTaken, SameAbove, Join, ends_zero, Breaks}
-use Rattle.beep_management.specs.Managed.{Managed}
-use Rattle.beep_management.specs.Manages.{Manages}
+use Rattle.beep_history.specs.Journal.{Item, passed}
+use Rattle.beep_standing.specs.Standing.{Marks}
+use Rattle.beep_hearing.specs.Hears.{SameAbove, Join, ends_zero, Breaks}
 use Rattle.beep_session.specs.declared.event.Event.{Event}
 use Rattle.beep_peer.specs.declared.peer.Peer.{Peer}
-use Rattle.beep_peer.specs.Peering.{AreFew, Holds, IsPeer, WaitsIn, Carries, is_greeted}
+use Rattle.beep_peer.specs.Peering.{IsPeer, WaitsIn}
 
 -- these octets brought these items, of which none ends a message of channel zero, and the peer
 -- stands for the journal with them

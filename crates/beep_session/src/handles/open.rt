@@ -1,5 +1,5 @@
 //! What a program does with a channel that it holds.
-ghost use Rattle.std.specs.Prelude.{◌≡◌, ◌≢◌, ◌<◌, ◌^◌, [], ℕ, List, length, None, Some, true, false, IfSome, IfNone, IfOk, IfErr, OnOk, OnErr};
+ghost use Rattle.std.specs.Prelude.{◌≡◌, ◌≢◌, ◌<◌, ◌^◌, [], ℕ, List, length, None, Some, is_some, true, false, IfSome, IfNone, IfOk, IfErr, OnOk, OnErr};
 ghost use Rattle.beep_frame.specs.declared.kind.Kind.{Kind as KindValue};
 ghost use Rattle.beep_frame.specs.Frame.{is_msg};
 ghost use Rattle.beep_frame.specs.Modulo.{modulo_2_64};
@@ -7,6 +7,7 @@ ghost use Rattle.beep_history.specs.Journal.{Item};
 ghost use Rattle.beep_mgmt.specs.Message.{message_text};
 ghost use Rattle.beep_channel.specs.declared.ask_error.AskError.{AskError as AskErrorValue};
 ghost use Rattle.beep_channel.specs.Stands.{ends_of};
+ghost use Rattle.beep_inbox.specs.Untaken.{IsTaken};
 ghost use Rattle.beep_lives.specs.Lives.{live_at};
 ghost use Rattle.beep_standing.specs.Standing.{Marks};
 ghost use Rattle.beep_answering.specs.Sent.{closing_of};
@@ -15,7 +16,8 @@ ghost use Rattle.beep_peer.specs.Peering.{IsPeer};
 ghost use Rattle.beep_peer.specs.Waiting.{IsStuck};
 ghost use Rattle.beep_peer.specs.Acts.{close_refusal};
 ghost use Rattle.beep_giving.specs.Giving.{ask_refusal_at};
-ghost use Rattle.beep_giving.specs.Looks.{inbox_of};
+ghost use Rattle.beep_giving.specs.Looks.{owes_of, answers_of, inbox_of};
+ghost use Rattle.beep_session.specs.Lawfully.{KeepsUpright};
 ghost use Rattle.beep_session.specs.Channels.{is_closing, IsStill, Gives, Takes, Closes};
 
 use super::{ClosingChannel, Duty, OpenChannel};
@@ -26,7 +28,7 @@ use beep_peer::CloseError;
 impl<'s> OpenChannel<'s> {
     ghost use Rattle.std.specs.Borrow.{sem, RestsIfNone};
     ghost use Rattle.beep_session.specs.contracts.session.Session.{the_row};
-    ghost use Rattle.beep_session.specs.Lending.{IsSameReference, open_session, open_number, closing_session, closing_number, duty_session, duty_number};
+    ghost use Rattle.beep_session.specs.Lending.{IsSameReference, open_session, open_number, closing_session, closing_number, duty_session, duty_number, has_begun};
 
     /// Asks, and answers the request's position modulo 2^64. The refusals are tried in the order
     /// Closing, TooManyAsked, Full, NoMemory.
@@ -40,6 +42,7 @@ impl<'s> OpenChannel<'s> {
             → IsPeer (open_session self.old).now.limits.window fed rest journal given taken
             (open_session self.old).now.peer → IfOk result (λ position.
             position ≡ modulo_2_64 (ends_of is_msg (given (open_number self.old)))) }
+        ensures upright { KeepsUpright (open_session self.old).now (open_session self.new).now }
 
         ensures accepted { OnOk result (ask_refusal_at (open_session self.old).now.peer
             (open_number self.old) (length octets.now) ≡ None) }
@@ -63,8 +66,13 @@ impl<'s> OpenChannel<'s> {
             × (open_number self.new ≡ open_number self.old) }
         ensures some { IfSome result (λ part. Takes (open_number self.old) part buf.new
             (open_session self.old).now (open_session self.new).now) }
+        ensures upright { KeepsUpright (open_session self.old).now (open_session self.new).now }
         ensures stuck { IfSome result (λ part. IsStuck (open_session self.new).now.peer.lives
             (open_session self.new).now.peer.management) }
+        ensures part { IfSome result (λ part. IsTaken part
+            (inbox_of (live_at (open_number self.old) (open_session self.old).now.peer.lives))
+            (inbox_of (live_at (open_number self.old) (open_session self.new).now.peer.lives))
+            buf.old buf.new) }
         ensures none { IfNone result (inbox_of (live_at (open_number self.old)
             (open_session self.old).now.peer.lives) ≡ []) }
         ensures kept { IfNone result
@@ -87,6 +95,10 @@ impl<'s> OpenChannel<'s> {
         ensures same { IfSome result (λ d.
             ((duty_session d).now ≡ (open_session self.entry).now)
             × (duty_number d ≡ open_number self.entry)) }
+        ensures some { is_some result ≡ owes_of (live_at (open_number self.entry)
+            (open_session self.entry).now.peer.lives) }
+        ensures begun { IfSome result (λ d. has_begun d ≡ is_some (answers_of
+            (live_at (open_number self.entry) (open_session self.entry).now.peer.lives))) }
     {
         let OpenChannel { session, at } = self;
         session.owed(at)
@@ -100,6 +112,7 @@ impl<'s> OpenChannel<'s> {
             × (open_number self.new ≡ open_number self.old) }
         ensures ok { OnOk result (Closes (open_number self.old) (open_session self.old).now
             (open_session self.new).now) }
+        ensures upright { KeepsUpright (open_session self.old).now (open_session self.new).now }
         ensures closing { OnOk result
             (is_closing (open_number self.new) (open_session self.new).now ≡ true) }
 
@@ -118,7 +131,8 @@ impl<'s> OpenChannel<'s> {
     /// The channel as one whose close waits.
     pub fn into_closing(self) -> ClosingChannel<'s>
         requires closing { is_closing (open_number self) (open_session self).now ≡ true }
-        ensures same_reference { IsSameReference (open_session self.entry) (closing_session result) }
+        ensures same_reference { IsSameReference (open_session self.entry)
+            (closing_session result) }
         ensures same { ((closing_session result).now ≡ (open_session self.entry).now)
             × (closing_number result ≡ open_number self.entry) }
     {
@@ -130,19 +144,26 @@ impl<'s> OpenChannel<'s> {
 impl<'s> ClosingChannel<'s> {
     ghost use Rattle.std.specs.Borrow.{sem, RestsIfNone};
     ghost use Rattle.beep_session.specs.contracts.session.Session.{the_row};
-    ghost use Rattle.beep_session.specs.Lending.{closing_session, closing_number, duty_session, duty_number};
+    ghost use Rattle.beep_session.specs.Lending.{closing_session, closing_number, duty_session, duty_number, has_begun};
 
     /// Takes the first octets of the first untaken message, as many as `buf` holds, and its end
     /// where that follows. It takes no memory.
     pub fn take(&mut self, buf: &mut [u8]) -> Option<Part>
         requires some { 0 < length buf.old }
         requires fits { length buf.old < 2 ^ 32 }
-        ensures same { ((closing_session self.new).ghost_name ≡ (closing_session self.old).ghost_name)
+        ensures same { ((closing_session self.new).ghost_name
+            ≡ (closing_session self.old).ghost_name)
             × (closing_number self.new ≡ closing_number self.old) }
         ensures some { IfSome result (λ part. Takes (closing_number self.old) part buf.new
             (closing_session self.old).now (closing_session self.new).now) }
+        ensures upright { KeepsUpright (closing_session self.old).now
+            (closing_session self.new).now }
         ensures stuck { IfSome result (λ part. IsStuck (closing_session self.new).now.peer.lives
             (closing_session self.new).now.peer.management) }
+        ensures part { IfSome result (λ part. IsTaken part
+            (inbox_of (live_at (closing_number self.old) (closing_session self.old).now.peer.lives))
+            (inbox_of (live_at (closing_number self.old) (closing_session self.new).now.peer.lives))
+            buf.old buf.new) }
         ensures none { IfNone result (inbox_of (live_at (closing_number self.old)
             (closing_session self.old).now.peer.lives) ≡ []) }
         ensures kept { IfNone result
@@ -163,6 +184,10 @@ impl<'s> ClosingChannel<'s> {
         ensures same { IfSome result (λ d.
             ((duty_session d).now ≡ (closing_session self.entry).now)
             × (duty_number d ≡ closing_number self.entry)) }
+        ensures some { is_some result ≡ owes_of (live_at (closing_number self.entry)
+            (closing_session self.entry).now.peer.lives) }
+        ensures begun { IfSome result (λ d. has_begun d ≡ is_some (answers_of
+            (live_at (closing_number self.entry) (closing_session self.entry).now.peer.lives))) }
     {
         let ClosingChannel { session, at } = self;
         session.owed(at)

@@ -4,6 +4,7 @@ ghost use Rattle.beep_frame.specs.declared.kind.Kind.{Kind as KindValue};
 ghost use Rattle.beep_outbox.specs.declared.give_error.GiveError.{GiveError as GiveErrorValue};
 ghost use Rattle.beep_lives.specs.Lives.{live_at};
 ghost use Rattle.beep_giving.specs.Giving.{reply_refusal_at};
+ghost use Rattle.beep_session.specs.Lawfully.{KeepsUpright};
 ghost use Rattle.beep_session.specs.Channels.{IsStill, Gives};
 
 use super::{Answering, Owed};
@@ -22,12 +23,15 @@ impl<'c> Owed<'c> {
         ensures* rests { sem 𝓛 (RestsIfOk the_row (owed_session self.entry)
             (λ e. (owed_session e.0).ghost_name) result
             (λ now. Gives (owed_number self.entry) KindValue.Rpy octets.now
-            (owed_session self.entry).now now)) }
+            (owed_session self.entry).now now
+            × KeepsUpright (owed_session self.entry).now now)) }
         ensures same_reference { IfErr result (λ e.
             (owed_session e.0).ghost_name ≡ (owed_session self.entry).ghost_name) }
         ensures same { IfErr result (λ e.
             IsStill (owed_session self.entry).now (owed_session e.0).now
             × (owed_number e.0 ≡ owed_number self.entry)) }
+        ensures upright { IfErr result (λ e.
+            KeepsUpright (owed_session self.entry).now (owed_session e.0).now) }
         ensures refused { IfErr result (λ e. e.1 ≢ GiveErrorValue.NoMemory
             → reply_refusal_at (live_at (owed_number self.entry)
             (owed_session self.entry).now.peer.lives) (length octets.now) ≡ Some e.1) }
@@ -45,12 +49,15 @@ impl<'c> Owed<'c> {
         ensures* rests { sem 𝓛 (RestsIfOk the_row (owed_session self.entry)
             (λ e. (owed_session e.0).ghost_name) result
             (λ now. Gives (owed_number self.entry) KindValue.Err octets.now
-            (owed_session self.entry).now now)) }
+            (owed_session self.entry).now now
+            × KeepsUpright (owed_session self.entry).now now)) }
         ensures same_reference { IfErr result (λ e.
             (owed_session e.0).ghost_name ≡ (owed_session self.entry).ghost_name) }
         ensures same { IfErr result (λ e.
             IsStill (owed_session self.entry).now (owed_session e.0).now
             × (owed_number e.0 ≡ owed_number self.entry)) }
+        ensures upright { IfErr result (λ e.
+            KeepsUpright (owed_session self.entry).now (owed_session e.0).now) }
         ensures refused { IfErr result (λ e. e.1 ≢ GiveErrorValue.NoMemory
             → reply_refusal_at (live_at (owed_number self.entry)
             (owed_session self.entry).now.peer.lives) (length octets.now) ≡ Some e.1) }
@@ -64,7 +71,8 @@ impl<'c> Owed<'c> {
 
     /// Replies with many answers. It takes no memory.
     pub fn answers(self) -> Answering<'c>
-        ensures same_reference { IsSameReference (owed_session self.entry) (answering_session result) }
+        ensures same_reference { IsSameReference (owed_session self.entry)
+            (answering_session result) }
         ensures same { ((answering_session result).now ≡ (owed_session self.entry).now)
             × (answering_number result ≡ owed_number self.entry) }
     {
@@ -82,10 +90,13 @@ impl<'c> Answering<'c> {
     /// Gives one answer, and answers its number, counted from 0 in each reply, modulo 2^31.
     pub fn answer(&mut self, octets: &[u8]) -> Result<u32, GiveError>
         requires some { 0 < length octets.now }
-        ensures same { ((answering_session self.new).ghost_name ≡ (answering_session self.old).ghost_name)
+        ensures same { ((answering_session self.new).ghost_name
+            ≡ (answering_session self.old).ghost_name)
             × (answering_number self.new ≡ answering_number self.old) }
         ensures ok { OnOk result (Gives (answering_number self.old) KindValue.Ans octets.now
             (answering_session self.old).now (answering_session self.new).now) }
+        ensures upright { KeepsUpright (answering_session self.old).now
+            (answering_session self.new).now }
         ensures value { IfOk result (λ number. number ≡ next_answer
             (answering_number self.old) (answering_session self.old).now) }
         ensures refused { IfErr result (λ error. error ≢ GiveErrorValue.NoMemory
@@ -107,12 +118,15 @@ impl<'c> Answering<'c> {
         ensures* rests { sem 𝓛 (RestsIfOk the_row (answering_session self.entry)
             (λ e. (answering_session e.0).ghost_name) result
             (λ now. Gives (answering_number self.entry) KindValue.Nul []
-            (answering_session self.entry).now now)) }
+            (answering_session self.entry).now now
+            × KeepsUpright (answering_session self.entry).now now)) }
         ensures same_reference { IfErr result (λ e.
             (answering_session e.0).ghost_name ≡ (answering_session self.entry).ghost_name) }
         ensures same { IfErr result (λ e.
             IsStill (answering_session self.entry).now (answering_session e.0).now
             × (answering_number e.0 ≡ answering_number self.entry)) }
+        ensures upright { IfErr result (λ e.
+            KeepsUpright (answering_session self.entry).now (answering_session e.0).now) }
     {
         let Answering { session, at } = self;
         match session.give_reply(at, Kind::Nul, &[]) {

@@ -17,6 +17,8 @@ ghost use Rattle.beep_answering.specs.Sent.{IsMessage, closing_of};
 ghost use Rattle.beep_peer.specs.declared.refusals.StartError.{StartError as StartErrorValue};
 ghost use Rattle.beep_peer.specs.declared.refusals.ReleaseError.{ReleaseError as ReleaseErrorValue};
 ghost use Rattle.beep_peer.specs.declared.refusals.CloseError.{CloseError as CloseErrorValue};
+ghost use Rattle.beep_upright.specs.Upright.{IsUpright};
+ghost use Rattle.beep_peer.specs.Asking.{MayAsk, MayCloseWhere};
 ghost use Rattle.beep_peer.specs.Acts.{asked_of, count_used, release_refusal, close_refusal, KeepsRequest, IsUnchanged};
 ghost use Rattle.beep_session.specs.Acts.{AsksZero, start_text, refusal_of_start};
 
@@ -31,6 +33,7 @@ use beep_text::MAX_TEXT;
 
 impl Session {
     ghost use Rattle.beep_peer.specs.Peering.{IsPeer, is_over, zero_waits};
+    ghost use Rattle.beep_session.specs.Lawfully.{KeepsUpright, terms_of};
     ghost use Rattle.beep_session.specs.Channels.{IsOpen, is_closing, IsStill, Closes};
 
     /// Asks the peer to start a channel of this number with one of these profiles.
@@ -45,6 +48,7 @@ impl Session {
             → IsPeer self.old.limits.window fed rest journal given taken self.old.peer
             → OnOk result (AsksZero self.old.limits.window fed rest journal given taken
             (start_text number (map plain_profile profiles.now)) self.new.peer) }
+        ensures upright { KeepsUpright self.old self.new }
 
         ensures accepted { OnOk result (refusal_of_start self.old.peer number
             (map plain_profile profiles.now) ≡ None) }
@@ -83,6 +87,7 @@ impl Session {
             → IsPeer self.old.limits.window fed rest journal given taken self.old.peer
             → OnOk result (AsksZero self.old.limits.window fed rest journal given taken
             (message_text (closing_of 0)) self.new.peer) }
+        ensures upright { KeepsUpright self.old self.new }
 
         ensures accepted { OnOk result (release_refusal self.old.peer ≡ None) }
         ensures refused { IfErr result (λ error. error ≢ ReleaseErrorValue.NoMemory
@@ -103,6 +108,7 @@ impl Session {
     pub(crate) fn close(&mut self, n: u32) -> Result<(), CloseError>
         requires open { IsOpen n self.old }
         ensures ok { OnOk result (Closes n self.old self.new) }
+        ensures upright { KeepsUpright self.old self.new }
         ensures closing { OnOk result (is_closing n self.new ≡ true) }
 
         ensures accepted { OnOk result (close_refusal self.old.peer n ≡ None) }
@@ -129,6 +135,12 @@ impl Session {
             → IsPeer self.old.limits.window fed rest journal given taken self.old.peer
             → OnOk result (AsksZero self.old.limits.window fed rest journal given taken
             (message_text (closing_of n)) self.new.peer) }
+        ensures upright { (fed rest : List ℕ) (journal : List Item) (given taken : Marks)
+            → IsPeer self.old.limits.window fed rest journal given taken self.old.peer
+            → IsUpright (terms_of self.old) journal self.old.peer.lives self.old.peer.management
+            → MayCloseWhere (n == 0) self.old.peer n (not (n == 0))
+            → IsUpright (terms_of self.old) journal self.new.peer.lives
+            self.new.peer.management }
         ensures kept { OnOk result (KeepsRequest
             (record { said = Some (closing_of n); implied = false; names = not (n == 0) })
             [] self.old.peer.management self.new.peer.management) }
@@ -162,6 +174,12 @@ impl Session {
             → IsPeer self.old.limits.window fed rest journal given taken self.old.peer
             → OnOk result (AsksZero self.old.limits.window fed rest journal given taken
             text.now.octets self.new.peer) }
+        ensures upright { (fed rest : List ℕ) (journal : List Item) (given taken : Marks)
+            → IsPeer self.old.limits.window fed rest journal given taken self.old.peer
+            → IsUpright (terms_of self.old) journal self.old.peer.lives self.old.peer.management
+            → MayAsk self.old.role self.old.peer names (Some (form_of value))
+            → IsUpright (terms_of self.old) journal self.new.peer.lives
+            self.new.peer.management }
         ensures kept { OnOk result (KeepsRequest
             (record { said = Some (form_of value); implied = false; names = names })
             (option_to_list channel) self.old.peer.management self.new.peer.management) }

@@ -1,5 +1,5 @@
 //! What a program gives and takes on a live channel (RFC 3080, section 2.1).
-ghost use Rattle.std.specs.Prelude.{◌≡◌, ◌≢◌, ◌<◌, ◌^◌, [], ℕ, List, length, None, Some, true, is_some, IfSome, IfNone, IfOk, IfErr, OnOk, OnErr};
+ghost use Rattle.std.specs.Prelude.{◌≡◌, ◌≢◌, ◌<◌, ◌^◌, [], ℕ, List, length, None, Some, true, false, is_some, IfSome, IfNone, IfOk, IfErr, OnOk, OnErr};
 ghost use Rattle.beep_frame.specs.declared.kind.Kind.{Kind as KindValue};
 ghost use Rattle.beep_frame.specs.Frame.{is_msg, is_ans, is_reply};
 ghost use Rattle.beep_frame.specs.Modulo.{modulo_2_64};
@@ -8,10 +8,12 @@ ghost use Rattle.beep_outbox.specs.declared.give_error.GiveError.{GiveError as G
 ghost use Rattle.beep_channel.specs.declared.ask_error.AskError.{AskError as AskErrorValue};
 ghost use Rattle.beep_channel.specs.Fits.{may_follow, is_shaped};
 ghost use Rattle.beep_channel.specs.Stands.{ends_of};
+ghost use Rattle.beep_inbox.specs.Untaken.{IsTaken};
 ghost use Rattle.beep_lives.specs.Lives.{live_at};
 ghost use Rattle.beep_standing.specs.Standing.{Marks};
 ghost use Rattle.beep_peer.specs.Peering.{IsPeer};
 ghost use Rattle.beep_peer.specs.Waiting.{IsStuck};
+ghost use Rattle.beep_upright.specs.Upright.{IsUpright};
 ghost use Rattle.beep_giving.specs.Giving.{ask_refusal_at, reply_refusal_at};
 ghost use Rattle.beep_giving.specs.Looks.{owes_of, answers_of, inbox_of};
 
@@ -22,6 +24,7 @@ use beep_inbox::Part;
 use beep_outbox::GiveError;
 
 impl Session {
+    ghost use Rattle.beep_session.specs.Lawfully.{KeepsUpright, terms_of};
     ghost use Rattle.beep_session.specs.Channels.{IsOpen, is_closing, next_answer, IsStill, Gives, Takes};
 
     /// Whether an own close of the live life of this number waits.
@@ -65,6 +68,12 @@ impl Session {
         ensures value { (fed rest : List ℕ) (journal : List Item) (given taken : Marks)
             → IsPeer self.old.limits.window fed rest journal given taken self.old.peer
             → IfOk result (λ position. position ≡ modulo_2_64 (ends_of is_msg (given n))) }
+        ensures upright { (fed rest : List ℕ) (journal : List Item) (given taken : Marks)
+            → is_closing n self.old ≡ false
+            → IsPeer self.old.limits.window fed rest journal given taken self.old.peer
+            → IsUpright (terms_of self.old) journal self.old.peer.lives self.old.peer.management
+            → IsUpright (terms_of self.old) journal self.new.peer.lives
+            self.new.peer.management }
 
         ensures accepted { OnOk result
             (ask_refusal_at self.old.peer n (length octets.now) ≡ None) }
@@ -86,6 +95,7 @@ impl Session {
             → may_follow (Some KindValue.Ans) kind ≡ true }
         requires shaped { is_shaped kind octets.now ≡ true }
         ensures ok { OnOk result (Gives n kind octets.now self.old self.new) }
+        ensures upright { KeepsUpright self.old self.new }
 
         // An answer leaves its request owed.
         ensures owes { is_ans kind ≡ true
@@ -113,8 +123,11 @@ impl Session {
         requires some { 0 < length buf.old }
         requires fits { length buf.old < 2 ^ 32 }
         ensures some { IfSome result (λ part. Takes n part buf.new self.old self.new) }
+        ensures upright { KeepsUpright self.old self.new }
         ensures stuck { IfSome result (λ part.
             IsStuck self.new.peer.lives self.new.peer.management) }
+        ensures part { IfSome result (λ part. IsTaken part (inbox_of (live_at n self.old.peer.lives))
+            (inbox_of (live_at n self.new.peer.lives)) buf.old buf.new) }
         ensures none { IfNone result (inbox_of (live_at n self.old.peer.lives) ≡ []) }
         ensures kept { IfNone result (self.new ≡ self.old) }
         ensures buffer { IfNone result (buf.new ≡ buf.old) }

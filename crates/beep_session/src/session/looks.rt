@@ -1,11 +1,13 @@
 //! What a session tells of itself.
-ghost use Rattle.std.specs.Prelude.{◌≡◌, ◌↔◌, ◌==◌, ◌&&◌, ◌||◌, not, true, false, ℕ, List, length, is_some};
+ghost use Rattle.std.specs.Prelude.{◌≡◌, ◌↔◌, ◌==◌, ◌&&◌, ◌||◌, not, ◌+◌, ◌<◌, true, false, ℕ, List, length, IfSome, is_some, slice_get};
 ghost use Rattle.std.specs.List.{list_any};
+ghost use Rattle.beep_frame.specs.declared.head.Head.{Head as HeadValue};
 ghost use Rattle.beep_frame.specs.Modulo.{modulo_2_64};
 ghost use Rattle.beep_history.specs.Journal.{Item};
 ghost use Rattle.beep_standing.specs.Standing.{Marks};
 ghost use Rattle.beep_decide.specs.Numbers.{may_start};
-ghost use Rattle.beep_lives.specs.Lives.{live_at, can_send, owes_seq};
+ghost use Rattle.beep_lives.specs.Lives.{live_at, can_send, owes_seq, numbers};
+ghost use Rattle.beep_peer.specs.Standing.{rest_of, live_above};
 ghost use Rattle.beep_session.specs.Looks.{IsTakenAt};
 
 use super::Session;
@@ -13,7 +15,8 @@ use beep_decide::may_start;
 use beep_lives::Lives;
 
 impl Session {
-    ghost use Rattle.beep_peer.specs.Peering.{IsPeer, is_over, is_greeted, zero_waits};
+    ghost use Rattle.beep_peer.specs.Peering.{IsPeer, WaitsIn, is_over, is_greeted, zero_waits};
+    ghost use Rattle.beep_session.specs.Bounded.{text_held, IsBounded, IsWholeBounded};
 
     /// Whether a whole message of channel zero has arrived and isn't settled.
     pub fn zero_waits(&self) -> bool
@@ -40,11 +43,16 @@ impl Session {
         !are_taken(&self.peer.lives)
     }
 
-    /// The octets used since the last whole frame or SEQ, modulo 2^64.
+    /// The octets used since the last whole frame or SEQ, modulo 2^64; none while a message of
+    /// channel zero waits, and after a broken rule those up to its octet.
     pub fn left(&self) -> u64
         ensures stands { (fed rest : List ℕ) (journal : List Item) (given taken : Marks)
             → IsPeer self.now.limits.window fed rest journal given taken self.now.peer
             → result ≡ modulo_2_64 (length rest) }
+        ensures waiting { (fed : List ℕ) (journal : List Item) (given taken : Marks)
+            (head : HeadValue) (payload : List ℕ) → WaitsIn self.now.limits.window fed journal
+            given taken head payload self.now.peer → result ≡ 0 }
+        ensures broken { IfSome self.now.peer.ear.broken (λ stopped. result ≡ stopped.left) }
     {
         self.peer.ear.left()
     }
@@ -54,8 +62,28 @@ impl Session {
         ensures stands { (fed rest : List ℕ) (journal : List Item) (given taken : Marks)
             → IsPeer self.now.limits.window fed rest journal given taken self.now.peer
             → result ≡ (length rest == 0) }
+        ensures waiting { (fed : List ℕ) (journal : List Item) (given taken : Marks)
+            (head : HeadValue) (payload : List ℕ) → WaitsIn self.now.limits.window fed journal
+            given taken head payload self.now.peer → result ≡ true }
+        ensures broken { IfSome self.now.peer.ear.broken
+            (λ stopped. result ≡ (stopped.left == 0)) }
     {
         self.peer.ear.between_frames()
+    }
+
+    /// How many octets are kept of the message of channel zero that is under way, or waits. It and
+    /// what else is held of what arrived is bounded.
+    pub fn zero_octets(&self) -> usize
+        ensures value { result ≡ text_held self.now.peer.ear }
+        ensures bounded { IsBounded self.now }
+        ensures stands { (fed rest : List ℕ) (journal : List Item) (given taken : Marks)
+            → IsPeer self.now.limits.window fed rest journal given taken self.now.peer
+            → IsWholeBounded self.now }
+        ensures waiting { (fed : List ℕ) (journal : List Item) (given taken : Marks)
+            (head : HeadValue) (payload : List ℕ) → WaitsIn self.now.limits.window fed journal
+            given taken head payload self.now.peer → IsWholeBounded self.now }
+    {
+        self.peer.ear.text().len()
     }
 
     /// Whether a rule was broken, or the session is released.
@@ -78,6 +106,24 @@ impl Session {
         ensures { result ≡ (not (n == 0) && is_some (live_at n self.now.peer.lives)) }
     {
         n != 0 && self.peer.lives.is_live(n)
+    }
+
+    /// The number of the live channel above zero at a place, counted from 0. The numbers ascend.
+    pub fn number_at(&self, i: usize) -> Option<u32>
+        ensures { result ≡ slice_get (live_above self.now.peer) i }
+    {
+        number_after_zero(&self.peer.lives, i)
+    }
+}
+
+/// The number at a place among those of the channels after the first.
+fn number_after_zero(lives: &Lives, i: usize) -> Option<u32>
+    ensures { result ≡ slice_get (rest_of (numbers lives.now)) i }
+{
+    if i < lives.len() {
+        lives.place(i + 1)
+    } else {
+        None
     }
 }
 

@@ -6,12 +6,13 @@ mod rows;
 mod world;
 
 use super::Session;
-use crate::limits::Limits;
+use crate::limits::{Limits, MAX_PIECE};
 use crate::listing::is_uri;
 use beep_answering::{Offers, Settled};
 use beep_chars::Text;
 use beep_decide::Offer;
 use beep_journal::Role;
+use beep_seq::{MAX_WINDOW, MIN_WINDOW};
 use std::alloc::Global;
 use std::test::Fail;
 
@@ -27,13 +28,24 @@ const LIMITS: Limits = Limits {
 const ROOM: usize = 8192;
 
 fn a_peer(alloc: Global, role: Role) -> Result<Session, Fail> {
+    a_peer_within(alloc, role, LIMITS)
+}
+
+/// An end with these limits, which offers one profile.
+fn a_peer_within(alloc: Global, role: Role, limits: Limits) -> Result<Session, Fail> {
+    if limits.window < MIN_WINDOW || MAX_WINDOW < limits.window {
+        return Err("no window".into());
+    }
+    if limits.piece == 0 || MAX_PIECE < limits.piece {
+        return Err("no piece".into());
+    }
     let uri = Text::of(alloc, URI)?;
     if !is_uri(&uri) {
         return Err("no URI".into());
     }
     let mut offers = Offers::new(alloc);
     offers.push(Offer { uri, tuning: false })?;
-    let session = Session::new(alloc, role, offers, LIMITS)?;
+    let session = Session::new(alloc, role, offers, limits)?;
     Ok(session)
 }
 

@@ -1,5 +1,5 @@
 -- A profile without content is read as it was written.
-use Rattle.std.proofs.Common.{◌≡◌, true, refl}
+use Rattle.std.proofs.Common.{true, refl}
 use Rattle.beep_chars.proofs.BoolLemmas.{both}
 use Rattle.beep_answering.proofs.LengthLemmas.{plain-back}
 use Rattle.beep_session.proofs.listing.one_profile.Goals as goal

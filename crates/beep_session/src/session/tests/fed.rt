@@ -1,9 +1,10 @@
 //! A listener that is fed by hand: scripts of what it hears and what it says then, by the table of
 //! decisions on channel zero (docs/FORMATS.md) and RFC 3080, sections 2.2.1 and 2.3.1.
 
-use super::{ROOM, Session, a_peer, shown};
+use super::world::{End, number_in};
+use super::{LIMITS, ROOM, Session, URI, a_peer_within, shown};
 use crate::event::Event;
-use crate::limits::MAX_PIECE;
+use crate::limits::{Limits, MAX_PIECE};
 use beep_journal::Role;
 use beep_octets::Octets;
 use beep_speaking::Emit;
@@ -11,46 +12,171 @@ use std::alloc::Global;
 use std::process::Abort;
 use std::test::Fail;
 
-/// `hear HEADER <ELEMENT` hears one frame with a message of channel zero, `frame HEADER PAYLOAD`
-/// one with this payload, `seq SEQ` one SEQ; `say HEADER` is what goes out next. In brackets
-/// stands as what a message was settled, or how hearing it ends.
-static SCRIPTS: [&str; 9] = [
+/// A listener with this window, and what it hears and says: `hear HEADER <ELEMENT` hears one frame
+/// with a message of channel zero, `starts HEADER NUMBER` one with the start of a channel, `frame
+/// HEADER PAYLOAD` one with this payload, `seq SEQ` one SEQ, `head HEADER` a header and `rest
+/// PAYLOAD` what follows it; `start`, `close`, `ask` and `release` are its own acts; `say HEADER` is
+/// what goes out next. In brackets stands as what a message was settled, how hearing it ends, or
+/// what an act is answered.
+struct Script(u32, &'static str);
+
+static SCRIPTS: [Script; 23] = [
     // The close comes before the life begins: it names none.
-    "hear MSG 0 1 . 52 108 <start number='1'><profile uri='http://beep.example/pair' /></start>\n\
-     [peer starts]\n\
-     hear MSG 0 2 . 160 71 <close number='1' code='200' />\n[peer refused]\n\
-     say RPY 0 1 . 103 82\nsay ERR 0 2 . 185 92\nsay nothing",
+    Script(
+        4096,
+        "hear RPY 0 0 . 0 52 <greeting />\n[greeted]\nstarts MSG 0 1 . 52 108 1\n[peer starts]\n\
+         hear MSG 0 2 . 160 71 <close number='1' code='200' />\n[peer refused]\n\
+         say RPY 0 1 . 103 82\nsay ERR 0 2 . 185 92\nsay nothing",
+    ),
     // The `ok` to a close of 0 follows the answer to the start right away.
-    "hear MSG 0 1 . 52 108 <start number='1'><profile uri='http://beep.example/pair' /></start>\n\
-     [peer starts]\n\
-     hear MSG 0 2 . 160 71 <close number='0' code='200' />\n[peer closes]\n\
-     say RPY 0 1 . 103 82\nsay RPY 0 2 . 185 46\nsay nothing",
+    Script(
+        4096,
+        "hear RPY 0 0 . 0 52 <greeting />\n[greeted]\nstarts MSG 0 1 . 52 108 1\n[peer starts]\n\
+         hear MSG 0 2 . 160 71 <close number='0' code='200' />\n[peer closes]\n\
+         say RPY 0 1 . 103 82\nsay RPY 0 2 . 185 46\nsay nothing",
+    ),
     // Until the `ok` has gone the number is live.
-    "hear MSG 0 1 . 52 108 <start number='1'><profile uri='http://beep.example/pair' /></start>\n\
-     [peer starts]\nsay RPY 0 1 . 103 82\n\
-     hear MSG 0 2 . 160 71 <close number='1' code='200' />\n[peer closes]\n\
-     hear MSG 0 3 . 231 108 <start number='1'><profile uri='http://beep.example/pair' /></start>\n\
-     [peer refused]\nsay RPY 0 2 . 185 46\nsay ERR 0 3 . 231 92\nsay nothing",
+    Script(
+        4096,
+        "hear RPY 0 0 . 0 52 <greeting />\n[greeted]\nstarts MSG 0 1 . 52 108 1\n[peer starts]\n\
+         say RPY 0 1 . 103 82\nhear MSG 0 2 . 160 71 <close number='1' code='200' />\n\
+         [peer closes]\nstarts MSG 0 3 . 231 108 1\n[peer refused]\nsay RPY 0 2 . 185 46\n\
+         say ERR 0 3 . 231 92\nsay nothing",
+    ),
     // A second close of the life, and one of no life.
-    "hear MSG 0 1 . 52 108 <start number='1'><profile uri='http://beep.example/pair' /></start>\n\
-     [peer starts]\nsay RPY 0 1 . 103 82\nframe MSG 1 0 . 0 2 hi\n[arrived]\n\
-     hear MSG 0 2 . 160 71 <close number='1' code='200' />\n[peer closes]\n\
-     hear MSG 0 3 . 231 71 <close number='1' code='200' />\n[peer refused]\n\
-     hear MSG 0 4 . 302 71 <close number='3' code='200' />\n[peer refused]\nsay nothing",
+    Script(
+        4096,
+        "hear RPY 0 0 . 0 52 <greeting />\n[greeted]\nstarts MSG 0 1 . 52 108 1\n[peer starts]\n\
+         say RPY 0 1 . 103 82\nframe MSG 1 0 . 0 2 hi\n[arrived]\n\
+         hear MSG 0 2 . 160 71 <close number='1' code='200' />\n[peer closes]\n\
+         hear MSG 0 3 . 231 71 <close number='1' code='200' />\n[peer refused]\n\
+         hear MSG 0 4 . 302 71 <close number='3' code='200' />\n[peer refused]\nsay nothing",
+    ),
     // A start after a close of 0, before its parity is looked at.
-    "hear MSG 0 1 . 52 108 <start number='1'><profile uri='http://beep.example/pair' /></start>\n\
-     [peer starts]\nsay RPY 0 1 . 103 82\nframe MSG 1 0 . 0 2 hi\n[arrived]\n\
-     hear MSG 0 2 . 160 71 <close number='0' code='200' />\n[peer closes]\n\
-     hear MSG 0 3 . 231 108 <start number='2'><profile uri='http://beep.example/pair' /></start>\n\
-     [peer refused]\nsay nothing",
+    Script(
+        4096,
+        "hear RPY 0 0 . 0 52 <greeting />\n[greeted]\nstarts MSG 0 1 . 52 108 1\n[peer starts]\n\
+         say RPY 0 1 . 103 82\nframe MSG 1 0 . 0 2 hi\n[arrived]\n\
+         hear MSG 0 2 . 160 71 <close number='0' code='200' />\n[peer closes]\n\
+         starts MSG 0 3 . 231 108 2\n[peer refused]\nsay nothing",
+    ),
     // An ANS on channel zero, before its content is looked at: no request was asked.
-    "hear ANS 0 1 . 52 46 0 <ok />\n[broken]",
+    Script(
+        4096,
+        "hear RPY 0 0 . 0 52 <greeting />\n[greeted]\nhear ANS 0 1 . 52 46 0 <ok />\n[broken]",
+    ),
     // A reply to the greeting's request again.
-    "hear RPY 0 0 . 52 52 <greeting />\n[broken]",
+    Script(
+        4096,
+        "hear RPY 0 0 . 0 52 <greeting />\n[greeted]\nhear RPY 0 0 . 52 52 <greeting />\n\
+         [broken]",
+    ),
     // A SEQ to a channel that isn't live is ignored, and a frame is not.
-    "seq SEQ 3 9 4096\n[more]\nframe MSG 3 0 . 0 2 hi\n[broken]",
+    Script(
+        4096,
+        "hear RPY 0 0 . 0 52 <greeting />\n[greeted]\nseq SEQ 3 9 4096\n[more]\n\
+         frame MSG 3 0 . 0 2 hi\n[broken]",
+    ),
     // A SEQ acknowledges what wasn't sent.
-    "seq SEQ 0 104 4096\n[broken]",
+    Script(
+        4096,
+        "hear RPY 0 0 . 0 52 <greeting />\n[greeted]\nseq SEQ 0 104 4096\n[broken]",
+    ),
+    // An ERR in place of a greeting: the session goes on.
+    Script(
+        4096,
+        "hear ERR 0 0 . 0 60 <error code='421' />\n[denied]\nstart 2\n[ok]\n\
+         say MSG 0 1 . 103 108\nsay nothing",
+    ),
+    // A SEQ before the greeting is obeyed, and judged.
+    Script(
+        4096,
+        "seq SEQ 0 103 8192\n[more]\nhear RPY 0 0 . 0 52 <greeting />\n[greeted]\nsay nothing",
+    ),
+    // It acknowledges what wasn't sent.
+    Script(4096, "seq SEQ 0 104 4096\n[broken]\nsay nothing"),
+    // A number whose start was refused is free at once.
+    Script(
+        4096,
+        "hear RPY 0 0 . 0 52 <greeting />\n[greeted]\n\
+         hear MSG 0 1 . 52 108 <start number='1'><profile uri='http://iana.org/beep/TLS' \
+         /></start>\n\
+         [peer refused]\nstarts MSG 0 2 . 160 108 1\n[peer starts]\nsay ERR 0 1 . 103 92\n\
+         say RPY 0 2 . 195 82\nsay nothing",
+    ),
+    // An own number is free once its start is refused.
+    Script(
+        4096,
+        "hear RPY 0 0 . 0 52 <greeting />\n[greeted]\nstart 2\n[ok]\nstart 2\n[NumberTaken]\n\
+         say MSG 0 1 . 103 108\nhear ERR 0 1 . 52 60 <error code='550' />\n[not begun]\n\
+         start 2\n[ok]\nsay MSG 0 2 . 211 108",
+    ),
+    // A start behind an `ok` that waits is decided as it comes: its number is starting.
+    Script(
+        4096,
+        "hear RPY 0 0 . 0 52 <greeting />\n[greeted]\nstarts MSG 0 1 . 52 108 1\n[peer starts]\n\
+         say RPY 0 1 . 103 82\nframe MSG 1 0 . 0 2 hi\n[arrived]\n\
+         hear MSG 0 2 . 160 71 <close number='1' code='200' />\n[peer closes]\n\
+         starts MSG 0 3 . 231 108 3\n[peer starts]\nstarts MSG 0 4 . 339 108 3\n[peer refused]\n\
+         say nothing",
+    ),
+    // A profile that wasn't listed.
+    Script(
+        4096,
+        "hear RPY 0 0 . 0 52 <greeting />\n[greeted]\nstart 2\n[ok]\nsay MSG 0 1 . 103 108\n\
+         hear RPY 0 1 . 52 82 <profile uri='http://iana.org/beep/TLS' />\n[broken]\nsay nothing",
+    ),
+    // A reply that can't be read.
+    Script(
+        4096,
+        "hear RPY 0 0 . 0 52 <greeting />\n[greeted]\nstart 2\n[ok]\nsay MSG 0 1 . 103 108\n\
+         hear RPY 0 1 . 52 48 <profile\n[broken]\nsay nothing",
+    ),
+    // A profile in answer to a close.
+    Script(
+        4096,
+        "hear RPY 0 0 . 0 52 <greeting />\n[greeted]\nstarts MSG 0 1 . 52 108 1\n[peer starts]\n\
+         say RPY 0 1 . 103 82\nclose 1\n[ok]\nsay MSG 0 1 . 185 71\n\
+         hear RPY 0 1 . 160 82 <profile uri='http://beep.example/pair' />\n[broken]\nsay nothing",
+    ),
+    // A frame that begins in a life and ends after it arrives; the next one has no channel.
+    Script(
+        4096,
+        "hear RPY 0 0 . 0 52 <greeting />\n[greeted]\nstarts MSG 0 1 . 52 108 1\n[peer starts]\n\
+         say RPY 0 1 . 103 82\nhear MSG 0 2 . 160 71 <close number='1' code='200' />\n\
+         [peer closes]\nhead MSG 1 0 . 0 2\n[more]\nsay RPY 0 2 . 185 46\nrest hi\n[arrived]\n\
+         ask 1 2\n[NoChannel]\nframe MSG 1 1 . 2 2 hi\n[broken]",
+    ),
+    // Numbers that no end may start.
+    Script(
+        4096,
+        "hear RPY 0 0 . 0 52 <greeting />\n[greeted]\nstarts MSG 0 1 . 52 108 0\n\
+         [peer refused]\nstarts MSG 0 2 . 160 117 2147483648\n[peer refused]\n\
+         say ERR 0 1 . 103 83\nsay ERR 0 2 . 186 83\nsay nothing",
+    ),
+    // After the release nothing is heard, said or started.
+    Script(
+        4096,
+        "hear RPY 0 0 . 0 52 <greeting />\n[greeted]\n\
+         hear MSG 0 1 . 52 71 <close number='0' code='200' />\n[peer closes]\n\
+         say RPY 0 1 . 103 46\nseq SEQ 0 149 4096\n[released]\nsay nothing\nstart 2\n[Ended]\n\
+         release\n[Ended]",
+    ),
+    // Nor is anything said after a broken rule, whatever was to be said.
+    Script(
+        4096,
+        "hear RPY 0 0 . 0 52 <greeting />\n[greeted]\nstarts MSG 0 1 . 52 108 1\n[peer starts]\n\
+         frame MSG 5 0 . 0 2 hi\n[broken]\nsay nothing\nstart 2\n[Ended]",
+    ),
+    // A window of 8,192 octets is advertised at once, in each life; a SEQ that came before the
+    // life is ignored in it.
+    Script(
+        8192,
+        "say SEQ 0 0 8192\nhear RPY 0 0 . 0 52 <greeting />\n[greeted]\nseq SEQ 1 0 9000\n\
+         [more]\nstarts MSG 0 1 . 52 108 1\n[peer starts]\nsay RPY 0 1 . 103 82\n\
+         say SEQ 1 0 8192\nsay nothing\nask 1 5000\n[ok 0]\nsay MSG 1 0 * 0 4096\nsay nothing\n\
+         seq SEQ 1 0 9000\n[more]\nsay MSG 1 0 . 4096 904",
+    ),
 ];
 
 const MIME: &str = "Content-Type: application/beep+xml\r\n\r\n";
@@ -75,17 +201,48 @@ fn heard(alloc: Global, line: &str, octets: &mut Octets) -> Result<bool, Fail> {
         put_frame(octets, header, "", payload, "")?;
         return Ok(true);
     }
-    if let Some(message) = after(line, "hear ") {
-        let Some((header, element)) = message.split_once(" <") else {
-            return Err("no element".into());
-        };
-        let mut whole = String::new(alloc);
-        whole.push_str("<")?;
-        whole.push_str(element)?;
-        put_frame(octets, header, MIME, whole.as_str(), "\r\n")?;
+    if let Some(header) = after(line, "head ") {
+        octets.extend(header.as_bytes())?;
+        octets.extend(b"\r\n")?;
         return Ok(true);
     }
-    Ok(false)
+    if let Some(payload) = after(line, "rest ") {
+        octets.extend(payload.as_bytes())?;
+        octets.extend(b"END\r\n")?;
+        return Ok(true);
+    }
+    heard_message(alloc, line, octets)
+}
+
+/// The same of a frame with a message of channel zero.
+fn heard_message(alloc: Global, line: &str, octets: &mut Octets) -> Result<bool, Fail> {
+    let mut element = String::new(alloc);
+    let header = if let Some(message) = after(line, "hear ") {
+        let Some((header, rest)) = message.split_once(" <") else {
+            return Err("no element".into());
+        };
+        element.push_str("<")?;
+        element.push_str(rest)?;
+        header
+    } else if let Some(request) = after(line, "starts ") {
+        let Some((header, number)) = request.rsplit_once(' ') else {
+            return Err("no number".into());
+        };
+        for part in [
+            "<start number='",
+            number,
+            "'><profile uri='",
+            URI,
+            "' /></start>",
+        ] {
+            element.push_str(part)?;
+        }
+        header
+    } else {
+        return Ok(false);
+    };
+    put_frame(octets, header, MIME, element.as_str(), "\r\n")?;
+    Ok(true)
 }
 
 fn put_frame(
@@ -119,7 +276,11 @@ fn hear(end: &mut Session, octets: &[u8], notes: &mut String) -> Result<(), Fail
                 };
             }
             Event::Arrived(_) => came = "arrived",
-            Event::More | Event::Released => break,
+            Event::More => break,
+            Event::Released => {
+                came = "released";
+                break;
+            }
             Event::Broken(_, _) => {
                 came = "broken";
                 break;
@@ -155,25 +316,42 @@ fn said(end: &mut Session, out: &mut Octets, notes: &mut String) -> Result<(), F
     Ok(())
 }
 
-/// Runs one script: each line that hears or says is done, and the others are compared.
-fn run(rt: &impl Abort, alloc: Global, end: &mut Session, script: &str) -> Result<(), Fail> {
+/// Does what a line says that is an act of the listener itself, and puts its answer in brackets.
+fn acted(alloc: Global, end: &mut End, line: &str, notes: &mut String) -> Result<bool, Fail> {
+    let mut words = line.split(' ');
+    let act = words.next().unwrap_or("");
+    let number = number_in(words.next());
+    let len = number_in(words.next());
+    if !matches!(act, "start" | "close" | "ask" | "release") {
+        return Ok(false);
+    }
+    notes.clear();
+    notes.push_str("[")?;
+    match act {
+        "start" => end.start(alloc, number, notes)?,
+        "close" => end.close(number, notes)?,
+        "ask" => end.ask(number, len as usize, notes)?,
+        _ => end.release(notes)?,
+    }
+    notes.push_str("]")?;
+    Ok(true)
+}
+
+/// Runs one script: each line that hears, says or acts is done, and the others are compared.
+fn run(rt: &impl Abort, alloc: Global, end: &mut End, script: &str) -> Result<(), Fail> {
     let mut octets = Octets::new(alloc);
     let mut out = Octets::new(alloc);
     let mut notes = String::new(alloc);
-    said(end, &mut out, &mut notes)?;
+    said(&mut end.session, &mut out, &mut notes)?;
     assert_eq!(rt; notes.as_str(), "say RPY 0 0 . 0 103");
-    notes.clear();
-    put_frame(&mut octets, "RPY 0 0 . 0 52", MIME, "<greeting />", "\r\n")?;
-    hear(end, octets.as_slice(), &mut notes)?;
-    assert_eq!(rt; notes.as_str(), "[greeted]");
     for line in script.lines() {
         if heard(alloc, line, &mut octets)? {
             notes.clear();
-            hear(end, octets.as_slice(), &mut notes)?;
-        } else {
+            hear(&mut end.session, octets.as_slice(), &mut notes)?;
+        } else if !acted(alloc, end, line, &mut notes)? {
             if line.starts_with("say ") {
                 notes.clear();
-                said(end, &mut out, &mut notes)?;
+                said(&mut end.session, &mut out, &mut notes)?;
             }
             assert_eq!(rt; notes.as_str(), line, "{script}");
         }
@@ -181,11 +359,88 @@ fn run(rt: &impl Abort, alloc: Global, end: &mut Session, script: &str) -> Resul
     Ok(())
 }
 
+/// A listener with an own window of this size.
+fn listener(alloc: Global, window: u32) -> Result<End, Fail> {
+    let limits = Limits {
+        window,
+        piece: LIMITS.piece,
+    };
+    Ok(End::of(a_peer_within(alloc, Role::Listener, limits)?, alloc))
+}
+
 #[test]
 fn each_script_is_answered(rt: HostRuntime) -> Result<(), Fail> {
     for i in 0..SCRIPTS.len() {
-        let mut end = a_peer(rt.alloc(), Role::Listener)?;
-        run(&rt, rt.alloc(), &mut end, SCRIPTS[i])?;
+        let mut end = listener(rt.alloc(), SCRIPTS[i].0)?;
+        run(&rt, rt.alloc(), &mut end, SCRIPTS[i].1)?;
     }
     Ok(())
+}
+
+/// Feeds one frame of a request of channel zero, `size` octets of it.
+fn hear_part(
+    end: &mut Session,
+    octets: &mut Octets,
+    header: &str,
+    size: usize,
+    notes: &mut String,
+) -> Result<(), Fail> {
+    octets.clear();
+    octets.extend(header.as_bytes())?;
+    octets.extend(b"\r\n")?;
+    for _ in 0..size {
+        octets.extend(b"x")?;
+    }
+    octets.extend(b"END\r\n")?;
+    notes.clear();
+    hear(end, octets.as_slice(), notes)
+}
+
+/// A request of channel zero of one octet more than is read, frame by frame, each as large as the
+/// window allows, and what goes out after each.
+static LONG: [(&str, usize, &str); 17] = [
+    ("MSG 0 1 * 52 4044", 4044, "SEQ 0 4096 4096"),
+    ("MSG 0 1 * 4096 4096", 4096, "SEQ 0 8192 4096"),
+    ("MSG 0 1 * 8192 4096", 4096, "SEQ 0 12288 4096"),
+    ("MSG 0 1 * 12288 4096", 4096, "SEQ 0 16384 4096"),
+    ("MSG 0 1 * 16384 4096", 4096, "SEQ 0 20480 4096"),
+    ("MSG 0 1 * 20480 4096", 4096, "SEQ 0 24576 4096"),
+    ("MSG 0 1 * 24576 4096", 4096, "SEQ 0 28672 4096"),
+    ("MSG 0 1 * 28672 4096", 4096, "SEQ 0 32768 4096"),
+    ("MSG 0 1 * 32768 4096", 4096, "SEQ 0 36864 4096"),
+    ("MSG 0 1 * 36864 4096", 4096, "SEQ 0 40960 4096"),
+    ("MSG 0 1 * 40960 4096", 4096, "SEQ 0 45056 4096"),
+    ("MSG 0 1 * 45056 4096", 4096, "SEQ 0 49152 4096"),
+    ("MSG 0 1 * 49152 4096", 4096, "SEQ 0 53248 4096"),
+    ("MSG 0 1 * 53248 4096", 4096, "SEQ 0 57344 4096"),
+    ("MSG 0 1 * 57344 4096", 4096, "SEQ 0 61440 4096"),
+    ("MSG 0 1 * 61440 4096", 4096, "SEQ 0 65536 4096"),
+    ("MSG 0 1 . 65536 53", 53, "ERR 0 1 . 103 86"),
+];
+
+fn refuses_long(rt: &impl Abort, alloc: Global, end: &mut End) -> Result<(), Fail> {
+    run(
+        rt,
+        alloc,
+        end,
+        "hear RPY 0 0 . 0 52 <greeting />\n[greeted]",
+    )?;
+    let mut octets = Octets::new(alloc);
+    let mut out = Octets::new(alloc);
+    let mut notes = String::new(alloc);
+    for i in 0..LONG.len() {
+        let (header, size, says) = LONG[i];
+        hear_part(&mut end.session, &mut octets, header, size, &mut notes)?;
+        notes.clear();
+        said(&mut end.session, &mut out, &mut notes)?;
+        assert_eq!(rt; notes.as_str().strip_prefix("say "), Some(says), "{header}");
+    }
+    assert!(rt; !end.session.is_over());
+    Ok(())
+}
+
+#[test]
+fn a_request_above_the_limit_is_refused_at_its_end(rt: HostRuntime) -> Result<(), Fail> {
+    let mut end = listener(rt.alloc(), LIMITS.window)?;
+    refuses_long(&rt, rt.alloc(), &mut end)
 }

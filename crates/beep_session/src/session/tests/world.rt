@@ -20,8 +20,8 @@ const ROUNDS: usize = 4096;
 
 /// One end, and what it sent: the other has heard the octets up to a place.
 #[derive(Drop)]
-struct End {
-    session: Session,
+pub(super) struct End {
+    pub(super) session: Session,
     wire: Octets,
     at: usize,
 }
@@ -90,7 +90,7 @@ impl World {
     }
 }
 
-fn number_in(word: Option<&str>) -> u32 {
+pub(super) fn number_in(word: Option<&str>) -> u32 {
     match word {
         Some(word) => word.parse().unwrap_or(0),
         None => 0,
@@ -99,11 +99,16 @@ fn number_in(word: Option<&str>) -> u32 {
 
 impl End {
     fn new(alloc: Global, role: Role) -> Result<End, Fail> {
-        Ok(End {
-            session: a_peer(alloc, role)?,
+        Ok(End::of(a_peer(alloc, role)?, alloc))
+    }
+
+    /// An end that has said nothing.
+    pub(super) fn of(session: Session, alloc: Global) -> End {
+        End {
+            session,
             wire: Octets::new(alloc),
             at: 0,
-        })
+        }
     }
 
     /// Does what the words of a step say.
@@ -203,7 +208,12 @@ impl End {
         }
     }
 
-    fn start(&mut self, alloc: Global, number: u32, report: &mut String) -> Result<(), Fail> {
+    pub(super) fn start(
+        &mut self,
+        alloc: Global,
+        number: u32,
+        report: &mut String,
+    ) -> Result<(), Fail> {
         let uri = Text::of(alloc, URI)?;
         if !is_uri(&uri) || !self.session.may_start(number) || self.session.zero_waits() {
             return Err("no start".into());
@@ -223,7 +233,7 @@ impl End {
         Ok(())
     }
 
-    fn release(&mut self, report: &mut String) -> Result<(), Fail> {
+    pub(super) fn release(&mut self, report: &mut String) -> Result<(), Fail> {
         if self.session.zero_waits() {
             return Err("no release".into());
         }
@@ -239,7 +249,7 @@ impl End {
         Ok(())
     }
 
-    fn ask(&mut self, number: u32, len: usize, report: &mut String) -> Result<(), Fail> {
+    pub(super) fn ask(&mut self, number: u32, len: usize, report: &mut String) -> Result<(), Fail> {
         let octets = self.message(len)?;
         if self.session.zero_waits() {
             return Err("no ask".into());
@@ -261,7 +271,7 @@ impl End {
         Ok(())
     }
 
-    fn close(&mut self, number: u32, report: &mut String) -> Result<(), Fail> {
+    pub(super) fn close(&mut self, number: u32, report: &mut String) -> Result<(), Fail> {
         if self.session.zero_waits() {
             return Err("no close".into());
         }
@@ -355,11 +365,15 @@ impl End {
         if self.session.zero_waits() || len == 0 || buf.len() < len {
             return Err("no take".into());
         }
-        let Some(mut channel) = self.session.open_channel(number) else {
+        let part = if let Some(mut channel) = self.session.open_channel(number) {
+            channel.take(&mut buf[..len])
+        } else if let Some(mut channel) = self.session.closing_channel(number) {
+            channel.take(&mut buf[..len])
+        } else {
             report.push_str("NoChannel")?;
             return Ok(());
         };
-        match channel.take(&mut buf[..len]) {
+        match part {
             Some(part) => {
                 numbered(report, "took", part.len as u32)?;
                 report.push_str(if part.ended { "." } else { "*" })?;

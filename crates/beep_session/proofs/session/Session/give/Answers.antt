@@ -1,18 +1,23 @@
 -- A request on channel zero is one of the peer, for each journal for which the session stood.
-use Rattle.std.proofs.Common.{◌≡◌, ◌∙◌, ℕ, ◌+◌, ◌≤◌, List, true, false, Some, length, is_some, sym, subst}
+use Rattle.std.proofs.Common.{◌≡◌, ◌∙◌, ℕ, ◌+◌, ◌≤◌, List, true, false, Some, length, map, is_some, sym, subst}
 use Rattle.std.specs.Prelude.{OnOk}
 use Rattle.std.specs.Option.{option_to_list}
 use Rattle.beep_history.specs.Journal.{Item}
 use Rattle.beep_mgmt.specs.Form.{form_of}
 use Rattle.beep_lives.specs.Lives.{live_at}
 use Rattle.beep_decide.specs.declared.limits.TheConstants.{MAX_CHANNELS}
+use Rattle.beep_decide.specs.Plain.{plain_offer}
 use Rattle.beep_standing.specs.Standing.{Marks}
 use Rattle.beep_management.specs.Managed.{number_started}
 use Rattle.beep_management.specs.Manages.{AreFresh}
+use Rattle.beep_upright.specs.Upright.{IsUpright}
+use Rattle.beep_peer.specs.Asking.{MayAsk}
 use Rattle.beep_peer.specs.Peering.{Holds, IsPeer, IsGoing, is_over, zero_waits}
 use Rattle.beep_peer.specs.Acts.{GivesZero, count_used}
 use Rattle.beep_session.specs.Session.{Held}
 use Rattle.beep_session.specs.Acts.{AsksZero}
+use Rattle.beep_session.specs.Lawfully.{terms_of}
+use Rattle.beep_session.proofs.SettleLemmas.{held-from}
 use Rattle.beep_session.proofs.ActLemmas.{going-now, held-now, asks-ok, reached-given, same-over, same-waits, still-there}
 use Rattle.beep_session.proofs.session.Session.give.Goals as goal
 
@@ -78,3 +83,17 @@ returns-clause-open c n was =
       live = still-there c.self.inside.limits.window c.args.text.now.octets old new n c.give_request.result (going c) (gives c) c.give_request.ensures.err
           ∙ subst (λ (h : Held). is_some (live_at n h.peer.lives) ≡ true) (sym c.self.view_is) was.live;
     }
+
+pub returns-clause-upright : goal.returns-clause-upright
+returns-clause-upright c fed rest journal given taken =
+    let new = c.give_request.new.self in
+    subst (λ (h : Held). IsPeer h.limits.window fed rest journal given taken h.peer
+    → IsUpright (terms_of h) journal h.peer.lives h.peer.management → MayAsk h.role h.peer c.args.names (Some (form_of c.args.value))
+    → IsUpright (terms_of h) journal new.lives new.management) c.self.view_is
+    (λ s u may. c.give_request.ensures.upright
+    (terms_of (held-from c.self.inside.standing.role (map plain_offer c.self.inside.standing.offers.items) c.self.inside.limits c.self.inside.peer))
+    journal given taken s.holds
+    (subst (λ (h : Held). AreFresh h.limits.window (number_started (Some (form_of c.args.value))) (option_to_list c.args.channel)) (sym c.self.view_is)
+    c.requires.fresh)
+    (subst (λ (h : Held). count_used h.peer + length (option_to_list c.args.channel) ≤ MAX_CHANNELS + 1) (sym c.self.view_is) c.requires.few)
+    u may)

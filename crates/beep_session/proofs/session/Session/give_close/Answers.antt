@@ -1,7 +1,9 @@
 -- There is room for a close, which starts no channel.
-use Rattle.std.proofs.Common.{◌≡◌, ℕ, ◌+◌, ◌≤◌, List, false, sym, subst, arith}
+use Rattle.std.proofs.Common.{◌≡◌, ℕ, ◌+◌, ◌≤◌, ◌==◌, not, List, false, Some, sym, subst, arith}
 use Rattle.std.specs.Prelude.{OnOk}
 use Rattle.beep_decide.specs.declared.limits.TheConstants.{MAX_CHANNELS}
+use Rattle.beep_mgmt.specs.Form.{Form}
+use Rattle.beep_peer.specs.Asking.{MayAsk}
 use Rattle.beep_peer.specs.Peering.{is_over, zero_waits}
 use Rattle.beep_peer.specs.Acts.{count_used}
 use Rattle.beep_peer.proofs.AskedLemmas.{few-used}
@@ -25,3 +27,8 @@ pub returns-clause-ok : goal.returns-clause-ok
 returns-clause-ok c fed rest journal given taken s =
     subst (λ (o : List ℕ). OnOk c.give.result (AsksZero c.args.self.now.limits.window fed rest journal given taken o c.give.new.self.peer))
     c.in_ok-text.ensures.text (c.give.ensures.ok fed rest journal given taken s)
+
+pub returns-clause-upright : goal.returns-clause-upright
+returns-clause-upright c fed rest journal given taken s u may =
+    c.give.ensures.upright fed rest journal given taken s u
+    (subst (λ (form : Form). MayAsk c.args.self.now.role c.args.self.now.peer (not (c.args.n == 0)) (Some form)) (sym c.close_of-value.ensures) may)

@@ -1,5 +1,5 @@
 -- A new session stands for the empty journal, as its peer does.
-use Rattle.std.proofs.Common.{◌≡◌, ◌∙◌, ℕ, ◌≤◌, true, List, length, map, sym, ap, subst, arith}
+use Rattle.std.proofs.Common.{◌≡◌, ◌∙◌, ℕ, true, List, map, refl, sym, ap, subst, arith}
 use Rattle.std.specs.List.{list_all}
 use Rattle.std.proofs.lemmas.Grind.{merely}
 use Rattle.std.proofs.lemmas.List.{length-map}
@@ -43,3 +43,10 @@ returns-clause-stands c =
     (c.in_ok-greeting.ensures.text
     ∙ ap (λ (offers : List Offer). message_text (greeting_of (map plain_offer offers))) (c.deref.ensures.value ∙ c.into_vec-offers.ensures.items))
     (c.in_ok-peer.ensures.begins _ c.in_ok-greeting.ensures)
+
+pub returns-clause-lawful : goal.returns-clause-lawful
+returns-clause-lawful c begun = record {
+  stands = begun.stands;
+  upright = c.in_ok-peer.ensures.upright _ _ c.in_ok-greeting.ensures;
+  lawful = refl;
+}
