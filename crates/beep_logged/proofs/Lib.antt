@@ -1,0 +1,5 @@
+pub mod OctetLemmas
+pub mod WholeLemmas
+pub mod JoinLemmas
+pub mod ReadLemmas
+pub mod WriteLemmas
