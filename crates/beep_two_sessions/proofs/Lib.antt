@@ -1,0 +1,15 @@
+pub mod ReadLemmas
+pub mod WireLemmas
+pub mod BreakLemmas
+pub mod MoveLemmas
+pub mod CallLemmas
+pub mod FollowLemmas
+pub mod EndLemmas
+pub mod BookLemmas
+pub mod PrefixLemmas
+pub mod StillLemmas
+pub mod FramedLemmas
+pub mod DebtLemmas
+pub mod OverLemmas
+pub mod WaitLemmas
+pub mod NoStallLemmas
