@@ -1,0 +1,62 @@
+//! Schedules that are drawn, run and checked.
+
+use crate::counts::Counts;
+use crate::stop::{Fault, Stop};
+use crate::world::World;
+use std::alloc::Global;
+
+/// Where a run stopped, and why.
+#[derive(Clone, Copy, Debug)]
+pub(crate) struct Place {
+    pub(crate) schedule: u64,
+    /// The act after which it stopped, from 1: the last one where a drain or a judgement did.
+    pub(crate) step: u64,
+    pub(crate) stop: Stop,
+}
+
+/// Runs and checks so many schedules of a seed.
+pub(crate) fn check_all(alloc: Global, seed: u64, count: u64) -> Result<Counts, Place> {
+    let mut counts = Counts::new();
+    for schedule in 0..count {
+        let mut step = 0;
+        match check(alloc, seed, schedule, &mut step) {
+            Ok(more) => counts.add(&more),
+            Err(stop) => return Err(Place {
+                schedule,
+                step,
+                stop,
+            }),
+        }
+    }
+    Ok(counts)
+}
+
+/// Runs and checks one schedule, and tells its steps.
+fn check(alloc: Global, seed: u64, schedule: u64, step: &mut u64) -> Result<Counts, Stop> {
+    let mut world = World::new(alloc, seed, schedule)?;
+    match play(&mut world, step) {
+        Ok(()) => Ok(world.book.counts),
+        Err(stop) => Err(stop),
+    }
+}
+
+fn play(world: &mut World, step: &mut u64) -> Result<(), Stop> {
+    world.open()?;
+    for _ in 0..world.mood.acts {
+        let (who, act) = world.draw();
+        *step = step.saturating_add(1);
+        world.step(who, act)?;
+    }
+    finish(world)
+}
+
+/// Drains a schedule, first without replies and then with them, and judges it.
+pub(crate) fn finish(world: &mut World) -> Result<(), Stop> {
+    world.drain(false)?;
+    if !world.book.is_all_taken() {
+        return Err(Stop::Found(Fault::Untaken));
+    }
+    world.drain(true)?;
+    world.rests()?;
+    world.judge()
+}

@@ -1,0 +1,115 @@
+//! The journal of an end, read from the octets that it emitted and was fed, and the plain programs
+//! over it.
+
+use crate::stop::{Fault, Stop};
+use beep_frame::{Decoder, MAX_PAYLOAD, Step};
+use beep_history::{JournalItem, Side};
+use beep_journal::{broken_content, broken_head, broken_seq};
+use beep_lawful::{Terms, unlawful_item};
+use beep_octets::Octets;
+use std::alloc::Global;
+
+/// The most items of a journal over which the plain programs run: they are slow.
+const MOST_JUDGED: usize = 60;
+
+/// The journal of an end, the latest item last.
+#[derive(Drop)]
+pub(crate) struct Log {
+    alloc: Global,
+    sent: Decoder,
+    received: Decoder,
+    items: Vec<JournalItem>,
+}
+
+impl Log {
+    pub(crate) fn new(alloc: Global) -> Result<Log, Stop> {
+        Ok(Log {
+            alloc,
+            sent: Decoder::new(alloc, MAX_PAYLOAD)?,
+            received: Decoder::new(alloc, MAX_PAYLOAD)?,
+            items: Vec::new(alloc),
+        })
+    }
+
+    /// These octets were sent or received.
+    pub(crate) fn add(&mut self, side: Side, octets: &[u8]) -> Result<(), Stop> {
+        let mut rest = octets;
+        for _ in 0..=octets.len() {
+            let (used, item) = match side {
+                Side::Sent => next_item(self.alloc, side, &mut self.sent, rest)?,
+                Side::Received => next_item(self.alloc, side, &mut self.received, rest)?,
+            };
+            let Some(item) = item else {
+                return Ok(());
+            };
+            let Ok(()) = self.items.push(item) else {
+                return Err(Stop::NoMemory);
+            };
+            rest = match rest.get(used..) {
+                Some(rest) => rest,
+                None => return Err(Stop::Found(Fault::NoStream)),
+            };
+        }
+        Ok(())
+    }
+
+    /// Runs the plain programs over its first items, once, and answers over how many: no item that
+    /// arrived breaks a rule, and none that was sent breaks what `is_lawful` asks of it.
+    pub(crate) fn judge(&mut self, terms: &Terms) -> Result<usize, Stop> {
+        self.items.truncate(MOST_JUDGED);
+        self.items.reverse();
+        let journal = self.items.as_slice();
+        for i in 0..journal.len() {
+            let (past, item) = (&journal[i + 1..], &journal[i]);
+            judge_item(self.alloc, past, item)?;
+            if let Some(breach) = unlawful_item(self.alloc, terms, &[], past, item)? {
+                return Err(Stop::Found(Fault::Unlawful(breach)));
+            }
+        }
+        Ok(journal.len())
+    }
+}
+
+/// The next item of a stream, and the octets up to its end. None where no more ends here.
+fn next_item(
+    alloc: Global,
+    side: Side,
+    decoder: &mut Decoder,
+    octets: &[u8],
+) -> Result<(usize, Option<JournalItem>), Stop> {
+    let (used, step) = decoder.feed(octets);
+    match step {
+        Step::More => Ok((used, None)),
+        Step::Head(head) => Ok((used, Some(JournalItem::Began(side, head)))),
+        Step::Seq(seq) => Ok((used, Some(JournalItem::Told(side, seq)))),
+        Step::Frame => {
+            let frame = decoder.frame();
+            let mut payload = Octets::new(alloc);
+            payload.extend(frame.payload)?;
+            Ok((used, Some(JournalItem::Passed(side, frame.head, payload))))
+        }
+        Step::Broken(_, _) => Err(Stop::Found(Fault::NoStream)),
+    }
+}
+
+/// An item that arrived breaks no rule, by the plain programs.
+fn judge_item(alloc: Global, journal: &[JournalItem], item: &JournalItem) -> Result<(), Stop> {
+    let rule = match item {
+        JournalItem::Began(Side::Received, head) => {
+            broken_head(alloc, &[], Side::Received, journal, head)?
+        }
+        JournalItem::Passed(Side::Received, head, payload) => {
+            broken_content(alloc, Side::Received, journal, head, payload)?
+        }
+        JournalItem::Told(Side::Received, seq) => {
+            broken_seq(alloc, Side::Received, journal, seq)?
+        }
+        JournalItem::Began(Side::Sent, _)
+        | JournalItem::Passed(Side::Sent, _, _)
+        | JournalItem::Told(Side::Sent, _) => None,
+    };
+    match rule {
+        Some(rule) => Err(Stop::Found(Fault::PlainRule(rule))),
+        None => Ok(()),
+    }
+}
