@@ -1,6 +1,5 @@
 pub mod LifeLemmas
 pub mod ChannelsLemmas
-pub mod FormLemmas
 pub mod MovesLemmas
 pub mod FlowLemmas
 pub mod HeadLemmas

@@ -8,9 +8,9 @@ ghost use Rattle.beep_judge.specs.Edits.{SameChannels};
 ghost use Rattle.beep_judge.specs.Grants.{stamp_of, StartsWhere, Closes, Granted, GrantedWhere};
 
 use crate::channels::Channels;
-use crate::form::has_form;
 use crate::half::Half;
 use beep_frame::Kind;
+use beep_journal::has_form;
 use beep_mgmt::Mgmt;
 use beep_octets::NoMemory;
 
@@ -39,7 +39,7 @@ pub(crate) fn has_its_form(theirs: &Half, kind: Kind, said: &Option<Mgmt>) -> bo
         (option_map form_of said.now) }
 {
     match theirs.asked.back() {
-        Some(request) => has_form(kind, request.implied, &request.said, said),
+        Some(request) => has_form(kind, request.implied, request.said.as_ref(), said.as_ref()),
         None => false,
     }
 }

@@ -1,9 +1,10 @@
 //! What a whole message of channel zero says (RFC 3080, section 2.3.1).
-ghost use Rattle.std.specs.Prelude.{◌≡◌, ◌≢◌, ◌++◌, IfOk, false, option_map};
+ghost use Rattle.std.specs.Prelude.{◌≡◌, ◌++◌, IfOk, option_map};
 ghost use Rattle.beep_mgmt.specs.Form.{form_of};
 ghost use Rattle.beep_mgmt.specs.Message.{message_said};
 
-use beep_mgmt::{Mgmt, MgmtError, read_mgmt};
+use beep_journal::message_said;
+use beep_mgmt::Mgmt;
 use beep_octets::{NoMemory, Octets};
 use std::alloc::Global;
 
@@ -19,30 +20,4 @@ pub(crate) fn said(alloc: Global, text: &Octets, payload: &[u8]) -> Result<Optio
     whole.extend(text.as_slice())?;
     whole.extend(payload)?;
     message_said(alloc, whole.as_slice())
-}
-
-/// What a message says, where it says a value.
-fn message_said(alloc: Global, message: &[u8]) -> Result<Option<Mgmt>, NoMemory>
-    ensures { IfOk result (λ said. option_map form_of said ≡ message_said message.now) }
-{
-    match read_mgmt(alloc, message) {
-        Ok(mgmt) => Ok(Some(mgmt)),
-        Err(error) => if is_memory(error) {
-            Err(NoMemory)
-        } else {
-            Ok(None)
-        },
-    }
-}
-
-/// Whether memory ran out.
-fn is_memory(error: MgmtError) -> bool
-    ensures { result ≡ false → error ≢ MgmtError.NoMemory }
-{
-    match error {
-        MgmtError::NoMemory => true,
-        MgmtError::Malformed(_) | MgmtError::Entity(_) | MgmtError::TooLong | MgmtError::Shape => {
-            false
-        }
-    }
 }
