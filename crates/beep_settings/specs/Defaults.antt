@@ -1,0 +1,18 @@
+-- What holds where no option is set.
+-- The code makes the texts anew; here they are values.
+use Rattle.std.specs.Prelude.{chars, codes}
+use Rattle.beep_settings.specs.declared.settings.Settings.{Settings}
+use Rattle.beep_settings.specs.declared.settings.TheConstants.{HOST, RAW_URI, PORT, WINDOW, PIECE, IDLE, OCTETS, SESSIONS}
+
+-- the settings without options
+abbrev pub default_settings : Settings
+default_settings = record {
+  host = chars HOST.now;
+  port = PORT;
+  raw_uri = chars RAW_URI.now;
+  window = WINDOW;
+  piece = PIECE;
+  idle = IDLE;
+  octets = OCTETS;
+  sessions = SESSIONS;
+}

@@ -1,0 +1,7 @@
+//! What a caller sets for an end of a session: the values of the options of `send` and `listen`,
+//! and what holds where none is set.
+#![tactic(auto)]
+
+mod settings;
+
+pub use settings::{HOST, IDLE, OCTETS, PIECE, PORT, RAW_URI, SESSIONS, Settings, WINDOW};
