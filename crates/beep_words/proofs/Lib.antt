@@ -1,0 +1,6 @@
+-- Proofs.
+mod CommandLemmas
+mod OptionLemmas
+pub mod UsableLemmas
+mod ValueLemmas
+mod WordLemmas

@@ -1,0 +1,10 @@
+use Rattle.std.proofs.Common.{map}
+use Rattle.std.specs.String.{string_bytes}
+use Rattle.beep_words.proofs.CommandLemmas.{is_command, is_of_end}
+use Rattle.beep_words.proofs.command.command_of.Goals as goal
+
+pub returns : goal.returns
+returns c = record {
+  ok = is_command (map string_bytes c.args.words.now) c.command_at.result c.command_at.ensures.ok;
+  err = is_of_end (map string_bytes c.args.words.now) c.command_at.result c.command_at.ensures.err;
+}

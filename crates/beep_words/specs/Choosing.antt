@@ -1,0 +1,139 @@
+-- How words are gone over, option by option, for the proofs of reading them.
+-- No contract of a public call cites it: what the words are is CommandSet.
+use Rattle.std.specs.Prelude.{ℕ, min, Bool, true, false, not, ◌&&◌, ◌||◌, nat_lt, nat_le, Option, Some, None, is_some, List, [], ◌∷◌, length, codes, chars, bytes_eq, if◌then◌else◌}
+use Rattle.std.specs.Fmt.{decimal}
+use Rattle.std.specs.List.{list_all}
+use Rattle.std.specs.Str.Parse.{digits_value}
+use Rattle.beep_settings.specs.declared.settings.Settings.{Settings}
+use Rattle.beep_settings.specs.declared.settings.TheConstants.{HOST, RAW_URI, PORT, WINDOW, PIECE, IDLE, OCTETS, SESSIONS}
+use Rattle.beep_words.specs.declared.form.Form.{Form}
+use Rattle.beep_words.specs.declared.command.ShowSettings.{ShowSettings}
+use Rattle.beep_words.specs.declared.command.Command.{Command}
+use Rattle.beep_words.specs.declared.options.TheConstants.{MAX_NUMBER, MAX_PORT}
+use Rattle.beep_words.specs.CommandSet.{Value, choice, number, text, begins_with_dash, is_printable, OptionRow, form_in, show_options, send_options, listen_options}
+
+-- ---- values
+
+-- the number of 32 bits whose decimal text this is
+abbrev pub number_in : List ℕ → Option ℕ
+number_in word =
+    let n = digits_value 10 word in
+    if bytes_eq word (decimal n) && nat_le n MAX_NUMBER then Some n else None
+
+-- the number is in this range
+abbrev pub within : ℕ → ℕ → Option ℕ → Option Value
+within least most None = None
+within least most (Some n) = if nat_le least n && nat_le n most then Some (number n) else None
+
+-- octets that can be a value, at most so many
+abbrev pub is_text : ℕ → List ℕ → Bool
+is_text most octets =
+    nat_lt 0 (length octets) && nat_le (length octets) most && not (begins_with_dash octets)
+
+-- the value of this form whose word this is
+abbrev pub value_of_word : Form → List ℕ → Option Value
+value_of_word Form.Choice word = if bytes_eq word (codes "yes") then Some (choice true)
+    else if bytes_eq word (codes "no") then Some (choice false) else None
+value_of_word (Form.Number least most) word = within least most (number_in word)
+value_of_word (Form.Octets most) word = if is_text most word then Some (text word) else None
+value_of_word (Form.Printable most) word =
+    if is_text most word && list_all is_printable word then Some (text word) else None
+value_of_word Form.Raw word = if bytes_eq word (codes "raw") then Some (text word) else None
+
+-- ---- options
+
+-- the word is a value of this form, where there is one
+abbrev pub is_of_some : Option Form → List ℕ → Bool
+is_of_some None word = false
+is_of_some (Some form) word = is_some (value_of_word form word)
+
+-- the option is one of those among these words
+abbrev pub is_among : List ℕ → List (List ℕ) → Bool
+is_among name [] = false
+is_among name (other ∷ []) = false
+is_among name (other ∷ word ∷ words) = bytes_eq other name || is_among name words
+
+-- the words are options and their values, each option once at most
+abbrev pub are_options : List OptionRow → List (List ℕ) → Bool
+are_options rows [] = true
+are_options rows (name ∷ []) = false
+are_options rows (name ∷ word ∷ words) = is_of_some (form_in rows name) word
+    && not (is_among name words) && are_options rows words
+
+-- the word of the value of an option, where it is set
+abbrev pub word_in : List ℕ → List (List ℕ) → Option (List ℕ)
+word_in name [] = None
+word_in name (other ∷ []) = None
+word_in name (other ∷ word ∷ words) =
+    if bytes_eq other name then Some word else word_in name words
+
+-- ---- settings
+
+abbrev pub some_or : {A : Type 0} → A → Option A → A
+some_or default None = default
+some_or default (Some value) = value
+
+-- the number of a word, or else the option's own
+abbrev pub number_or : ℕ → Option (List ℕ) → ℕ
+number_or default None = default
+number_or default (Some word) = some_or default (number_in word)
+
+abbrev pub number_at : List ℕ → ℕ → List (List ℕ) → ℕ
+number_at name default words = number_or default (word_in name words)
+
+-- whether the word is `yes`, or else the option's own
+abbrev pub choice_or : Bool → Option (List ℕ) → Bool
+choice_or default None = default
+choice_or default (Some word) = bytes_eq word (codes "yes")
+
+abbrev pub choice_at : List ℕ → Bool → List (List ℕ) → Bool
+choice_at name default words = choice_or default (word_in name words)
+
+abbrev pub text_at : List ℕ → List ℕ → List (List ℕ) → List ℕ
+text_at name default words = some_or default (word_in name words)
+
+-- what the options of `show` say
+abbrev pub show_of : List (List ℕ) → ShowSettings
+show_of words = record {
+  elements = choice_at (codes "--elements") false words;
+  octets = number_at (codes "--octets") OCTETS words;
+}
+
+-- what the options of `send` and `listen` say
+abbrev pub settings_of : List (List ℕ) → Settings
+settings_of words = record {
+  host = chars (text_at (codes "--host") HOST.now words);
+  port = min (number_at (codes "--port") PORT words) MAX_PORT;
+  raw_uri = chars (text_at (codes "--raw-uri") RAW_URI.now words);
+  window = number_at (codes "--window") WINDOW words;
+  piece = number_at (codes "--piece") PIECE words;
+  idle = number_at (codes "--idle") IDLE words;
+  octets = number_at (codes "--octets") OCTETS words;
+  sessions = number_at (codes "--sessions") SESSIONS words;
+}
+
+-- ---- commands
+
+-- the command of this name with these words, where it is one
+abbrev pub command_in : List ℕ → List (List ℕ) → Option Command
+command_in name words =
+    if bytes_eq name (codes "show") && are_options show_options words
+    then Some (Command.Show (show_of words))
+    else if bytes_eq name (codes "replay") && are_options [] words then Some Command.Replay
+    else if bytes_eq name (codes "send") && are_options send_options words
+    then Some (Command.Send (settings_of words))
+    else if bytes_eq name (codes "listen") && are_options listen_options words
+    then Some (Command.Listen (settings_of words))
+    else None
+
+abbrev pub command_at : List (List ℕ) → Option Command
+command_at [] = None
+command_at (name ∷ words) = command_in name words
+
+-- the command is `send` or `listen`
+abbrev pub makes_end : Option Command → Type 0
+makes_end None = ⊥
+makes_end (Some (Command.Show settings)) = ⊥
+makes_end (Some Command.Replay) = ⊥
+makes_end (Some (Command.Send settings)) = Unit {0}
+makes_end (Some (Command.Listen settings)) = Unit {0}

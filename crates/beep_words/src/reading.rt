@@ -1,0 +1,130 @@
+//! Going over the words of options.
+ghost use Rattle.std.specs.Prelude.{◌≡◌, ◌&&◌, not, map, string_bytes, chars, IfOk, OnOk, bytes_eq};
+ghost use Rattle.std.specs.Option.{option_copied};
+ghost use Rattle.beep_words.specs.Choosing.{is_of_some, is_among, are_options, word_in, number_at, number_or, choice_at, choice_or, text_at, show_of, settings_of};
+ghost use Rattle.beep_words.specs.CommandSet.{form_in};
+ghost use Rattle.beep_words.specs.Rows.{rows_of};
+
+use crate::command::ShowSettings;
+use crate::form::{is_of, number_in};
+use crate::options::{MAX_PORT, Options};
+use beep_chars::Text;
+use beep_octets::NoMemory;
+use beep_settings::{HOST, IDLE, OCTETS, PIECE, PORT, RAW_URI, SESSIONS, Settings, WINDOW};
+use std::alloc::Global;
+
+/// Whether the words are options of a command and their values, each option once at most.
+pub(crate) fn are_options(options: Options, words: &[String]) -> bool
+    ensures { result ≡ are_options (rows_of options) (map string_bytes words.now) }
+{
+    match words {
+        [] => true,
+        [name, word, others @ ..] => {
+            is_first(options, name.as_str(), word.as_str(), others) && are_options(options, others)
+        }
+        _ => false,
+    }
+}
+
+/// Whether the words begin with an option and its value, and don't have it once more.
+fn is_first(options: Options, name: &str, word: &str, others: &[String]) -> bool
+    ensures { result ≡ (is_of_some (form_in (rows_of options) name.now) word.now
+        && not (is_among name.now (map string_bytes others.now))) }
+{
+    is_option(options, name, word) && !is_among(name, others)
+}
+
+fn is_option(options: Options, name: &str, word: &str) -> bool
+    ensures { result ≡ is_of_some (form_in (rows_of options) name.now) word.now }
+{
+    match options.form(name) {
+        Some(form) => is_of(form, word),
+        None => false,
+    }
+}
+
+/// Whether the option is one of those among these words.
+fn is_among(name: &str, words: &[String]) -> bool
+    ensures { result ≡ is_among name.now (map string_bytes words.now) }
+{
+    match words {
+        [other, _, others @ ..] => other.as_str() == name || is_among(name, others),
+        _ => false,
+    }
+}
+
+/// The word of the value of an option, where it is set.
+fn word_in<'w>(name: &str, words: &'w [String]) -> Option<&'w str>
+    ensures { option_copied result ≡ word_in name.now (map string_bytes words.now) }
+{
+    match words {
+        [other, word, others @ ..] => {
+            if other.as_str() == name {
+                Some(word.as_str())
+            } else {
+                word_in(name, others)
+            }
+        }
+        _ => None,
+    }
+}
+
+/// The number that an option is set to, or else its own.
+fn number_at(name: &str, default: u32, words: &[String]) -> u32
+    ensures { result ≡ number_at name.now default (map string_bytes words.now) }
+{
+    match word_in(name, words) {
+        Some(word) => match number_in(word) {
+            Some(number) => number,
+            None => default,
+        },
+        None => default,
+    }
+}
+
+/// Whether an option is set to `yes`, or else its own.
+fn choice_at(name: &str, default: bool, words: &[String]) -> bool
+    ensures { result ≡ choice_at name.now default (map string_bytes words.now) }
+{
+    match word_in(name, words) {
+        Some(word) => word == "yes",
+        None => default,
+    }
+}
+
+/// The text that an option is set to, or else its own.
+fn text_at(alloc: Global, name: &str, default: &str, words: &[String]) -> Result<Text, NoMemory>
+    ensures { IfOk result (λ text.
+        text ≡ chars (text_at name.now default.now (map string_bytes words.now))) }
+{
+    match word_in(name, words) {
+        Some(word) => Text::of(alloc, word),
+        None => Text::of(alloc, default),
+    }
+}
+
+/// What the options of `show` say.
+pub(crate) fn show_in(words: &[String]) -> ShowSettings
+    ensures { result ≡ show_of (map string_bytes words.now) }
+{
+    ShowSettings {
+        elements: choice_at("--elements", false, words),
+        octets: number_at("--octets", OCTETS, words),
+    }
+}
+
+/// What the options of `send` and `listen` say.
+pub(crate) fn settings_in(alloc: Global, words: &[String]) -> Result<Settings, NoMemory>
+    ensures { IfOk result (λ settings. settings ≡ settings_of (map string_bytes words.now)) }
+{
+    Ok(Settings {
+        host: text_at(alloc, "--host", HOST, words)?,
+        port: number_at("--port", u32::from(PORT), words).min(MAX_PORT) as u16,
+        raw_uri: text_at(alloc, "--raw-uri", RAW_URI, words)?,
+        window: number_at("--window", WINDOW, words),
+        piece: number_at("--piece", PIECE, words),
+        idle: number_at("--idle", IDLE, words),
+        octets: number_at("--octets", OCTETS, words),
+        sessions: number_at("--sessions", SESSIONS, words),
+    })
+}
