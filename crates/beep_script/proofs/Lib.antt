@@ -1,0 +1,16 @@
+mod NoteLemmas
+mod ListLemmas
+mod DeskLemmas
+mod GoLemmas
+mod GrowLemmas
+mod SettledLemmas
+mod SentLemmas
+mod OnceLemmas
+mod WholeLemmas
+mod SendLemmas
+mod HeardLemmas
+mod CloseLemmas
+mod ReleaseLemmas
+mod GrantLemmas
+mod ReplyLemmas
+mod OrderLemmas

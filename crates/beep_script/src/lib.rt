@@ -1,0 +1,38 @@
+//! What an end of a link has to say and to write, said of its journal and log alone (RFC 3080,
+//! section 2; RFC 3195, section 3).
+//!
+//! The definitions stand in specs/, over the journal of one end, the latest item first, and know no
+//! session's state. Beside them stands a plain, slow program whose contract they are.
+#![tactic(auto)]
+
+mod asking;
+mod at_zero;
+mod clearing;
+mod deciding;
+mod desks;
+pub mod laws;
+mod lines_heard;
+mod look;
+mod message;
+mod plan;
+mod refusals;
+#[cfg(test)]
+mod sample;
+mod scripts;
+mod settled;
+mod standing_now;
+#[cfg(test)]
+mod story;
+mod talking;
+mod words;
+
+pub use at_zero::{Desk, OwedAnswer, ZeroMessage};
+pub use desks::desk;
+pub use lines_heard::{entries, lines};
+pub use message::Message;
+pub use plan::{Command, Plan};
+pub use refusals::refusal;
+pub use scripts::script;
+pub use settled::is_settled;
+pub use talking::talk;
+pub use words::Words;
