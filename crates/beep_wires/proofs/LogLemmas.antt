@@ -8,7 +8,9 @@ Logs-none None = tt
 Logs-none (Some log) = refl
 
 pub Logs-trans : (a b c : Option (List Entry)) (first second : List Entry) → Logs a b first → Logs b c second → Logs a c (second ++ first)
-Logs-trans None b c first second p q = tt
+Logs-trans None None None first second p q = tt
+Logs-trans None None (Some c) first second p q = absurd q
+Logs-trans None (Some b) c first second p q = absurd p
 Logs-trans (Some a) None c first second p q = absurd p
 Logs-trans (Some a) (Some b) None first second p q = absurd q
 Logs-trans (Some a) (Some b) (Some c) first second p q = q ∙ ap (λ log. second ++ log) p ∙ sym (append_assoc second first a)
@@ -18,7 +20,9 @@ Enters-none link None = tt
 Enters-none link (Some story) = refl
 
 pub Enters-trans : (link : ℕ) (a b c : Option (List Event)) (first second : List Entry) → Enters link a b first → Enters link b c second → Enters link a c (second ++ first)
-Enters-trans link None b c first second p q = tt
+Enters-trans link None None None first second p q = tt
+Enters-trans link None None (Some c) first second p q = absurd q
+Enters-trans link None (Some b) c first second p q = absurd p
 Enters-trans link (Some a) None c first second p q = absurd p
 Enters-trans link (Some a) (Some b) None first second p q = absurd q
 Enters-trans link (Some a) (Some b) (Some c) first second p q =

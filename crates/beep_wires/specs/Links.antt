@@ -57,9 +57,10 @@ asked_by ask (Ok link) = record { ask = ask; link = Some link } ∷ []
 asked_by ask (Err WireError.Failed) = record { ask = ask; link = None } ∷ []
 asked_by ask (Err WireError.NoMemory) = []
 
--- the list of these, where it is known, grew by so much
+-- the list of these, where it is known, grew by so much; one that isn't known stays so
 abbrev pub Asks : Option (List Asked) → Option (List Asked) → List Asked → Type 0
-Asks None new more = Unit {0}
+Asks None None more = Unit {0}
+Asks None (Some new) more = ⊥
 Asks (Some old) None more = ⊥
 Asks (Some old) (Some new) more = new ≡ more ++ old
 

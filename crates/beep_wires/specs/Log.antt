@@ -15,18 +15,21 @@ pub record Event : Type 0 where
   pub link : ℕ
   pub entry : Entry
 
--- a log that is known grew by these entries, the latest first
+-- a log that is known grew by these entries, the latest first; one that isn't known stays so
 abbrev pub Logs : Option (List Entry) → Option (List Entry) → List Entry → Type 0
-Logs None new more = Unit {0}
+Logs None None more = Unit {0}
+Logs None (Some new) more = ⊥
 Logs (Some old) None more = ⊥
 Logs (Some old) (Some new) more = new ≡ more ++ old
 
 abbrev pub events_of : ℕ → List Entry → List Event
 events_of link entries = map (λ e. record { link = link; entry = e }) entries
 
--- the story of all links, where it is known, grew by these entries of one of them
+-- the story of all links, where it is known, grew by these entries of one of them; one that isn't
+-- known stays so
 abbrev pub Enters : ℕ → Option (List Event) → Option (List Event) → List Entry → Type 0
-Enters link None new more = Unit {0}
+Enters link None None more = Unit {0}
+Enters link None (Some new) more = ⊥
 Enters link (Some old) None more = ⊥
 Enters link (Some old) (Some new) more = new ≡ events_of link more ++ old
 
