@@ -18,7 +18,7 @@ pub record IsCounted (w : Wiring) : Type 0 where
   pub dials : w.dials ≤ COUNT_MAX
   pub quiets : w.quiets ≤ COUNT_MAX
 
--- an accept or a dial gives the next link, or fails where it must; for want of memory nothing
+-- an accept or a dial gives the next link, or fails where it must; out of memory nothing
 -- changes
 abbrev pub Answers : Ask → Result ℕ WireError → Wiring → Wiring → Type 0
 Answers ask (Ok link) old new =
