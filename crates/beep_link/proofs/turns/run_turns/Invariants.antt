@@ -1,0 +1,22 @@
+-- The log shows what may still be read, and so do the reads.
+use Rattle.std.proofs.Common.{◌≡◌, ◌≤◌, ◌+◌, ◌*◌, false, vec_len}
+use Rattle.beep_link.specs.Causes.{CountsQuiet, Keeps, reads_left, TellsLeft}
+use Rattle.beep_link.specs.declared.buffers.TheConstants.{BUFFER}
+use Rattle.beep_link.proofs.turns.run_turns.Given as goal
+
+abbrev pub invariant-loop-ended : goal.invariant-loop-ended
+invariant-loop-ended g l =
+    let W = g.W.Wires in
+    record {
+      going : (W.state l.wires l.link).has_ended ≡ false;
+      buffer : vec_len l.buffers.coming ≡ BUFFER;
+      told : TellsLeft l.reads l.left (W.state l.wires l.link).log;
+      counted : CountsQuiet (W.counts l.fn.wires).quiets l.left (W.counts l.wires).quiets;
+      keeps : Keeps l.link (record { state = W.state l.fn.wires; counts = W.counts l.fn.wires; asked = W.asked l.fn.wires; lent = W.lent l.fn.wires })
+          (record { state = W.state l.wires; counts = W.counts l.wires; asked = W.asked l.wires; lent = W.lent l.wires });
+      kept : (g.O.Sink.state l.fn.output).faults ≤ (g.O.Sink.state l.output).faults;
+      reads : (W.state l.wires l.link).reads + reads_left l.reads l.left ≤ (W.state l.fn.wires l.link).reads + (l.reads.octets * (l.reads.idle + 1) + l.reads.idle);
+    }
+
+abbrev pub decreases-loop-ended : goal.decreases-loop-ended
+decreases-loop-ended g l = reads_left l.reads l.left

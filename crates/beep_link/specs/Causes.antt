@@ -1,0 +1,158 @@
+-- What ends a session over a link, as the link's log and the counts of faults show it.
+-- The code counts as it reads; here the log is gone over, whole.
+use Rattle.std.specs.Prelude.{◌≡◌, ◌⊎◌, ℕ, ◌+◌, ◌-◌, ◌*◌, ◌≤◌, ◌<◌, Bool, true, false, Option, Some, None, List, [], ◌∷◌, length}
+use Rattle.std.specs.Borrow.{GName}
+use Rattle.beep_wires.specs.Log.{Entry, read, wrote, quiet, ended}
+use Rattle.beep_wires.specs.Links.{Link, Counts, Asked, SameBeside}
+use Rattle.beep_wires.specs.declared.links.Got.{Got}
+use Rattle.beep_wires.specs.Counts.{Rose}
+use Rattle.beep_link.specs.declared.ended.Stop.{Stop}
+use Rattle.beep_link.specs.declared.ended.Ended.{Ended}
+use Rattle.beep_link.specs.declared.left.Reads.{Reads}
+use Rattle.beep_link.specs.declared.left.Left.{Left}
+use Rattle.beep_link.specs.declared.buffers.TheConstants.{BUFFER}
+
+-- what ends where an end is stopped by this
+abbrev pub ended_by : Stop → Ended
+ended_by Stop.Released = Ended.Released
+ended_by (Stop.Broken rule place) = Ended.Broken rule place
+ended_by Stop.WriteFault = Ended.WriteFault
+ended_by Stop.NoMemory = Ended.NoMemory
+ended_by (Stop.Refused code) = Ended.Refused code
+
+-- ---- what a log shows, the latest entry first
+
+-- how many octets were read
+abbrev pub octets_read : List Entry → ℕ
+octets_read [] = 0
+octets_read (read octets ∷ log) = length octets + octets_read log
+octets_read (wrote octets ∷ log) = octets_read log
+octets_read (quiet ∷ log) = octets_read log
+octets_read (ended ∷ log) = octets_read log
+
+-- how many of the latest reads, one after another, were quiet
+abbrev pub quiet_reads : List Entry → ℕ
+quiet_reads [] = 0
+quiet_reads (read octets ∷ log) = 0
+quiet_reads (wrote octets ∷ log) = quiet_reads log
+quiet_reads (quiet ∷ log) = quiet_reads log + 1
+quiet_reads (ended ∷ log) = 0
+
+-- a log that is known shows so many octets read
+abbrev pub HasRead : ℕ → Option (List Entry) → Type 0
+HasRead count None = Unit {0}
+HasRead count (Some log) = octets_read log ≡ count
+
+-- the latest reads, so many or more, of a log that is known were quiet
+abbrev pub IsQuiet : ℕ → Option (List Entry) → Type 0
+IsQuiet count None = Unit {0}
+IsQuiet count (Some log) = count ≤ quiet_reads log
+
+-- the link was given and isn't shut, it hasn't ended, and its log is empty where it is known
+pub record IsUnused (link : Link) : Type 0 where
+  pub unread : link.log ≡ None ⊎ link.log ≡ Some []
+  pub is_open : link.is_open ≡ true
+  pub going : link.has_ended ≡ false
+
+-- ---- causes
+
+-- a link and the count of quiet reads
+pub record Look : Type 0 where
+  pub link : Link
+  pub quiets : ℕ
+
+-- each end that has its cause in the link, by the link before and after
+abbrev pub IsCaused : Ended → Reads → Look → Look → Type 0
+IsCaused Ended.Released reads old new = Unit {0}
+IsCaused (Ended.Broken rule place) reads old new = Unit {0}
+IsCaused Ended.WriteFault reads old new = Unit {0}
+IsCaused Ended.WireFault reads old new = Rose old.link.faults new.link.faults
+IsCaused Ended.NoMemory reads old new = Unit {0}
+IsCaused (Ended.Refused code) reads old new = Unit {0}
+IsCaused (Ended.Cut left) reads old new = new.link.has_ended ≡ true
+IsCaused (Ended.Idle count) reads old new = (count ≡ reads.idle) × IsQuiet reads.idle new.link.log
+    × (0 < reads.idle → Rose old.quiets new.quiets)
+IsCaused (Ended.Spent count) reads old new =
+    (count ≡ reads.octets) × HasRead reads.octets new.link.log
+
+-- the sink's count rose where a write of the output failed
+abbrev pub IsWritten : Ended → ℕ → ℕ → Type 0
+IsWritten cause old new = cause ≡ Ended.WriteFault → Rose old new
+
+-- ---- what may still be read
+
+-- nothing more is read, and this is why
+abbrev pub IsSpent : Ended → Reads → Left → Type 0
+IsSpent Ended.Released reads left = ⊥
+IsSpent (Ended.Broken rule place) reads left = ⊥
+IsSpent Ended.WriteFault reads left = ⊥
+IsSpent Ended.WireFault reads left = ⊥
+IsSpent Ended.NoMemory reads left = ⊥
+IsSpent (Ended.Refused code) reads left = ⊥
+IsSpent (Ended.Cut octets) reads left = ⊥
+IsSpent (Ended.Idle count) reads left = (count ≡ reads.idle) × (reads.idle ≤ left.quiets)
+IsSpent (Ended.Spent count) reads left = (count ≡ reads.octets) × (left.octets ≡ 0)
+
+-- how many reads there may still be, but for the last
+abbrev pub reads_left : Reads → Left → ℕ
+reads_left reads left = left.octets * (reads.idle + 1) + (reads.idle - left.quiets)
+
+-- a log that is known shows what may still be read
+abbrev pub TellsLeft : Reads → Left → Option (List Entry) → Type 0
+TellsLeft reads left None = Unit {0}
+TellsLeft reads left (Some log) =
+    (octets_read log + left.octets ≡ reads.octets) × (left.quiets ≤ quiet_reads log)
+
+-- since there were so many quiet reads the count rose, where one of the latest reads was quiet
+pub record CountsQuiet (before : ℕ) (left : Left) (quiets : ℕ) : Type 0 where
+  pub kept : before ≤ quiets
+  pub rose : 0 < left.quiets → Rose before quiets
+
+-- the octets that came fit the buffer
+abbrev pub fits_buffer : Got → Type 0
+fits_buffer (Got.Bytes n) = n ≤ BUFFER
+fits_buffer Got.Quiet = Unit {0}
+fits_buffer Got.End = Unit {0}
+
+-- what a read makes of it, unless it gave the end
+abbrev pub Moves : Got → Reads → Left → Left → Option (List Entry) → Option (List Entry) → Type 0
+Moves (Got.Bytes n) reads old new before after = (reads_left reads new < reads_left reads old)
+    × (TellsLeft reads old before → TellsLeft reads new after)
+Moves Got.Quiet reads old new before after = (reads_left reads new < reads_left reads old)
+    × (TellsLeft reads old before → TellsLeft reads new after)
+Moves Got.End reads old new before after = Unit {0}
+
+-- ---- what stays
+
+-- what is known of links
+pub record Seen : Type 0 where
+  pub state : ℕ → Link
+  pub counts : Counts
+  pub asked : Option (List Asked)
+  pub lent : Option GName
+
+-- one link was read and written, and stays open
+pub record Keeps (link : ℕ) (old new : Seen) : Type 0 where
+  pub still_open : (new.state link).is_open ≡ true
+  pub kept : (old.state link).faults ≤ (new.state link).faults
+  pub others : SameBeside link old.state new.state
+  pub given : new.counts.given ≡ old.counts.given
+  pub accepts : new.counts.accepts ≡ old.counts.accepts
+  pub dials : new.counts.dials ≡ old.counts.dials
+  pub quiets : old.counts.quiets ≤ new.counts.quiets
+  pub same_asked : new.asked ≡ old.asked
+  pub same_lent : new.lent ≡ old.lent
+
+-- a log that is known shows the same reads
+abbrev pub SameLogReads : Option (List Entry) → Option (List Entry) → Type 0
+SameLogReads None None = Unit {0}
+SameLogReads None (Some new) = ⊥
+SameLogReads (Some old) None = ⊥
+SameLogReads (Some old) (Some new) =
+    (octets_read new ≡ octets_read old) × (quiet_reads new ≡ quiet_reads old)
+
+-- nothing was read, and the link hasn't ended where it hadn't
+pub record SameReads (old new : Link) : Type 0 where
+  pub logs : SameLogReads old.log new.log
+  pub end : new.has_ended ≡ old.has_ended
+  pub counted : new.reads ≡ old.reads

@@ -1,0 +1,29 @@
+//! The buffers of a link.
+ghost use Rattle.std.specs.Prelude.{◌≡◌, ◌≤◌, [], length, IfOk, vec_len};
+
+use beep_octets::{NoMemory, Octets};
+use std::alloc::Global;
+
+/// How many octets are read at once at most, and gathered before they are written.
+pub const BUFFER: usize = 65536;
+
+/// What a read gives, and what is gathered to be written.
+#[derive(Drop)]
+pub(crate) struct Buffers {
+    pub(crate) coming: Vec<u8>,
+    pub(crate) going: Octets,
+}
+
+impl Buffers {
+    /// Both, with their room.
+    pub(crate) fn new(alloc: Global) -> Result<Buffers, NoMemory>
+        ensures coming { IfOk result (λ b. vec_len b.coming ≡ BUFFER) }
+        ensures going { IfOk result (λ b. (b.going.octets ≡ []) × (BUFFER ≤ b.going.spare)) }
+    {
+        let mut coming = Vec::new(alloc);
+        coming.resize(BUFFER, 0)?;
+        let mut going = Octets::new(alloc);
+        going.reserve(BUFFER)?;
+        Ok(Buffers { coming, going })
+    }
+}

@@ -1,0 +1,68 @@
+//! Writing all that is due.
+ghost use Rattle.std.specs.Prelude.{◌≡◌, ◌⊎◌, true, IfErr};
+ghost use Rattle.beep_wires.specs.Counts.{Rose};
+ghost use Rattle.beep_link.specs.Causes.{Keeps, SameReads};
+ghost use Rattle.beep_link.specs.declared.ended.Ended.{Ended as EndedValue};
+
+use crate::buffers::BUFFER;
+use crate::end::End;
+use crate::ended::Ended;
+use beep_octets::{NoMemory, Octets};
+use beep_wires::{Failed, Wires, write_link};
+
+/// How many buffers are written at most between two reads. An end may say that more is due for
+/// ever: this bound alone ends the writing then, and what is due is written after the next read.
+pub const ROUNDS: u32 = 65536;
+
+/// Writes all that is due, as much at once as is gathered, in `ROUNDS` buffers at most.
+pub(crate) fn say<E: End, W: Wires>(
+    end: &mut E,
+    going: &mut Octets,
+    wires: &mut W,
+    link: u32,
+) -> Result<(), Ended>
+    requires open { (W.state wires.old link).is_open ≡ true }
+    ensures failed { IfErr result (λ ended. (ended ≡ EndedValue.NoMemory)
+        ⊎ ((ended ≡ EndedValue.WireFault)
+        × Rose (W.state wires.old link).faults (W.state wires.new link).faults)) }
+
+    // What stays.
+    ensures keeps { Keeps link
+        (record {
+          state = W.state wires.old;
+          counts = W.counts wires.old;
+          asked = W.asked wires.old;
+          lent = W.lent wires.old;
+        })
+        (record {
+          state = W.state wires.new;
+          counts = W.counts wires.new;
+          asked = W.asked wires.new;
+          lent = W.lent wires.new;
+        }) }
+    ensures same_counts { W.counts wires.new ≡ W.counts wires.old }
+    ensures same_reads { SameReads (W.state wires.old link) (W.state wires.new link) }
+{
+    for _ in 0..ROUNDS {
+        let Ok(is_more) = gather_some(end, going) else {
+            return Err(Ended::NoMemory);
+        };
+        let written = write_link(wires, link, going.as_slice());
+        going.clear();
+        match written {
+            Ok(()) => {}
+            Err(Failed) => return Err(Ended::WireFault),
+        }
+        if !is_more {
+            return Ok(());
+        }
+    }
+    Ok(())
+}
+
+/// Gathers what is due, as far as the buffer goes.
+fn gather_some<E: End>(end: &mut E, going: &mut Octets) -> Result<bool, NoMemory> {
+    // It takes memory only where the room isn't there.
+    going.reserve(BUFFER)?;
+    end.gather(going)
+}

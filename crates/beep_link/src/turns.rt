@@ -1,0 +1,125 @@
+//! The turns over a link.
+ghost use Rattle.std.specs.Prelude.{◌≡◌, ◌≤◌, ◌<◌, ◌+◌, ◌*◌, ℕ, true, false, OnOk, IfErr, vec_len};
+ghost use Rattle.beep_wires.specs.Links.{Link};
+ghost use Rattle.beep_link.specs.Causes.{CountsQuiet, IsCaused, IsUnused, IsWritten, Keeps, reads_left, TellsLeft};
+ghost use Rattle.beep_link.specs.declared.buffers.TheConstants.{BUFFER};
+
+use crate::buffers::{BUFFER, Buffers};
+use crate::end::End;
+use crate::ended::Ended;
+use crate::left::{Left, Reads};
+use crate::read::read_once;
+use crate::say::say;
+use beep_octets::NoMemory;
+use beep_wires::{Failed, Got, Sink, Wires};
+use std::alloc::Global;
+
+/// Turns of an end over a link, until its session has ended.
+pub fn run_turns<E: End, W: Wires, O: Sink>(
+    alloc: Global,
+    end: &mut E,
+    wires: &mut W,
+    link: u32,
+    reads: Reads,
+    output: &mut O,
+) -> Ended
+    requires unused { IsUnused (W.state wires.old link) }
+    ensures caused { IsCaused result reads
+        (record { link = W.state wires.old link; quiets = (W.counts wires.old).quiets })
+        (record { link = W.state wires.new link; quiets = (W.counts wires.new).quiets }) }
+    ensures written { IsWritten result (O.state output.old).faults (O.state output.new).faults }
+
+    // What stays, and how often is read.
+    ensures keeps { Keeps link
+        (record {
+          state = W.state wires.old;
+          counts = W.counts wires.old;
+          asked = W.asked wires.old;
+          lent = W.lent wires.old;
+        })
+        (record {
+          state = W.state wires.new;
+          counts = W.counts wires.new;
+          asked = W.asked wires.new;
+          lent = W.lent wires.new;
+        }) }
+    ensures kept { (O.state output.old).faults ≤ (O.state output.new).faults }
+    ensures reads { (W.state wires.new link).reads ≤ (W.state wires.old link).reads
+        + (reads.octets * (reads.idle + 1) + reads.idle + 1) }
+{
+    let Ok(mut buffers) = Buffers::new(alloc) else {
+        return Ended::NoMemory;
+    };
+    let mut left = Left::of(reads);
+    loop {
+        match turn(end, &mut buffers, wires, link, reads, &mut left, output) {
+            Ok(()) => {}
+            Err(ended) => return ended,
+        }
+    }
+}
+
+/// Says what is due, looks whether the session has ended, and reads once.
+fn turn<E: End, W: Wires, O: Sink>(
+    end: &mut E,
+    buffers: &mut Buffers,
+    wires: &mut W,
+    link: u32,
+    reads: Reads,
+    left: &mut Left,
+    output: &mut O,
+) -> Result<(), Ended>
+    requires open { (W.state wires.old link).is_open ≡ true }
+    requires going { (W.state wires.old link).has_ended ≡ false }
+    requires told { TellsLeft reads left.old (W.state wires.old link).log }
+    requires buffer { vec_len buffers.old.coming ≡ BUFFER }
+    ensures going { OnOk result ((W.state wires.new link).has_ended ≡ false) }
+    ensures falls { OnOk result (reads_left reads left.new < reads_left reads left.old) }
+    ensures told { OnOk result (TellsLeft reads left.new (W.state wires.new link).log) }
+    ensures counted { (before : ℕ) → CountsQuiet before left.old (W.counts wires.old).quiets
+        → OnOk result (CountsQuiet before left.new (W.counts wires.new).quiets) }
+    ensures caused { (before : Link) (quiets : ℕ) → before.faults ≤ (W.state wires.old link).faults
+        → CountsQuiet quiets left.old (W.counts wires.old).quiets
+        → IfErr result (λ ended. IsCaused ended reads (record { link = before; quiets = quiets })
+        (record { link = W.state wires.new link; quiets = (W.counts wires.new).quiets })) }
+    ensures written { IfErr result (λ ended.
+        IsWritten ended (O.state output.old).faults (O.state output.new).faults) }
+
+    // What stays.
+    ensures keeps { Keeps link
+        (record {
+          state = W.state wires.old;
+          counts = W.counts wires.old;
+          asked = W.asked wires.old;
+          lent = W.lent wires.old;
+        })
+        (record {
+          state = W.state wires.new;
+          counts = W.counts wires.new;
+          asked = W.asked wires.new;
+          lent = W.lent wires.new;
+        }) }
+    ensures kept { (O.state output.old).faults ≤ (O.state output.new).faults }
+    ensures reads { (W.state wires.new link).reads ≤ (W.state wires.old link).reads + 1 }
+    ensures buffer { vec_len buffers.new.coming ≡ BUFFER }
+{
+    say(end, &mut buffers.going, wires, link)?;
+    if end.is_over() {
+        return Err(Ended::Released);
+    }
+    if let Some(ended) = left.is_spent(reads) {
+        return Err(ended);
+    }
+    match read_once(&mut buffers.coming, wires, link, reads, left) {
+        Ok(Got::Bytes(count)) => match end.hear(&buffers.coming[..count], output) {
+            Ok(()) => Ok(()),
+            Err(stop) => Err(Ended::of(stop)),
+        },
+        Ok(Got::Quiet) => Ok(()),
+        Ok(Got::End) => Err(Ended::Cut(end.left())),
+        Err(Failed) => Err(Ended::WireFault),
+    }
+}
+
+#[cfg(test)]
+mod tests;

@@ -1,0 +1,101 @@
+ghost use Rattle.std.specs.Prelude.{◌≡◌, ◌≤◌, true, IfErr};
+ghost use Rattle.beep_wires.specs.Counts.{Rose};
+ghost use Rattle.beep_link.specs.declared.ended.Stop.{Stop as StopValue};
+
+use super::*;
+use crate::ended::Stop;
+use beep_memory::{Give, Gives, MemWires};
+use beep_octets::Octets;
+use beep_wires::{Fails, NullSink};
+use std::test::Fail;
+
+/// An end that says `hello` and then one octet more for each read, until it hears a full stop.
+#[derive(Drop)]
+struct Echo {
+    due: u32,
+    is_over: bool,
+}
+
+impl End for Echo {
+    fn gather(&mut self, out: &mut Octets) -> Result<bool, NoMemory> {
+        if self.due == 0 {
+            return Ok(false);
+        }
+        out.extend(b"hello")?;
+        self.due -= 1;
+        Ok(true)
+    }
+
+    fn hear<O: Sink>(&mut self, bytes: &[u8], _output: &mut O) -> Result<(), Stop>
+        ensures failed { IfErr result (λ stop. stop ≡ StopValue.WriteFault
+            → Rose (O.state _output.old).faults (O.state _output.new).faults) }
+        ensures kept { (O.state _output.old).faults ≤ (O.state _output.new).faults }
+    {
+        for octet in bytes {
+            if *octet == b'.' {
+                return Err(Stop::Released);
+            }
+        }
+        self.due = 1;
+        Ok(())
+    }
+
+    fn is_over(&self) -> bool {
+        self.is_over
+    }
+
+    fn left(&self) -> u64 {
+        7
+    }
+}
+
+/// A link that gives these pieces: `~` is a quiet read.
+fn add(alloc: Global, wires: &mut MemWires, text: &str) -> Result<(), NoMemory> {
+    let mut gives = Gives::new(alloc);
+    for piece in text.split("|") {
+        if piece == "~" {
+            gives.push(Give::Quiet)?;
+        } else if !piece.is_empty() {
+            let mut octets = Octets::new(alloc);
+            octets.extend(piece.as_bytes())?;
+            gives.push(Give::Bytes(octets))?;
+        }
+    }
+    if gives.are_some() {
+        wires.add(gives, 18)?;
+    }
+    Ok(())
+}
+
+// What the peer says, how many octets and quiet reads there may be, how it ends, and what is said.
+// The room of the link is 18 octets.
+#[test]
+fn a_session_ends_by_its_first_cause(rt: HostRuntime) -> Result<(), Fail> {
+    let alloc = rt.alloc();
+    let rows = [
+        ("", 9, 2, Ended::Cut(7), "hello"),
+        ("a|.", 9, 2, Ended::Released, "hellohello"),
+        ("a|~|~", 9, 2, Ended::Idle(2), "hellohello"),
+        ("~|a|~|b|~|~", 9, 2, Ended::Idle(2), "hellohellohello"),
+        ("a|b", 2, 2, Ended::Spent(2), "hellohellohello"),
+        ("a|bc.", 2, 2, Ended::Spent(2), "hellohellohello"),
+        ("a|b|c", 9, 2, Ended::WireFault, "hellohellohellohel"),
+    ];
+    for (said, octets, idle, want, says) in rows {
+        let mut wires = MemWires::new(alloc, Fails::new(alloc));
+        add(alloc, &mut wires, said)?;
+        let Ok(link) = wires.accept(601) else {
+            return Err("no link".into());
+        };
+        let mut end = Echo {
+            due: 1,
+            is_over: false,
+        };
+        let mut none = NullSink;
+        let reads = Reads { octets, idle };
+        let ended = run_turns(alloc, &mut end, &mut wires, link, reads, &mut none);
+        assert_eq!(rt; ended, want, "at {said}");
+        assert_eq!(rt; wires.written(link), says.as_bytes(), "at {said}");
+    }
+    Ok(())
+}
