@@ -1,0 +1,3 @@
+-- Proofs.
+mod GatherLemmas
+mod LineLemmas
