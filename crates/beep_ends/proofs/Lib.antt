@@ -1,0 +1,4 @@
+-- Proofs.
+mod DefaultsLemmas
+pub mod FitLemmas
+mod NoteLemmas

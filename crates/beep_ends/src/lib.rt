@@ -1,0 +1,19 @@
+//! One end of a session over one link: `listen`, which takes lines of syslog, and `send`, which
+//! gives them, by the profile RAW (RFC 3195, section 3).
+#![tactic(auto)]
+
+mod bodies;
+mod fit;
+mod hearing;
+mod lines;
+mod listener;
+mod listening;
+#[cfg(test)]
+mod samples;
+mod sender;
+mod sending;
+
+pub use beep_link::Ended;
+pub use fit::are_fit;
+pub use listening::listen_end;
+pub use sending::send_end;

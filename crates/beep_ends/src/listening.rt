@@ -1,0 +1,93 @@
+//! A listener over one link.
+ghost use Rattle.std.specs.Prelude.{◌≡◌, ◌≤◌, ◌+◌, ◌*◌, map, true, IfOk, OnOk};
+ghost use Rattle.std.specs.List.{list_all};
+ghost use Rattle.beep_answering.specs.Decided.{NoneTunes};
+ghost use Rattle.beep_answering.specs.Sent.{is_uri};
+ghost use Rattle.beep_decide.specs.Plain.{plain_offer};
+ghost use Rattle.beep_link.specs.Causes.{IsCaused, IsUnused, IsWritten, Keeps};
+ghost use Rattle.beep_ends.specs.Ends.{AreFit, reads_of};
+
+use crate::fit::{limits_of, reads_of};
+use crate::listener::Listener;
+use beep_answering::Offers;
+use beep_chars::Text;
+use beep_decide::Offer;
+use beep_journal::Role;
+use beep_link::{Ended, run_turns};
+use beep_octets::NoMemory;
+use beep_session::Session;
+use beep_settings::Settings;
+use beep_wires::{Sink, Wires};
+use std::alloc::Global;
+
+/// Listens on one link, until its session ends.
+pub fn listen_end<W: Wires, O: Sink>(
+    alloc: Global,
+    wires: &mut W,
+    link: u32,
+    settings: &Settings,
+    output: &mut O,
+) -> Ended
+    requires fit { AreFit settings.now }
+    requires unused { IsUnused (W.state wires.old link) }
+    ensures caused { IsCaused result (reads_of settings.now)
+        (record { link = W.state wires.old link; quiets = (W.counts wires.old).quiets })
+        (record { link = W.state wires.new link; quiets = (W.counts wires.new).quiets }) }
+    ensures written { IsWritten result (O.state output.old).faults (O.state output.new).faults }
+
+    // What stays, and how often is read.
+    ensures keeps { Keeps link
+        (record {
+          state = W.state wires.old;
+          counts = W.counts wires.old;
+          asked = W.asked wires.old;
+          lent = W.lent wires.old;
+        })
+        (record {
+          state = W.state wires.new;
+          counts = W.counts wires.new;
+          asked = W.asked wires.new;
+          lent = W.lent wires.new;
+        }) }
+    ensures kept { (O.state output.old).faults ≤ (O.state output.new).faults }
+    ensures reads { (W.state wires.new link).reads ≤ (W.state wires.old link).reads
+        + (settings.now.octets * (settings.now.idle + 1) + settings.now.idle + 1) }
+{
+    let Ok(mut listener) = begin(alloc, settings) else {
+        return Ended::NoMemory;
+    };
+    run_turns(
+        alloc,
+        &mut listener,
+        wires,
+        link,
+        reads_of(settings),
+        output,
+    )
+}
+
+/// A listener that offers the profile RAW.
+fn begin(alloc: Global, settings: &Settings) -> Result<Listener, NoMemory>
+    requires fit { AreFit settings.now }
+{
+    let offers = one_offer(alloc, &settings.raw_uri)?;
+    let session = Session::new(alloc, Role::Listener, offers, limits_of(settings))?;
+    Listener::new(alloc, session)
+}
+
+/// One profile that is offered, and isn't tuning.
+fn one_offer(alloc: Global, uri: &Text) -> Result<Offers, NoMemory>
+    requires uri { is_uri uri.now ≡ true }
+    ensures uris { IfOk result (λ offers. list_all (λ offer. is_uri offer.uri) offers ≡ true) }
+    ensures none { IfOk result (λ offers. NoneTunes (map plain_offer offers)) }
+{
+    let mut offers = Offers::new(alloc);
+    offers.push(Offer {
+        uri: uri.copy()?,
+        tuning: false,
+    })?;
+    Ok(offers)
+}
+
+#[cfg(test)]
+mod tests;

@@ -1,0 +1,79 @@
+//! A sender over one link.
+ghost use Rattle.std.specs.Prelude.{◌≡◌, ◌≢◌, ◌≤◌, ◌+◌, ◌*◌};
+ghost use Rattle.beep_link.specs.Causes.{IsCaused, IsUnused, Keeps};
+ghost use Rattle.beep_link.specs.declared.ended.Ended.{Ended as EndedValue};
+ghost use Rattle.beep_ends.specs.Ends.{AreFit, reads_of};
+
+use crate::fit::{limits_of, reads_of};
+use crate::sender::Sender;
+use beep_answering::Offers;
+use beep_journal::Role;
+use beep_link::{Ended, run_turns};
+use beep_octets::NoMemory;
+use beep_session::Session;
+use beep_settings::Settings;
+use beep_wires::{NullSink, Wires};
+use prof_raw::Entries;
+use std::alloc::Global;
+
+/// Sends lines on one link, until its session ends. Each has 1 to 8,192 octets, and no LF.
+pub fn send_end<W: Wires>(
+    alloc: Global,
+    wires: &mut W,
+    link: u32,
+    settings: &Settings,
+    lines: &Entries,
+) -> Ended
+    requires fit { AreFit settings.now }
+    requires unused { IsUnused (W.state wires.old link) }
+    ensures caused { IsCaused result (reads_of settings.now)
+        (record { link = W.state wires.old link; quiets = (W.counts wires.old).quiets })
+        (record { link = W.state wires.new link; quiets = (W.counts wires.new).quiets }) }
+    ensures unwritten { result ≢ EndedValue.WriteFault }
+
+    // What stays, and how often is read.
+    ensures keeps { Keeps link
+        (record {
+          state = W.state wires.old;
+          counts = W.counts wires.old;
+          asked = W.asked wires.old;
+          lent = W.lent wires.old;
+        })
+        (record {
+          state = W.state wires.new;
+          counts = W.counts wires.new;
+          asked = W.asked wires.new;
+          lent = W.lent wires.new;
+        }) }
+    ensures reads { (W.state wires.new link).reads ≤ (W.state wires.old link).reads
+        + (settings.now.octets * (settings.now.idle + 1) + settings.now.idle + 1) }
+{
+    let Ok(mut sender) = begin(alloc, settings, lines) else {
+        return Ended::NoMemory;
+    };
+    let mut none = NullSink;
+    run_turns(
+        alloc,
+        &mut sender,
+        wires,
+        link,
+        reads_of(settings),
+        &mut none,
+    )
+}
+
+/// A sender that asks for the profile RAW.
+fn begin<'l>(
+    alloc: Global,
+    settings: &'l Settings,
+    lines: &'l Entries,
+) -> Result<Sender<'l>, NoMemory>
+    requires fit { AreFit settings.now }
+{
+    let offers = Offers::new(alloc);
+    let session = Session::new(alloc, Role::Initiator, offers, limits_of(settings))?;
+    Sender::new(alloc, session, &settings.raw_uri, lines)
+}
+
+#[cfg(test)]
+mod tests;
