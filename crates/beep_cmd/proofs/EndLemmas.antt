@@ -13,11 +13,12 @@ use Rattle.beep_frame.proofs.AliveLemmas.{unfinished_line}
 use Rattle.beep_wires.specs.Counts.{Rose}
 use Rattle.beep_wires.specs.States.{SourceState, SinkState}
 use Rattle.beep_wires.specs.Transfer.{AppendsPrefix}
-use Rattle.beep_cmd.specs.declared.words.Settings.{Settings}
+use Rattle.beep_words.specs.declared.command.ShowSettings.{ShowSettings as Settings}
 use Rattle.beep_cmd.specs.declared.listing.Lister.{Lister}
 use Rattle.beep_cmd.specs.declared.ending.Ending.{Ending}
 use Rattle.beep_cmd.specs.Texts.{AreLines, totals, totals_line, cut_line, spent_line, read_fault_line, broken_line}
-use Rattle.beep_cmd.specs.Show.{IsRead, IsText, IsBroken, HasEnded, IsReport, whole, broken, read_fault, cut, spent, BeginsLines, in_lines, in_report, Saw, run_of, Shown, report, write_fault, no_memory}
+use Rattle.beep_cmd.specs.Show.{IsRead, IsText, IsBroken, IsReport, whole, broken, read_fault, cut, spent, BeginsLines, in_lines, in_report, Saw, run_of, Shown, report, write_fault, no_memory}
+use Rattle.beep_input.specs.Whole.{HasEnded}
 use Rattle.beep_cmd.specs.LastLine.{status_of, last_line}
 use Rattle.beep_cmd.specs.Listing.{Holds, IsClear, gathered}
 use Rattle.beep_cmd.specs.Passing.{BreaksIn, FramesOf, all_of, up_to, FirstOf, Went, WentTo, WentShort, WentFirst, Goes}

@@ -8,7 +8,7 @@ use Rattle.beep_frame.specs.Frame.{Frame}
 use Rattle.beep_wires.specs.Counts.{Rose}
 use Rattle.beep_wires.specs.States.{SourceState, SinkState}
 use Rattle.beep_wires.specs.Transfer.{AppendsPrefix}
-use Rattle.beep_cmd.specs.declared.words.Settings.{Settings}
+use Rattle.beep_words.specs.declared.command.ShowSettings.{ShowSettings as Settings}
 use Rattle.beep_cmd.specs.declared.listing.Lister.{Lister}
 use Rattle.beep_cmd.specs.declared.listing.TheConstants.{PIECE}
 use Rattle.beep_cmd.specs.declared.ending.Ending.{Ending}

@@ -1,13 +1,14 @@
-mod WordLemmas
 mod CommandLemmas
 mod EntryLemmas
 mod ListingLemmas
 mod PieceLemmas
 mod PassLemmas
 mod GoLemmas
-mod InputLemmas
 mod PlaceLemmas
 mod JudgeLemmas
 mod EndLemmas
 mod CompleteLemmas
 mod ExcludedLemmas
+mod ServingLemmas
+mod EndsLemmas
+mod StatusLemmas

@@ -9,12 +9,13 @@ use Rattle.beep_frame.specs.Modulo.{modulo_2_64}
 use Rattle.beep_wires.specs.Counts.{Rose}
 use Rattle.beep_wires.specs.States.{SourceState, SinkState}
 use Rattle.beep_wires.specs.Transfer.{AppendsPrefix}
-use Rattle.beep_cmd.specs.declared.words.Settings.{Settings}
+use Rattle.beep_words.specs.declared.command.ShowSettings.{ShowSettings as Settings}
 use Rattle.beep_cmd.specs.declared.listing.Lister.{Lister}
 use Rattle.beep_cmd.specs.declared.ending.Ending.{Ending}
 use Rattle.beep_frame.specs.declared.limits.TheConstants.{MAX_PAYLOAD}
 use Rattle.beep_cmd.specs.Texts.{AreLines}
-use Rattle.beep_cmd.specs.Show.{IsRead, HasEnded}
+use Rattle.beep_cmd.specs.Show.{IsRead}
+use Rattle.beep_input.specs.Whole.{HasEnded}
 use Rattle.beep_cmd.specs.Listing.{Reads, IsClear, gathered}
 use Rattle.beep_frame.specs.Fed.{fed_of}
 

@@ -10,7 +10,8 @@ use Rattle.beep_frame.specs.declared.limits.TheConstants.{MAX_PAYLOAD}
 use Rattle.beep_wires.specs.Counts.{Rose}
 use Rattle.beep_wires.specs.States.{SourceState, SinkState}
 use Rattle.beep_wires.specs.Transfer.{AppendsPrefix}
-use Rattle.beep_cmd.specs.declared.words.Settings.{Settings}
+use Rattle.beep_input.specs.Whole.{HasEnded}
+use Rattle.beep_words.specs.declared.command.ShowSettings.{ShowSettings as Settings}
 use Rattle.beep_cmd.specs.Texts.{AreLines, totals, usage_line, read_fault_line, cut_line, spent_line, broken_line}
 
 -- the octets are these frames and this rest, and no header that is whole says a size above the
@@ -71,10 +72,6 @@ pub record IsSpent (settings : Settings) (octets text : List ℕ) : Type 0 where
   pub read : IsRead octets frames rest
   pub all : length octets ≡ settings.octets
   pub is_text : IsText settings frames (spent_line settings.octets) text
-
--- the input was read to its end
-abbrev pub HasEnded : SourceState → Type 0
-HasEnded source = (source.ended ≡ true) × IsAtEnd source.left
 
 -- a report, its status and its cause, of a source before the run and after it
 pub data IsReport (settings : Settings) (old new : SourceState) (octets text : List ℕ) (status : ℕ)

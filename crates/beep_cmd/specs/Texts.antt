@@ -1,6 +1,6 @@
--- What is written: for `show` a line for each frame, and a last line; the last lines of `replay`.
+-- What is written: for `show` a line for each frame, and a last line; the last lines of the others.
 -- The code keeps no frame: it hands on the octets of each header as they came.
-use Rattle.std.specs.Prelude.{◌≡◌, ℕ, ◌<◌, ◌≤◌, ◌==◌, Bool, true, false, ◌&&◌, not, List, [], ◌∷◌, ◌++◌, length, codes, if◌then◌else◌}
+use Rattle.std.specs.Prelude.{◌≡◌, ℕ, ◌+◌, ◌/◌, ◌%◌, ◌<◌, ◌≤◌, ◌==◌, Bool, true, false, ◌&&◌, not, List, [], ◌∷◌, ◌++◌, length, codes, if◌then◌else◌}
 use Rattle.std.specs.Fmt.{decimal}
 use Rattle.std.specs.List.{flat_map}
 use Rattle.beep_frame.specs.declared.rule.Rule.{Rule}
@@ -136,6 +136,22 @@ broken_line rule place = rule_line (codes "! broken ") rule place
 abbrev pub written_line : Rule → ℕ → List ℕ
 written_line rule place = rule_line (codes "! written ") rule place
 
--- an input that isn't what is read, from an octet on
+-- a link that failed, or that wasn't given
+abbrev pub wire_fault_line : List ℕ
+wire_fault_line = codes "! wire fault\n"
+
+-- the last three digits of a number
+abbrev pub three_digits : ℕ → List ℕ
+three_digits n = (48 + n / 100 % 10) ∷ (48 + n / 10 % 10) ∷ (48 + n % 10) ∷ []
+
+-- what a peer refused, with its code
+abbrev pub refused_line : ℕ → List ℕ
+refused_line code = codes "! refused " ++ three_digits code ++ 10 ∷ []
+
+-- so many quiet reads, one after another
+abbrev pub idle_line : ℕ → List ℕ
+idle_line n = codes "! idle " ++ decimal n ++ 10 ∷ []
+
+-- an input that isn't what is read, from an octet on, or its line of this number
 abbrev pub bad_line : ℕ → List ℕ
 bad_line place = codes "! bad " ++ decimal place ++ 10 ∷ []

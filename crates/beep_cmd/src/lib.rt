@@ -1,16 +1,15 @@
-//! The commands of `beep`, over any source and sink: words, statuses and last lines.
+//! The commands of `beep`, over any source, sink and links: words, statuses and last lines.
 #![tactic(auto)]
 
+mod closing;
 mod ending;
-mod input;
+mod listen;
 mod listing;
 mod replay;
 mod run;
+mod send;
 mod show;
 mod text;
-mod words;
 mod zero;
 
-pub use input::MAX_INPUT;
 pub use run::beep_run;
-pub use words::OCTETS;

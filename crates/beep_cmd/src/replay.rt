@@ -1,13 +1,14 @@
 //! The command `replay`: a recorded session, judged by the rules of both of its directions.
 ghost use Rattle.std.specs.Prelude.{◌≡◌, ◌+◌, ◌≤◌, ◌++◌, false, [], length, IfOk, OnErr};
 ghost use Rattle.beep_wires.specs.States.{SourceState, SinkState};
-ghost use Rattle.beep_cmd.specs.Gathering.{ReadsFew};
+ghost use Rattle.beep_input.specs.Whole.{ReadsFew};
+ghost use Rattle.beep_input.specs.declared.whole.TheConstants.{MAX_INPUT};
 ghost use Rattle.beep_cmd.specs.Judging.{ReportsLog, ReportsInput, verdict_status, verdict_line};
 ghost use Rattle.beep_cmd.specs.Replay.{Replayed, IsJudgement};
 ghost use Rattle.beep_cmd.specs.Show.{run_of};
 
-use crate::input::{MAX_INPUT, Unread, read_input};
 use crate::text::{LAST_ROOM, append_broken, append_numbered, append_written};
+use beep_input::{MAX_INPUT, Unread, read_input};
 use beep_octets::{NoMemory, Octets};
 use beep_record::{Log, RecordError, Verdict, read_record};
 use beep_wires::{Failed, Sink, Source, write_all};
@@ -52,11 +53,11 @@ fn tell_input<I: Source>(alloc: Global, input: &mut I, out: &mut Octets) -> Resu
 {
     out.reserve(LAST_ROOM)?;
     match read_input(alloc, input) {
-        Ok(octets) => tell_record(octets, out),
-        Err(Unread::TooLong) => {
+        Ok(octets) if octets.len() > MAX_INPUT => {
             append_numbered(out, b"! bad ", MAX_INPUT as u64);
             Ok(2)
         }
+        Ok(octets) => tell_record(octets, out),
         Err(Unread::Fault) => {
             out.extend_within(b"! read fault\n");
             Ok(4)

@@ -1,25 +1,31 @@
 //! The one call of the program.
 ghost use Rattle.std.specs.Prelude.{◌≡◌, ◌⊎◌, ◌+◌, ◌≤◌, ℕ, List, Some, false, map, string_bytes};
-ghost use Rattle.beep_cmd.specs.CommandSet.{IsShow, IsReplay, IsNoCommand};
+ghost use Rattle.beep_words.specs.CommandSet.{IsShow, IsReplay, IsSend, IsListen, IsNoCommand};
+ghost use Rattle.beep_words.specs.declared.command.ShowSettings.{ShowSettings as settings_type};
+ghost use Rattle.beep_settings.specs.declared.settings.Settings.{Settings as end_settings};
+ghost use Rattle.beep_input.specs.declared.whole.TheConstants.{MAX_INPUT};
+ghost use Rattle.beep_wires.specs.States.{SourceState};
 ghost use Rattle.beep_cmd.specs.Show.{Shown, Refused, IsPlain, NoFault, run_of};
 ghost use Rattle.beep_cmd.specs.Replay.{Replayed, IsLawful};
-ghost use Rattle.beep_wires.specs.States.{SourceState};
-ghost use Rattle.beep_cmd.specs.declared.words.Settings.{Settings as settings_type};
+ghost use Rattle.beep_cmd.specs.Ends.{AcceptsAtMost, DialsOnce, Listened, seen_of, Sent};
 
-use crate::input::MAX_INPUT;
+use crate::listen::listen;
 use crate::replay::replay;
+use crate::send::send;
 use crate::show::show;
-use crate::words::{Command, command_of};
-use beep_wires::{Failed, Sink, Source, write_all};
+use beep_octets::NoMemory;
+use beep_wires::{Failed, Sink, Source, Wires, write_all};
+use beep_words::{Command, command_of};
 use std::alloc::Global;
 
 /// Runs the command that `words` name, the words after the program's name, and answers the exit
-/// status (docs/COMMANDS.md). It reads `input` and writes `output`, and nothing else.
-pub fn beep_run<I: Source, O: Sink>(
+/// status (docs/COMMANDS.md). It reads `input`, writes `output`, and makes links by `wires`.
+pub fn beep_run<I: Source, O: Sink, W: Wires>(
     alloc: Global,
     words: &[String],
     input: &mut I,
     output: &mut O,
+    wires: &mut W,
 ) -> u8
     requires going { (I.state input.old).ended ≡ false }
     // What each status comes from.
@@ -42,8 +48,35 @@ pub fn beep_run<I: Source, O: Sink>(
         → NoFault (run_of (I.state input.old) (I.state input.new)
         (O.state output.old) (O.state output.new)) → (result ≡ 0) ⊎ (result ≡ 7) }
 
+    ensures sent { (settings : end_settings) → IsSend settings (map string_bytes words.now)
+        → Sent settings (seen_of (W.state wires.old) (W.counts wires.old)
+        (W.asked wires.old) (W.lent wires.old)) (seen_of (W.state wires.new) (W.counts wires.new)
+        (W.asked wires.new) (W.lent wires.new)) result (run_of (I.state input.old)
+        (I.state input.new) (O.state output.old) (O.state output.new)) }
+    ensures listened { (settings : end_settings) → IsListen settings (map string_bytes words.now)
+        → Listened settings (seen_of (W.state wires.old) (W.counts wires.old)
+        (W.asked wires.old) (W.lent wires.old)) (seen_of (W.state wires.new) (W.counts wires.new)
+        (W.asked wires.new) (W.lent wires.new)) result (run_of (I.state input.old)
+        (I.state input.new) (O.state output.old) (O.state output.new)) }
+    ensures usage { result ≡ 1 → IsNoCommand (map string_bytes words.now) }
+
+    // What is asked for.
+    ensures dials { (settings : end_settings) → IsSend settings (map string_bytes words.now)
+        → DialsOnce settings (seen_of (W.state wires.old) (W.counts wires.old)
+        (W.asked wires.old) (W.lent wires.old)) (seen_of (W.state wires.new) (W.counts wires.new)
+        (W.asked wires.new) (W.lent wires.new)) }
+    ensures accepts { (settings : end_settings) → IsListen settings (map string_bytes words.now)
+        → AcceptsAtMost settings (seen_of (W.state wires.old) (W.counts wires.old)
+        (W.asked wires.old) (W.lent wires.old)) (seen_of (W.state wires.new) (W.counts wires.new)
+        (W.asked wires.new) (W.lent wires.new)) }
+
     // What stays.
     ensures unread { IsNoCommand (map string_bytes words.now) → input.new ≡ input.old }
+    ensures unlinked { (settings : settings_type) → IsShow settings (map string_bytes words.now)
+        ⊎ IsReplay (map string_bytes words.now) ⊎ IsNoCommand (map string_bytes words.now)
+        → wires.new ≡ wires.old }
+    ensures listen_unread { (settings : end_settings)
+        → IsListen settings (map string_bytes words.now) → input.new ≡ input.old }
     ensures no_memory { (settings : settings_type) → IsShow settings (map string_bytes words.now)
         → result ≡ 7 → settings.elements ≡ false
         → (input.new ≡ input.old) × (output.new ≡ output.old) }
@@ -51,13 +84,18 @@ pub fn beep_run<I: Source, O: Sink>(
         → (I.state input.new).reads ≤ (I.state input.old).reads + (settings.octets + 1) }
     ensures replay_no_memory { IsReplay (map string_bytes words.now)
         → result ≡ 7 → output.new ≡ output.old }
+    ensures send_reads { (settings : end_settings) → IsSend settings (map string_bytes words.now)
+        → (I.state input.new).reads ≤ (I.state input.old).reads + (MAX_INPUT + 1) }
     ensures replay_reads { IsReplay (map string_bytes words.now)
         → (I.state input.new).reads ≤ (I.state input.old).reads + (MAX_INPUT + 1) }
 {
-    match command_of(words) {
-        Some(Command::Show(settings)) => show(alloc, settings, input, output),
-        Some(Command::Replay) => replay(alloc, input, output),
-        None => refuse(output),
+    match command_of(alloc, words) {
+        Ok(Some(Command::Show(settings))) => show(alloc, settings, input, output),
+        Ok(Some(Command::Replay)) => replay(alloc, input, output),
+        Ok(Some(Command::Send(settings))) => send(alloc, &settings, input, output, wires),
+        Ok(Some(Command::Listen(settings))) => listen(alloc, &settings, output, wires),
+        Ok(None) => refuse(output),
+        Err(NoMemory) => 7,
     }
 }
 

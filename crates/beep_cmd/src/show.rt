@@ -5,20 +5,20 @@ ghost use Rattle.beep_wires.specs.States.{SourceState, SinkState};
 ghost use Rattle.beep_cmd.specs.Listing.{Reads};
 ghost use Rattle.beep_cmd.specs.Passing.{Passes, Goes};
 ghost use Rattle.beep_cmd.specs.Show.{Shown, run_of};
-ghost use Rattle.beep_cmd.specs.declared.words.Settings.{Settings as settings_type};
-ghost use Rattle.beep_cmd.specs.declared.words.TheConstants.{MAX_OCTETS};
+ghost use Rattle.beep_words.specs.declared.command.ShowSettings.{ShowSettings as settings_type};
+ghost use Rattle.beep_words.specs.declared.options.TheConstants.{MAX_NUMBER};
 
 use crate::ending::{Ending, append_last};
 use crate::listing::{Listed, Lister, PIECE};
-use crate::words::Settings;
 use beep_octets::NoMemory;
 use beep_wires::{Failed, Sink, Source, write_all};
+use beep_words::ShowSettings;
 use std::alloc::Global;
 
 /// Runs `show`. Without elements it takes all its memory before the first read.
 pub(crate) fn show<I: Source, O: Sink>(
     alloc: Global,
-    settings: Settings,
+    settings: ShowSettings,
     input: &mut I,
     output: &mut O,
 ) -> u8
@@ -41,7 +41,7 @@ pub(crate) fn show<I: Source, O: Sink>(
 /// Writes the last line of an ending, and answers the status.
 fn finish<O: Sink>(lister: &mut Lister, ending: Ending, output: &mut O) -> u8
     ensures finishes { (settings : settings_type) (from to : SourceState) (before : SinkState)
-        → settings.octets ≤ MAX_OCTETS → before.faults ≤ (O.state output.old).faults
+        → settings.octets ≤ MAX_NUMBER → before.faults ≤ (O.state output.old).faults
         → Goes ending settings lister.old from to before (O.state output.old)
         → Shown settings result (run_of from to before (O.state output.new)) }
     ensures answers { result ≡ 7 → ending ≡ Ending.NoMemory }

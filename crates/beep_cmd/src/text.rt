@@ -1,8 +1,8 @@
 //! Texts that are written into room that was taken before.
-ghost use Rattle.std.specs.Prelude.{◌≡◌, ◌+◌, ◌≤◌, ◌++◌, [], ◌∷◌, length};
+ghost use Rattle.std.specs.Prelude.{◌≡◌, ◌+◌, ◌%◌, ◌≤◌, ◌++◌, [], ◌∷◌, length};
 ghost use Rattle.std.specs.Fmt.{decimal};
 ghost use Rattle.beep_octets.specs.Held.{GrowsBy, KeepsRoom};
-ghost use Rattle.beep_cmd.specs.Texts.{rule_name, totals_line, rule_line, broken_line, written_line};
+ghost use Rattle.beep_cmd.specs.Texts.{idle_line, refused_line, rule_name, totals_line, rule_line, broken_line, written_line};
 
 use beep_frame::Rule;
 use beep_octets::Octets;
@@ -66,6 +66,35 @@ pub(crate) fn append_written(out: &mut Octets, rule: Rule, place: u64)
         → out.new.octets ≡ out.old.octets ++ written_line rule place }
 {
     append_rule(out, b"! written ", rule, place);
+}
+
+/// Appends the line of so many quiet reads, where it finds room.
+pub(crate) fn append_idle(out: &mut Octets, reads: u32)
+    ensures appended { LAST_ROOM ≤ out.old.spare
+        → out.new.octets ≡ out.old.octets ++ idle_line reads }
+{
+    append_numbered(out, b"! idle ", u64::from(reads));
+}
+
+/// Appends the line of a refusal, where it finds room: of its code the last three digits.
+pub(crate) fn append_refused(out: &mut Octets, code: u16)
+    ensures appended { LAST_ROOM ≤ out.old.spare
+        → out.new.octets ≡ out.old.octets ++ refused_line code }
+{
+    let digits = [
+        last_digit(code / 100),
+        last_digit(code / 10),
+        last_digit(code),
+    ];
+    out.extend_within(b"! refused ");
+    out.extend_within(&digits);
+    out.extend_within(b"\n");
+}
+
+fn last_digit(n: u16) -> u8
+    ensures { result ≡ 48 + n % 10 }
+{
+    b'0' + (n % 10) as u8
 }
 
 /// Appends a line of a label, a rule and a place, where it finds room.

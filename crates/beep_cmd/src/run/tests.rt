@@ -3,6 +3,7 @@
 ghost use Rattle.std.specs.Prelude.{None};
 
 use super::*;
+use beep_memory::MemWires;
 use beep_octets::Octets;
 use beep_wires::{Fails, MemSink, MemSource, next_count};
 use std::process::Abort;
@@ -79,7 +80,8 @@ fn run(alloc: Global, words: &str, input: &[u8], plan: Plan) -> Result<(u8, MemS
     let mut source = MemSource::new(contents, plan.read_piece.max(1), fails);
     let fails = planned(alloc, plan.failing_write)?;
     let mut sink = MemSink::new(alloc, ROOM, plan.write_piece.max(1), fails)?;
-    let status = beep_run(alloc, words.as_slice(), &mut source, &mut sink);
+    let mut wires = MemWires::new(alloc, Fails::new(alloc));
+    let status = beep_run(alloc, words.as_slice(), &mut source, &mut sink, &mut wires);
     Ok((status, sink))
 }
 
@@ -348,7 +350,8 @@ fn show_pieces(
         reads: 0,
     };
     let mut sink = MemSink::new(alloc, ROOM, ROOM, planned(alloc, failing)?)?;
-    let status = beep_run(alloc, &words, &mut source, &mut sink);
+    let mut wires = MemWires::new(alloc, Fails::new(alloc));
+    let status = beep_run(alloc, &words, &mut source, &mut sink, &mut wires);
     Ok((status, source.reads, sink))
 }
 
@@ -390,4 +393,5 @@ fn lines_are_written_once_their_frames_are_read(rt: HostRuntime) -> Result<(), F
     Ok(())
 }
 
+mod links;
 mod records;

@@ -1,66 +1,217 @@
-use Rattle.std.proofs.Common.{◌≡◌, Some, map, refl, ap, ◌∙◌}
+use Rattle.std.proofs.Common.{◌≡◌, ◌⊎◌, ◌+◌, ◌≤◌, ℕ, List, Some, None, map, refl, ap, sym, ◌∙◌, subst, arith}
 use Rattle.std.specs.String.{string_bytes}
-use Rattle.beep_cmd.specs.declared.words.Settings.{Settings}
-use Rattle.beep_cmd.specs.declared.words.Command.{Command}
-use Rattle.beep_cmd.specs.CommandSet.{IsShow, IsReplay}
-use Rattle.beep_cmd.proofs.CommandLemmas.{same_show, not_replay, not_show, some_command, none_show, none_replay}
+use Rattle.beep_words.specs.declared.command.ShowSettings.{ShowSettings as Settings}
+use Rattle.beep_settings.specs.declared.settings.Settings.{Settings as EndSettings}
+use Rattle.beep_words.specs.declared.command.Command.{Command}
+use Rattle.beep_words.specs.CommandSet.{IsShow, IsReplay, IsSend, IsListen, IsOfEnd}
+use Rattle.beep_words.specs.Usable.{IsUsable}
+use Rattle.beep_words.proofs.UsableLemmas.{send_is_usable, listen_is_usable}
+use Rattle.beep_ends.specs.Ends.{AreFit}
+use Rattle.beep_ends.proofs.FitLemmas.{fit}
+use Rattle.beep_cmd.specs.Ends.{AcceptsAtMost, DialsOnce, IsAcceptOf, IsDialOf, Listened, listen_starved, seen_of, Sent}
+use Rattle.beep_link.specs.Causes.{Seen}
+use Rattle.beep_cmd.specs.Show.{Run, run_of}
+use Rattle.beep_cmd.proofs.CommandLemmas.{listens, no_command, none_listen, none_replay, none_send, none_show, not_listen, not_replay, not_send, not_show, not_unlinked, same_listen, same_send, same_show, sends, some_command}
 use Rattle.beep_cmd.proofs.CompleteLemmas.{complete, shown_as}
+use Rattle.beep_cmd.proofs.EndsLemmas.{starved_at_once}
 use Rattle.beep_cmd.proofs.JudgeLemmas.{lawful}
+use Rattle.beep_cmd.proofs.ServingLemmas.{asks_none}
+use Rattle.beep_cmd.proofs.StatusLemmas.{listened_not, replayed_not, sent_not, shown_not}
 use Rattle.beep_cmd.proofs.run.beep_run.Goals as goal
 
-pub returns-in-Some-Show : goal.returns-in-Some-Show
-returns-in-Some-Show g c =
+-- settings that words say are fit for a session
+usable_fit : (settings : EndSettings) → IsUsable settings → AreFit settings
+usable_fit settings u = fit settings u.ranged.window.0 u.ranged.window.1 u.ranged.piece.0 u.ranged.piece.1 u.some u.few u.allowed
+
+pub send-requires-clause-fit : goal.send-requires-clause-fit
+send-requires-clause-fit g c =
+    let a = c.in-Ok-Some-Send in
+    let w : IsSend a.settings (map string_bytes c.args.words.now) = (a.ensures.ok (Command.Send a.settings)).0 (a.field-0-is ∙ ap Some a.field-0-0-is) in
+    usable_fit a.settings (send_is_usable a.settings _ w)
+
+pub listen-requires : goal.listen-requires
+listen-requires g c =
+    let a = c.in-Ok-Some-Listen in
+    let w : IsListen a.settings (map string_bytes c.args.words.now) = (a.ensures.ok (Command.Listen a.settings)).0 (a.field-0-is ∙ ap Some a.field-0-0-is) in
+    record { fit = usable_fit a.settings (listen_is_usable a.settings _ w) }
+
+pub returns-in-Ok-Some-Show : goal.returns-in-Ok-Some-Show
+returns-in-Ok-Some-Show g c =
     let words = map string_bytes c.args.words.now in
-    let is : c.command_of.result ≡ Some (Command.Show c.in-Some-Show.settings) = c.in-Some-Show.is ∙ ap Some c.in-Some-Show.field-0-is in
-    let same = same_show words c.command_of.result c.command_of.ensures c.in-Some-Show.settings in
-    let other : IsReplay words → ⊥ = not_replay words c.command_of.result c.command_of.ensures _ is in
-    let some = some_command words c.command_of.result c.command_of.ensures _ is in
+    let a = c.in-Ok-Some-Show in
+    let is : a.field-0 ≡ Some (Command.Show a.settings) = a.field-0-is ∙ ap Some a.field-0-0-is in
+    let same = same_show words a.field-0 a.ensures.ok a.settings in
+    let other : IsReplay words → ⊥ = not_replay words a.field-0 a.ensures.ok _ is in
+    let other_send : (settings : EndSettings) → IsSend settings words → ⊥ = not_send words a.field-0 a.ensures.ok _ is (λ settings e. cc) in
+    let other_listen : (settings : EndSettings) → IsListen settings words → ⊥ = not_listen words a.field-0 a.ensures.ok _ is (λ settings e. cc) in
+    let some = some_command words a.field-0 a.ensures.ok _ is in
     record {
       shown = λ settings w. shown_as _ settings _ _ (same settings is w) c.show.ensures.shown;
       replayed = λ w. absurd (other w);
       refused = λ none. absurd (some none);
       complete = λ settings octets w left plain no_fault. complete settings octets _ c.show.result left plain no_fault (shown_as _ settings _ _ (same settings is w) c.show.ensures.shown);
       replay_complete = λ octets w left is_lawful no_fault. absurd (other w);
+      sent = λ settings w. absurd (other_send settings w);
+      listened = λ settings w. absurd (other_listen settings w);
+      usage = λ one. absurd (shown_not a.settings c.show.result _ c.show.ensures.shown one);
+      dials = λ settings w. absurd (other_send settings w);
+      accepts = λ settings w. absurd (other_listen settings w);
       unread = λ none. absurd (some none);
+      unlinked = λ settings w. refl;
+      listen_unread = λ settings w. absurd (other_listen settings w);
       no_memory = λ settings w e no_elements. c.show.ensures.no_memory e (ap (λ (s : Settings). s.elements) (same settings is w) ∙ no_elements);
       reads = λ settings w. rw (← same settings is w) c.show.ensures.reads;
       replay_no_memory = λ w. absurd (other w);
+      send_reads = λ settings w. absurd (other_send settings w);
       replay_reads = λ w. absurd (other w);
     }
 
-pub returns-in-Some-Replay : goal.returns-in-Some-Replay
-returns-in-Some-Replay g c =
+pub returns-in-Ok-Some-Replay : goal.returns-in-Ok-Some-Replay
+returns-in-Ok-Some-Replay g c =
     let words = map string_bytes c.args.words.now in
-    let is : c.command_of.result ≡ Some Command.Replay = c.in-Some-Replay.is ∙ ap Some c.in-Some-Replay.field-0-is in
-    let other : (settings : Settings) → IsShow settings words → ⊥ = λ settings. not_show words c.command_of.result c.command_of.ensures settings is in
-    let some = some_command words c.command_of.result c.command_of.ensures _ is in
+    let a = c.in-Ok-Some-Replay in
+    let is : a.field-0 ≡ Some Command.Replay = a.field-0-is ∙ ap Some a.field-0-0-is in
+    let other : (settings : Settings) → IsShow settings words → ⊥ = λ settings. not_show words a.field-0 a.ensures.ok settings is in
+    let other_send : (settings : EndSettings) → IsSend settings words → ⊥ = not_send words a.field-0 a.ensures.ok _ is (λ settings e. cc) in
+    let other_listen : (settings : EndSettings) → IsListen settings words → ⊥ = not_listen words a.field-0 a.ensures.ok _ is (λ settings e. cc) in
+    let some = some_command words a.field-0 a.ensures.ok _ is in
     record {
       shown = λ settings w. absurd (other settings w);
       replayed = λ w. c.replay.ensures.replayed;
       refused = λ none. absurd (some none);
       complete = λ settings octets w left plain no_fault. absurd (other settings w);
       replay_complete = λ octets w left is_lawful no_fault. lawful octets _ c.replay.result left is_lawful no_fault c.replay.ensures.replayed;
+      sent = λ settings w. absurd (other_send settings w);
+      listened = λ settings w. absurd (other_listen settings w);
+      usage = λ one. absurd (replayed_not c.replay.result _ c.replay.ensures.replayed one);
+      dials = λ settings w. absurd (other_send settings w);
+      accepts = λ settings w. absurd (other_listen settings w);
       unread = λ none. absurd (some none);
+      unlinked = λ settings w. refl;
+      listen_unread = λ settings w. absurd (other_listen settings w);
       no_memory = λ settings w e no_elements. absurd (other settings w);
       reads = λ settings w. absurd (other settings w);
       replay_no_memory = λ w. c.replay.ensures.unwritten;
+      send_reads = λ settings w. absurd (other_send settings w);
       replay_reads = λ w. c.replay.ensures.reads;
     }
 
-pub returns-in-None : goal.returns-in-None
-returns-in-None g c =
+pub returns-in-Ok-Some-Send : goal.returns-in-Ok-Some-Send
+returns-in-Ok-Some-Send g c =
     let words = map string_bytes c.args.words.now in
-    let show : (settings : Settings) → IsShow settings words → ⊥ = λ settings. none_show words c.command_of.result c.command_of.ensures settings c.in-None.is in
-    let replay : IsReplay words → ⊥ = none_replay words c.command_of.result c.command_of.ensures c.in-None.is in
+    let a = c.in-Ok-Some-Send in
+    let is : a.field-0 ≡ Some (Command.Send a.settings) = a.field-0-is ∙ ap Some a.field-0-0-is in
+    let same = same_send words a.field-0 a.ensures.ok a.settings in
+    let of : IsOfEnd words = sends words a.field-0 a.ensures.ok a.settings is in
+    let other : (settings : EndSettings) → IsListen settings words → ⊥ = not_listen words a.field-0 a.ensures.ok _ is (λ settings e. cc) in
+    let before : Seen = seen_of (g.W.Wires.state c.args.wires.now) (g.W.Wires.counts c.args.wires.now) (g.W.Wires.asked c.args.wires.now) (g.W.Wires.lent c.args.wires.now) in
+    let after : Seen = seen_of (g.W.Wires.state c.send.new.wires) (g.W.Wires.counts c.send.new.wires) (g.W.Wires.asked c.send.new.wires) (g.W.Wires.lent c.send.new.wires) in
+    let run : Run = run_of (g.I.Source.state c.args.input.now) (g.I.Source.state c.send.new.input) (g.O.Sink.state c.args.output.now) (g.O.Sink.state c.send.new.output) in
+    record {
+      shown = λ settings w. absurd (of.not_show settings w);
+      replayed = λ w. absurd (of.not_replay w);
+      refused = λ none. absurd (of.some none);
+      complete = λ settings octets w left plain no_fault. absurd (of.not_show settings w);
+      replay_complete = λ octets w left is_lawful no_fault. absurd (of.not_replay w);
+      sent = λ settings w. subst (λ (s : EndSettings). Sent s before after c.send.result run) (same settings is w) c.send.ensures.sent;
+      listened = λ settings w. absurd (other settings w);
+      usage = λ one. absurd (sent_not a.settings before after c.send.result run c.send.ensures.sent one);
+      dials = λ settings w. subst (λ (s : EndSettings). DialsOnce s before after) (same settings is w) c.send.ensures.asks;
+      accepts = λ settings w. absurd (other settings w);
+      unread = λ none. absurd (of.some none);
+      unlinked = λ settings w. absurd (not_unlinked words of settings w);
+      listen_unread = λ settings w. absurd (other settings w);
+      no_memory = λ settings w e no_elements. absurd (of.not_show settings w);
+      reads = λ settings w. absurd (of.not_show settings w);
+      replay_no_memory = λ w. absurd (of.not_replay w);
+      send_reads = λ settings w. c.send.ensures.reads;
+      replay_reads = λ w. absurd (of.not_replay w);
+    }
+
+pub returns-in-Ok-Some-Listen : goal.returns-in-Ok-Some-Listen
+returns-in-Ok-Some-Listen g c =
+    let words = map string_bytes c.args.words.now in
+    let a = c.in-Ok-Some-Listen in
+    let is : a.field-0 ≡ Some (Command.Listen a.settings) = a.field-0-is ∙ ap Some a.field-0-0-is in
+    let same = same_listen words a.field-0 a.ensures.ok a.settings in
+    let of : IsOfEnd words = listens words a.field-0 a.ensures.ok a.settings is in
+    let other : (settings : EndSettings) → IsSend settings words → ⊥ = not_send words a.field-0 a.ensures.ok _ is (λ settings e. cc) in
+    let before : Seen = seen_of (g.W.Wires.state c.args.wires.now) (g.W.Wires.counts c.args.wires.now) (g.W.Wires.asked c.args.wires.now) (g.W.Wires.lent c.args.wires.now) in
+    let after : Seen = seen_of (g.W.Wires.state c.listen.new.wires) (g.W.Wires.counts c.listen.new.wires) (g.W.Wires.asked c.listen.new.wires) (g.W.Wires.lent c.listen.new.wires) in
+    let run : Run = run_of (g.I.Source.state c.args.input.now) (g.I.Source.state c.args.input.now) (g.O.Sink.state c.args.output.now) (g.O.Sink.state c.listen.new.output) in
+    record {
+      shown = λ settings w. absurd (of.not_show settings w);
+      replayed = λ w. absurd (of.not_replay w);
+      refused = λ none. absurd (of.some none);
+      complete = λ settings octets w left plain no_fault. absurd (of.not_show settings w);
+      replay_complete = λ octets w left is_lawful no_fault. absurd (of.not_replay w);
+      sent = λ settings w. absurd (other settings w);
+      listened = λ settings w. subst (λ (s : EndSettings). Listened s before after c.listen.result run) (same settings is w) (c.listen.ensures.listened (g.I.Source.state c.args.input.now));
+      usage = λ one. absurd (listened_not a.settings before after c.listen.result run (c.listen.ensures.listened (g.I.Source.state c.args.input.now)) one);
+      dials = λ settings w. absurd (other settings w);
+      accepts = λ settings w. subst (λ (s : EndSettings). AcceptsAtMost s before after) (same settings is w) c.listen.ensures.asks;
+      unread = λ none. absurd (of.some none);
+      unlinked = λ settings w. absurd (not_unlinked words of settings w);
+      listen_unread = λ settings w. refl;
+      no_memory = λ settings w e no_elements. absurd (of.not_show settings w);
+      reads = λ settings w. absurd (of.not_show settings w);
+      replay_no_memory = λ w. absurd (of.not_replay w);
+      send_reads = λ settings w. absurd (other settings w);
+      replay_reads = λ w. absurd (of.not_replay w);
+    }
+
+pub returns-in-Ok-None : goal.returns-in-Ok-None
+returns-in-Ok-None g c =
+    let words = map string_bytes c.args.words.now in
+    let a = c.in-Ok-None in
+    let is : a.field-0 ≡ None = a.field-0-is in
+    let show : (settings : Settings) → IsShow settings words → ⊥ = λ settings. none_show words a.field-0 a.ensures.ok settings is in
+    let replay : IsReplay words → ⊥ = none_replay words a.field-0 a.ensures.ok is in
+    let send : (settings : EndSettings) → IsSend settings words → ⊥ = none_send words a.field-0 a.ensures.ok is in
+    let listen : (settings : EndSettings) → IsListen settings words → ⊥ = none_listen words a.field-0 a.ensures.ok is in
+    let none = no_command words a.field-0 a.ensures.ok is in
     record {
       shown = λ settings w. absurd (show settings w);
       replayed = λ w. absurd (replay w);
       refused = λ no_command. c.refuse.ensures _;
       complete = λ settings octets w left plain no_fault. absurd (show settings w);
       replay_complete = λ octets w left is_lawful no_fault. absurd (replay w);
+      sent = λ settings w. absurd (send settings w);
+      listened = λ settings w. absurd (listen settings w);
+      usage = λ one command w. none command w;
+      dials = λ settings w. absurd (send settings w);
+      accepts = λ settings w. absurd (listen settings w);
       unread = λ no_command. refl;
+      unlinked = λ settings w. refl;
+      listen_unread = λ settings w. absurd (listen settings w);
       no_memory = λ settings w e no_elements. absurd (show settings w);
       reads = λ settings w. absurd (show settings w);
       replay_no_memory = λ w. absurd (replay w);
+      send_reads = λ settings w. absurd (send settings w);
       replay_reads = λ w. absurd (replay w);
+    }
+
+pub returns-in-Err : goal.returns-in-Err
+returns-in-Err g c =
+    let words = map string_bytes c.args.words.now in
+    let of : IsOfEnd words = c.in-Err.ensures.err in
+    record {
+      shown = λ settings w. absurd (of.not_show settings w);
+      replayed = λ w. absurd (of.not_replay w);
+      refused = λ none. absurd (of.some none);
+      complete = λ settings octets w left plain no_fault. absurd (of.not_show settings w);
+      replay_complete = λ octets w left is_lawful no_fault. absurd (of.not_replay w);
+      sent = λ settings w. starved_at_once settings _ _ _;
+      listened = λ settings w. listen_starved refl;
+      usage = λ one. absurd (omega (arith, one));
+      dials = λ settings w. asks_none (IsDialOf settings) 1 (g.W.Wires.asked c.args.wires.now);
+      accepts = λ settings w. asks_none (IsAcceptOf settings) settings.sessions (g.W.Wires.asked c.args.wires.now);
+      unread = λ none. absurd (of.some none);
+      unlinked = λ settings w. absurd (not_unlinked words of settings w);
+      listen_unread = λ settings w. refl;
+      no_memory = λ settings w e no_elements. absurd (of.not_show settings w);
+      reads = λ settings w. absurd (of.not_show settings w);
+      replay_no_memory = λ w. absurd (of.not_replay w);
+      send_reads = λ settings w. omega arith;
+      replay_reads = λ w. absurd (of.not_replay w);
     }

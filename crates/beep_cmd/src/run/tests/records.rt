@@ -3,6 +3,7 @@
 ghost use Rattle.std.specs.Prelude.{None};
 
 use super::*;
+use beep_input::MAX_INPUT;
 
 /// How a session begins that a listener recorded: both greetings, a start of channel 1, and its
 /// reply. 184 octets were read, and 158 written.
@@ -175,7 +176,8 @@ fn an_input_above_16777216_octets_is_too_long(rt: HostRuntime) -> Result<(), Fai
             reads: 0,
         };
         let mut sink = MemSink::new(rt.alloc(), ROOM, ROOM, Fails::new(rt.alloc()))?;
-        let status = beep_run(rt.alloc(), &words, &mut source, &mut sink);
+        let mut wires = MemWires::new(rt.alloc(), Fails::new(rt.alloc()));
+        let status = beep_run(rt.alloc(), &words, &mut source, &mut sink, &mut wires);
         assert_eq!(rt; (status, source.reads), (2, wanted), "at {octets}");
         assert_eq!(rt; sink.written(), output.as_bytes(), "at {octets}");
     }

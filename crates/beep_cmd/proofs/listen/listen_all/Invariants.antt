@@ -1,0 +1,20 @@
+-- As many links were accepted as there were turns, and what ended the first session that wasn't
+-- released shows in its link.
+use Rattle.std.proofs.Common.{◌≡◌, ◌+◌, ◌≤◌, false}
+use Rattle.beep_cmd.specs.Ends.{AsksOnly, IsAcceptOf, SessionCause, seen_of}
+use Rattle.beep_cmd.specs.Serving.{ends_run, GoesOn}
+use Rattle.beep_cmd.proofs.listen.listen_all.Given as goal
+
+abbrev pub invariant-loop : goal.invariant-loop
+invariant-loop g l =
+    let W = g.W.Wires in
+    let before = seen_of (W.state l.fn.wires) (W.counts l.fn.wires) (W.asked l.fn.wires) (W.lent l.fn.wires) in
+    let now = seen_of (W.state l.wires) (W.counts l.wires) (W.asked l.wires) (W.lent l.wires) in
+    record {
+      goes_on : GoesOn before now;
+      given : now.counts.given ≡ before.counts.given + l.counter;
+      cause : SessionCause l.first l.settings before now;
+      goes : ends_run l.first ≡ false;
+      asks : AsksOnly (IsAcceptOf l.settings) l.counter before.asked now.asked;
+      kept : (g.O.Sink.state l.fn.output).faults ≤ (g.O.Sink.state l.output).faults;
+    }

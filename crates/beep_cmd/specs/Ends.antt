@@ -1,0 +1,174 @@
+-- What `send` and `listen` end with, status by status (RFC 3195, section 3).
+-- Each cause is read off the links after the run; the code hands on what ended a session.
+use Rattle.std.specs.Prelude.{◌≡◌, ◌≢◌, ℕ, ◌+◌, ◌<◌, ◌≤◌, ◌⊎◌, true, Option, Some, None, List, [], ◌∷◌, ◌++◌, length, chars, codes}
+use Rattle.std.specs.List.{AllByRecursion}
+use Rattle.std.specs.Borrow.{GName}
+use Rattle.beep_wires.specs.declared.count.TheConstants.{COUNT_MAX}
+use Rattle.beep_wires.specs.Counts.{Rose}
+use Rattle.beep_wires.specs.States.{SourceState, SinkState}
+use Rattle.beep_wires.specs.Transfer.{AppendsPrefix}
+use Rattle.std.specs.Io.KnownBytes.{Appends}
+use Rattle.beep_wires.specs.Links.{Link, Counts, Ask, accept, dial, Asked}
+use Rattle.beep_link.specs.declared.ended.Ended.{Ended}
+use Rattle.beep_link.specs.Causes.{HasRead, IsQuiet, Seen}
+use Rattle.beep_settings.specs.declared.settings.Settings.{Settings}
+use Rattle.beep_input.specs.Whole.{HasEnded}
+use Rattle.beep_input.specs.Lines.{AreLines, IsBad}
+use Rattle.beep_cmd.specs.Texts.{bad_line, broken_line, cut_line, idle_line, read_fault_line, refused_line, spent_line, wire_fault_line}
+use Rattle.beep_cmd.specs.Show.{Run, Saw}
+
+-- what is known of links
+abbrev pub seen_of : (ℕ → Link) → Counts → Option (List Asked) → Option GName → Seen
+seen_of state counts asked lent =
+    record { state = state; counts = counts; asked = asked; lent = lent }
+
+-- ---- what ends a session
+
+-- the status of what ended a session
+abbrev pub ended_status : Ended → ℕ
+ended_status Ended.Released = 0
+ended_status (Ended.Broken rule place) = 3
+ended_status Ended.WriteFault = 5
+ended_status Ended.WireFault = 6
+ended_status Ended.NoMemory = 7
+ended_status (Ended.Refused code) = 8
+ended_status (Ended.Cut left) = 9
+ended_status (Ended.Idle reads) = 10
+ended_status (Ended.Spent octets) = 11
+
+-- its last line, or none
+abbrev pub ended_line : Ended → List ℕ
+ended_line Ended.Released = []
+ended_line (Ended.Broken rule place) = broken_line rule place
+ended_line Ended.WriteFault = []
+ended_line Ended.WireFault = wire_fault_line
+ended_line Ended.NoMemory = []
+ended_line (Ended.Refused code) = refused_line code
+ended_line (Ended.Cut left) = cut_line left
+ended_line (Ended.Idle reads) = idle_line reads
+ended_line (Ended.Spent octets) = spent_line octets
+
+-- ---- causes
+
+-- a count rose, or stands at its greatest value
+abbrev pub HasRisen : ℕ → ℕ → Type 0
+HasRisen old new = (old < new) ⊎ (COUNT_MAX ≤ new)
+
+-- this holds of one of the links that were given in the run
+abbrev pub OneOf : Seen → Seen → (Link → Type 0) → Type 0
+OneOf before after P = (link : ℕ) × (before.counts.given ≤ link) × (link < after.counts.given)
+    × P (after.state link)
+
+-- what ended one of the sessions of a run shows in its link
+abbrev pub SessionCause : Ended → Settings → Seen → Seen → Type 0
+SessionCause Ended.Released settings before after = Unit {0}
+SessionCause (Ended.Broken rule place) settings before after = Unit {0}
+SessionCause Ended.WriteFault settings before after = Unit {0}
+SessionCause Ended.WireFault settings before after = OneOf before after (λ link. 0 < link.faults)
+SessionCause Ended.NoMemory settings before after = Unit {0}
+SessionCause (Ended.Refused code) settings before after = Unit {0}
+SessionCause (Ended.Cut left) settings before after =
+    OneOf before after (λ link. link.has_ended ≡ true)
+SessionCause (Ended.Idle reads) settings before after = (reads ≡ settings.idle)
+    × (0 < settings.idle → HasRisen before.counts.quiets after.counts.quiets)
+    × OneOf before after (λ link. IsQuiet settings.idle link.log)
+SessionCause (Ended.Spent octets) settings before after = (octets ≡ settings.octets)
+    × OneOf before after (λ link. HasRead settings.octets link.log)
+
+-- what ended a run of so many sessions: no link was given, for this reason, or a session ended so
+pub data RunCause (asked : Type 0) (sessions : ℕ) (cause : Ended) (settings : Settings)
+    (before after : Seen) : Type 0 where
+  asking : cause ≡ Ended.WireFault → asked → RunCause asked sessions cause settings before after
+  session : SessionCause cause settings before after
+      → (cause ≡ Ended.Released → after.counts.given ≡ before.counts.given + sessions)
+      → RunCause asked sessions cause settings before after
+
+-- the run dialled once, or a dial failed
+abbrev pub SendCause : Ended → Settings → Seen → Seen → Type 0
+SendCause cause settings before after =
+    RunCause (Rose before.counts.dials after.counts.dials) 1 cause settings before after
+
+-- as many links were accepted as the settings say, or an accept failed
+abbrev pub ListenCause : Ended → Settings → Seen → Seen → Type 0
+ListenCause cause settings before after =
+    RunCause (Rose before.counts.accepts after.counts.accepts) settings.sessions cause settings
+    before after
+
+-- where the accepts and dials are known, there were no more than so many, and of each this holds
+abbrev pub AsksOnly : (Ask → Type 0) → ℕ → Option (List Asked) → Option (List Asked) → Type 0
+AsksOnly P most None None = Unit {0}
+AsksOnly P most None (Some new) = ⊥
+AsksOnly P most (Some old) None = ⊥
+AsksOnly P most (Some old) (Some new) = (more : List Asked) × (new ≡ more ++ old)
+    × (length more ≤ most) × AllByRecursion (λ asked. P asked.ask) more
+
+-- a dial of the host and the port of these settings
+abbrev pub IsDialOf : Settings → Ask → Type 0
+IsDialOf settings ask = (host : List ℕ) × (chars host ≡ settings.host)
+    × (ask ≡ dial host settings.port)
+
+-- an accept on the port of these settings
+abbrev pub IsAcceptOf : Settings → Ask → Type 0
+IsAcceptOf settings ask = ask ≡ accept settings.port
+
+-- `send` dials the host and the port of its settings, at most once
+abbrev pub DialsOnce : Settings → Seen → Seen → Type 0
+DialsOnce settings before after = AsksOnly (IsDialOf settings) 1 before.asked after.asked
+
+-- `listen` accepts on the port of its settings, at most as often as these say
+abbrev pub AcceptsAtMost : Settings → Seen → Seen → Type 0
+AcceptsAtMost settings before after =
+    AsksOnly (IsAcceptOf settings) settings.sessions before.asked after.asked
+
+-- ---- `send`
+
+-- a report of `send`, its status and its cause: its lines were those of the input, and its session
+-- ended; or a line or a read stopped it, and no link was asked for
+pub data IsSendReport (settings : Settings) (old new : SourceState) (before after : Seen)
+    (octets text : List ℕ) (status : ℕ) : Type 0 where
+  over : HasEnded new → (lines : List (List ℕ)) → AreLines lines octets → (cause : Ended)
+      → SendCause cause settings before after → status ≡ ended_status cause
+      → text ≡ ended_line cause → IsSendReport settings old new before after octets text status
+  bad_input : (number : ℕ) → IsBad octets number new → status ≡ 2 → text ≡ bad_line number
+      → after ≡ before → IsSendReport settings old new before after octets text status
+  unread_input : Rose old.faults new.faults → status ≡ 4 → text ≡ read_fault_line → after ≡ before
+      → IsSendReport settings old new before after octets text status
+
+-- the text begins the report of a status whose cause holds
+pub record BeginsSendReport (settings : Settings) (old new : SourceState) (before after : Seen)
+    (octets text : List ℕ) : Type 0 where
+  pub status : ℕ
+  pub others : List ℕ
+  pub report : IsSendReport settings old new before after octets (text ++ others) status
+
+-- what a run of `send` that ended so reports: a status with its report; 5, where a write failed; 7,
+-- where it was out of memory
+pub data Sent (settings : Settings) (before after : Seen) (status : ℕ) (run : Run) : Type 0 where
+  send_told : Saw (λ octets text.
+      IsSendReport settings run.source run.source_after before after octets text status) run
+      → Sent settings before after status run
+  send_begun : status ≡ 5 → Rose run.sink.faults run.sink_after.faults
+      → Saw (BeginsSendReport settings run.source run.source_after before after) run
+      → Sent settings before after status run
+  send_starved : status ≡ 7 → Saw (λ octets text. text ≡ []) run
+      → Sent settings before after status run
+
+-- ---- `listen`
+
+-- what a run of `listen` that ended so shows: 5, where a write failed; 7, where it was out of
+-- memory; else what ended its first session that wasn't released, or the last accept
+pub data Listened (settings : Settings) (before after : Seen) (status : ℕ) (run : Run) : Type 0 where
+  listen_told : (cause : Ended) → cause ≢ Ended.WriteFault → cause ≢ Ended.NoMemory
+      → ListenCause cause settings before after → status ≡ ended_status cause
+      → Listened settings before after status run
+  listen_unwritten : status ≡ 5 → Rose run.sink.faults run.sink_after.faults
+      → Listened settings before after status run
+  listen_starved : status ≡ 7 → Listened settings before after status run
+
+-- ---- last lines
+
+-- a last line was written, and the status is its own; or its write failed, and the status is 5
+pub data Tells (status : ℕ) (line : List ℕ) (result : ℕ) (old new : SinkState) : Type 0 where
+  whole_line : result ≡ status → Appends old.written new.written line → Tells status line result old new
+  line_begun : result ≡ 5 → Rose old.faults new.faults → AppendsPrefix old.written new.written line
+      → Tells status line result old new

@@ -1,0 +1,107 @@
+//! How a run of `send` or `listen` ends: the last line and the status (docs/COMMANDS.md).
+ghost use Rattle.std.specs.Prelude.{◌≡◌, ◌≤◌, ◌++◌, []};
+ghost use Rattle.beep_cmd.specs.Ends.{ended_line, ended_status, Tells};
+ghost use Rattle.beep_cmd.specs.Serving.{unlisted_line, unlisted_status};
+
+use crate::text::{LAST_ROOM, append_broken, append_idle, append_numbered, append_refused};
+use beep_ends::Ended;
+use beep_input::Unlisted;
+use beep_octets::Octets;
+use beep_wires::{Failed, Sink, write_all};
+
+/// Writes the last line of what ended a session, in room that was taken before, and answers the
+/// status.
+pub(crate) fn finish<O: Sink>(last: &mut Octets, ended: Ended, output: &mut O) -> u8
+    requires empty { last.old.octets ≡ [] }
+    requires room { LAST_ROOM ≤ last.old.spare }
+    ensures told { Tells (ended_status ended) (ended_line ended) result (O.state output.old)
+        (O.state output.new) }
+    ensures none { ended_line ended ≡ [] → (result ≡ ended_status ended)
+        × ((O.state output.new).faults ≡ (O.state output.old).faults) }
+    ensures kept { (O.state output.old).faults ≤ (O.state output.new).faults }
+{
+    let status = append_ended(last, ended);
+    tell(last, status, output)
+}
+
+/// Writes the last line of why there are no lines to send, likewise.
+pub(crate) fn finish_unlisted<O: Sink>(last: &mut Octets, why: Unlisted, output: &mut O) -> u8
+    requires empty { last.old.octets ≡ [] }
+    requires room { LAST_ROOM ≤ last.old.spare }
+    ensures told { Tells (unlisted_status why) (unlisted_line why) result (O.state output.old)
+        (O.state output.new) }
+    ensures none { unlisted_line why ≡ [] → (result ≡ unlisted_status why)
+        × ((O.state output.new).faults ≡ (O.state output.old).faults) }
+{
+    let status = append_unlisted(last, why);
+    tell(last, status, output)
+}
+
+/// Writes a last line, and answers the status.
+fn tell<O: Sink>(last: &Octets, status: u8, output: &mut O) -> u8
+    ensures told { Tells status last.now.octets result (O.state output.old) (O.state output.new) }
+    ensures none { last.now.octets ≡ [] → (result ≡ status) × (output.new ≡ output.old) }
+    ensures kept { (O.state output.old).faults ≤ (O.state output.new).faults }
+{
+    match write_all(output, last.as_slice()) {
+        Ok(()) => status,
+        Err(Failed) => 5,
+    }
+}
+
+/// Appends the last line of why there are no lines to send, where it finds room, and answers its
+/// status.
+fn append_unlisted(out: &mut Octets, why: Unlisted) -> u8
+    ensures status { result ≡ unlisted_status why }
+    ensures appended { LAST_ROOM ≤ out.old.spare
+        → out.new.octets ≡ out.old.octets ++ unlisted_line why }
+{
+    match why {
+        Unlisted::Bad(line) => {
+            append_numbered(out, b"! bad ", line);
+            2
+        }
+        Unlisted::Fault => {
+            out.extend_within(b"! read fault\n");
+            4
+        }
+        Unlisted::NoMemory => 7,
+    }
+}
+
+/// Appends the last line of what ended a session, where it finds room, and answers its status.
+fn append_ended(out: &mut Octets, ended: Ended) -> u8
+    ensures status { result ≡ ended_status ended }
+    ensures appended { LAST_ROOM ≤ out.old.spare
+        → out.new.octets ≡ out.old.octets ++ ended_line ended }
+{
+    match ended {
+        Ended::Released => 0,
+        Ended::Broken(rule, place) => {
+            append_broken(out, rule, place);
+            3
+        }
+        Ended::WriteFault => 5,
+        Ended::WireFault => {
+            out.extend_within(b"! wire fault\n");
+            6
+        }
+        Ended::NoMemory => 7,
+        Ended::Refused(code) => {
+            append_refused(out, code);
+            8
+        }
+        Ended::Cut(left) => {
+            append_numbered(out, b"! cut ", left);
+            9
+        }
+        Ended::Idle(reads) => {
+            append_idle(out, reads);
+            10
+        }
+        Ended::Spent(octets) => {
+            append_numbered(out, b"! spent ", octets);
+            11
+        }
+    }
+}

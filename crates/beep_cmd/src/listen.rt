@@ -1,0 +1,131 @@
+//! The command `listen`: a collector of syslog over BEEP.
+ghost use Rattle.std.specs.Prelude.{◌≡◌, ◌≤◌, ℕ, IfOk, IfErr};
+ghost use Rattle.beep_ends.specs.Ends.{AreFit};
+ghost use Rattle.beep_link.specs.Causes.{IsWritten};
+ghost use Rattle.beep_wires.specs.States.{SourceState};
+ghost use Rattle.beep_cmd.specs.Ends.{AcceptsAtMost, ListenCause, Listened, seen_of};
+ghost use Rattle.beep_cmd.specs.Serving.{ends_run, first_of, NotAccepted, Served};
+ghost use Rattle.beep_cmd.specs.Show.{run_of};
+
+use crate::closing::finish;
+use crate::text::LAST_ROOM;
+use beep_ends::{Ended, listen_end};
+use beep_octets::Octets;
+use beep_settings::Settings;
+use beep_wires::{Sink, WireError, Wires};
+use std::alloc::Global;
+
+/// Runs `listen`: it accepts links one after another, as many as the settings say.
+pub(crate) fn listen<O: Sink, W: Wires>(
+    alloc: Global,
+    settings: &Settings,
+    output: &mut O,
+    wires: &mut W,
+) -> u8
+    requires fit { AreFit settings.now }
+    ensures listened { (source : SourceState) → Listened settings.now
+        (seen_of (W.state wires.old) (W.counts wires.old)
+        (W.asked wires.old) (W.lent wires.old))
+        (seen_of (W.state wires.new) (W.counts wires.new)
+        (W.asked wires.new) (W.lent wires.new))
+        result (run_of source source (O.state output.old) (O.state output.new)) }
+    ensures asks { AcceptsAtMost settings.now
+        (seen_of (W.state wires.old) (W.counts wires.old)
+        (W.asked wires.old) (W.lent wires.old))
+        (seen_of (W.state wires.new) (W.counts wires.new)
+        (W.asked wires.new) (W.lent wires.new)) }
+{
+    let mut last = Octets::new(alloc);
+    let Ok(()) = last.reserve(LAST_ROOM) else {
+        return 7;
+    };
+    let ended = listen_all(alloc, settings, output, wires);
+    finish(&mut last, ended, output)
+}
+
+/// What ended the first session that wasn't released, or the run.
+fn listen_all<O: Sink, W: Wires>(
+    alloc: Global,
+    settings: &Settings,
+    output: &mut O,
+    wires: &mut W,
+) -> Ended
+    requires fit { AreFit settings.now }
+    ensures caused { ListenCause result settings.now
+        (seen_of (W.state wires.old) (W.counts wires.old)
+        (W.asked wires.old) (W.lent wires.old))
+        (seen_of (W.state wires.new) (W.counts wires.new)
+        (W.asked wires.new) (W.lent wires.new)) }
+    ensures asks { AcceptsAtMost settings.now
+        (seen_of (W.state wires.old) (W.counts wires.old)
+        (W.asked wires.old) (W.lent wires.old))
+        (seen_of (W.state wires.new) (W.counts wires.new)
+        (W.asked wires.new) (W.lent wires.new)) }
+    ensures written { IsWritten result (O.state output.old).faults (O.state output.new).faults }
+    ensures kept { (O.state output.old).faults ≤ (O.state output.new).faults }
+{
+    let mut first = Ended::Released;
+    for _ in 0..settings.sessions {
+        match listen_once(alloc, settings, output, wires) {
+            Ok(ended) => {
+                if ends_run(ended) {
+                    return ended;
+                }
+                first = first_of(first, ended);
+            }
+            Err(ended) => return ended,
+        }
+    }
+    first
+}
+
+/// Accepts a link, and answers what ended its session; else why there is none.
+fn listen_once<O: Sink, W: Wires>(
+    alloc: Global,
+    settings: &Settings,
+    output: &mut O,
+    wires: &mut W,
+) -> Result<Ended, Ended>
+    requires fit { AreFit settings.now }
+    ensures served { IfOk result (λ ended. Served ended settings.now
+        (seen_of (W.state wires.old) (W.counts wires.old)
+        (W.asked wires.old) (W.lent wires.old))
+        (seen_of (W.state wires.new) (W.counts wires.new)
+        (W.asked wires.new) (W.lent wires.new))) }
+    ensures failed { IfErr result (λ ended. NotAccepted ended settings.now
+        (seen_of (W.state wires.old) (W.counts wires.old)
+        (W.asked wires.old) (W.lent wires.old))
+        (seen_of (W.state wires.new) (W.counts wires.new)
+        (W.asked wires.new) (W.lent wires.new))) }
+    ensures written { IfOk result (λ ended.
+        IsWritten ended (O.state output.old).faults (O.state output.new).faults) }
+    ensures kept { (O.state output.old).faults ≤ (O.state output.new).faults }
+{
+    let link = match wires.accept(settings.port) {
+        Ok(link) => link,
+        Err(WireError::Failed) => return Err(Ended::WireFault),
+        Err(WireError::NoMemory) => return Err(Ended::NoMemory),
+    };
+    let ended = listen_end(alloc, wires, link, settings, output);
+    wires.shut(link);
+    Ok(ended)
+}
+
+/// Whether no further link is accepted behind a session that ended so.
+fn ends_run(ended: Ended) -> bool
+    ensures { result ≡ ends_run ended }
+{
+    match ended {
+        Ended::WriteFault | Ended::NoMemory => true,
+        _ => false,
+    }
+}
+
+fn first_of(first: Ended, ended: Ended) -> Ended
+    ensures { result ≡ first_of first ended }
+{
+    match first {
+        Ended::Released => ended,
+        _ => first,
+    }
+}

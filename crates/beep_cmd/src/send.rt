@@ -1,0 +1,78 @@
+//! The command `send`: the lines of an input go to a collector.
+ghost use Rattle.std.specs.Prelude.{◌≡◌, ◌+◌, ◌≤◌, ℕ, false, [], IfErr};
+ghost use Rattle.beep_ends.specs.Ends.{AreFit};
+ghost use Rattle.beep_input.specs.declared.whole.TheConstants.{MAX_INPUT};
+ghost use Rattle.beep_link.specs.declared.ended.Ended.{Ended as EndedValue};
+ghost use Rattle.beep_cmd.specs.Ends.{DialsOnce, seen_of, SendCause, Sent};
+ghost use Rattle.beep_cmd.specs.Show.{run_of};
+
+use crate::closing::{finish, finish_unlisted};
+use crate::text::LAST_ROOM;
+use beep_ends::{Ended, send_end};
+use beep_input::read_lines;
+use beep_octets::Octets;
+use beep_settings::Settings;
+use beep_wires::{Sink, Source, WireError, Wires};
+use prof_raw::Entries;
+use std::alloc::Global;
+
+/// Runs `send`. It reads the whole input before it dials.
+pub(crate) fn send<I: Source, O: Sink, W: Wires>(
+    alloc: Global,
+    settings: &Settings,
+    input: &mut I,
+    output: &mut O,
+    wires: &mut W,
+) -> u8
+    requires fit { AreFit settings.now }
+    requires going { (I.state input.old).ended ≡ false }
+    ensures sent { Sent settings.now
+        (seen_of (W.state wires.old) (W.counts wires.old)
+        (W.asked wires.old) (W.lent wires.old))
+        (seen_of (W.state wires.new) (W.counts wires.new)
+        (W.asked wires.new) (W.lent wires.new))
+        result (run_of (I.state input.old) (I.state input.new)
+        (O.state output.old) (O.state output.new)) }
+    ensures asks { DialsOnce settings.now
+        (seen_of (W.state wires.old) (W.counts wires.old)
+        (W.asked wires.old) (W.lent wires.old))
+        (seen_of (W.state wires.new) (W.counts wires.new)
+        (W.asked wires.new) (W.lent wires.new)) }
+    ensures reads { (I.state input.new).reads ≤ (I.state input.old).reads + (MAX_INPUT + 1) }
+{
+    let mut last = Octets::new(alloc);
+    let Ok(()) = last.reserve(LAST_ROOM) else {
+        return 7;
+    };
+    match read_lines(alloc, input) {
+        Ok(lines) => {
+            let ended = send_lines(alloc, settings, &lines, wires);
+            finish(&mut last, ended, output)
+        }
+        Err(why) => finish_unlisted(&mut last, why, output),
+    }
+}
+
+/// Dials, and sends lines.
+fn send_lines<W: Wires>(alloc: Global, settings: &Settings, lines: &Entries, wires: &mut W) -> Ended
+    requires fit { AreFit settings.now }
+    ensures caused { SendCause result settings.now
+        (seen_of (W.state wires.old) (W.counts wires.old)
+        (W.asked wires.old) (W.lent wires.old))
+        (seen_of (W.state wires.new) (W.counts wires.new)
+        (W.asked wires.new) (W.lent wires.new)) }
+    ensures asks { DialsOnce settings.now
+        (seen_of (W.state wires.old) (W.counts wires.old)
+        (W.asked wires.old) (W.lent wires.old))
+        (seen_of (W.state wires.new) (W.counts wires.new)
+        (W.asked wires.new) (W.lent wires.new)) }
+{
+    let link = match wires.dial(settings.host.as_str(), settings.port) {
+        Ok(link) => link,
+        Err(WireError::Failed) => return Ended::WireFault,
+        Err(WireError::NoMemory) => return Ended::NoMemory,
+    };
+    let ended = send_end(alloc, wires, link, settings, lines);
+    wires.shut(link);
+    ended
+}
