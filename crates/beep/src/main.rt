@@ -1,9 +1,9 @@
-//! The program `beep`: it makes the real source and sink, makes one call, hands on its status, and
-//! says on standard error what a status but 0 means.
+//! The program `beep`: it makes the real source, sink and links, makes one call, hands on its
+//! status, and says on standard error what a status but 0 means.
 #![tactic(auto)]
 
 use beep_cmd::beep_run;
-use beep_std::{StdSink, StdSource};
+use beep_std::{StdSink, StdSource, StdWires};
 use std::alloc::Global;
 use std::env::{self, Env};
 use std::io::{self, ErrorKind};
@@ -21,7 +21,14 @@ fn main(rt: HostRuntime) -> ExitCode {
     };
     let mut input = StdSource::new(rt.stdin());
     let mut output = StdSink::new(rt.stdout());
-    let status = beep_run(rt.alloc(), words.as_slice(), &mut input, &mut output);
+    let mut wires = StdWires::new(rt.alloc(), rt);
+    let status = beep_run(
+        rt.alloc(),
+        words.as_slice(),
+        &mut input,
+        &mut output,
+        &mut wires,
+    );
     ended(&rt, status)
 }
 
@@ -47,15 +54,18 @@ fn ended(rt: &HostRuntime, status: u8) -> ExitCode {
 fn meaning_of(status: u8) -> &'static str {
     match status {
         1 => "the words are no command; there are: show [--elements yes|no] [--octets \
-              1..4294967295]; replay",
-        2 => "the input is no record, or what was written breaks a rule, at the place in the last \
-              line",
+              1..4294967295]; replay; send and listen with the options of docs/COMMANDS.md",
+        2 => "the input is no record, or what was written breaks a rule, or a line of the input is \
+              too long, at the place in the last line",
         3 => "what was read breaks a rule of BEEP, at the octet that the last line names",
         4 => "the input couldn't be read",
         5 => "the output couldn't be written",
+        6 => "the link failed, or none was given",
         7 => "out of memory",
-        9 => "the input ended within a frame",
-        11 => "as many octets were read as --octets says, and the input didn't show its end",
+        8 => "the peer refused, with the code in the last line",
+        9 => "what was read ended within a frame, or before the session was released",
+        10 => "the peer was silent for as many reads as --idle says",
+        11 => "as many octets were read as --octets says, and one more read was needed",
         _ => "the run failed",
     }
 }
