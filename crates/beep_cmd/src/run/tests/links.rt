@@ -80,27 +80,43 @@ fn add_link(alloc: Global, wires: &mut MemWires, text: &str) -> Result<(), Fail>
     Ok(())
 }
 
+/// The links of the peers.
+fn links_of(alloc: Global, peers: &str, fails: Fails) -> Result<MemWires, Fail> {
+    let mut wires = MemWires::new(alloc, fails);
+    for peer in peers.split("^") {
+        if !peer.is_empty() {
+            add_link(alloc, &mut wires, peer)?;
+        }
+    }
+    Ok(wires)
+}
+
+/// Makes a sink, runs the call over these links, and hands on the status and the sink.
+fn run_over(
+    alloc: Global,
+    words: &str,
+    input: &str,
+    wires: &mut MemWires,
+) -> Result<(u8, MemSink), Fail> {
+    let words = words_of(alloc, words)?;
+    let mut contents = Octets::new(alloc);
+    contents.extend(input.as_bytes())?;
+    let mut source = MemSource::new(contents, 4096, Fails::new(alloc));
+    let mut sink = MemSink::new(alloc, ROOM, ROOM, Fails::new(alloc))?;
+    let status = beep_run(alloc, words.as_slice(), &mut source, &mut sink, wires);
+    Ok((status, sink))
+}
+
 /// Runs a row, and hands on the links.
 fn runs<R: Abort + Alloc<A = Global>>(
     rt: &R,
     row: Row<'_>,
     fails: Fails,
 ) -> Result<MemWires, Fail> {
-    let alloc = rt.alloc();
-    let words = words_of(alloc, row.words)?;
-    let mut contents = Octets::new(alloc);
-    contents.extend(row.input.as_bytes())?;
-    let mut source = MemSource::new(contents, 4096, Fails::new(alloc));
-    let mut sink = MemSink::new(alloc, ROOM, ROOM, Fails::new(alloc))?;
-    let mut wires = MemWires::new(alloc, fails);
-    for peer in row.peers.split("^") {
-        if !peer.is_empty() {
-            add_link(alloc, &mut wires, peer)?;
-        }
-    }
-    let status = beep_run(alloc, &words, &mut source, &mut sink, &mut wires);
-    assert_eq!(rt; sink.written(), row.output.as_bytes(), "at {}", row.words);
-    assert_eq!(rt; status, row.status, "at {}", row.words);
+    let mut wires = links_of(rt.alloc(), row.peers, fails)?;
+    let (status, sink) = run_over(rt.alloc(), row.words, row.input, &mut wires)?;
+    assert_eq!(rt; status, row.status);
+    assert_eq!(rt; sink.written(), row.output.as_bytes());
     Ok(wires)
 }
 
