@@ -16,7 +16,7 @@ use Rattle.beep_channel.specs.Held.{Live}
 use Rattle.beep_standing.specs.Standing.{Marks, AreLiveBy}
 use Rattle.beep_hearing.specs.declared.heard.Heard.{Heard}
 use Rattle.beep_hearing.specs.declared.ear.Ear.{Ear}
-use Rattle.beep_hearing.specs.Hears.{IsEar, Waits, BreaksAt, MayJoin, Join, Brings, Goes, Arrives, ends_zero}
+use Rattle.beep_hearing.specs.Hears.{IsEar, Waits, BreaksAt, MayJoin, Join, Brings, Goes, Arrives, ends_zero, is_above}
 use Rattle.beep_hearing.specs.Answers.{Answers, IsHeld, IsReached, IsWaiting}
 
 -- nothing was used
@@ -24,6 +24,7 @@ pub goes_none : (size : ℕ) (fed rest : List ℕ) (journal : List Item) (given 
     → IsEar size fed rest journal given taken ear channels → Goes size [] fed journal given taken ear channels
 goes_none size fed rest journal given taken ear channels s = record {
   gained = [];
+  none_above = refl;
   brings = record {
     join = tt;
     quiet = refl;
@@ -45,6 +46,7 @@ pub goes_roomed : (size : ℕ) (octets fed : List ℕ) (journal : List Item) (gi
     → Goes size octets fed journal given taken ear later
 goes_roomed size octets fed journal given taken ear channels later g room = record {
   gained = g.gained;
+  none_above = g.none_above;
   brings = record {
     join = g.brings.join;
     quiet = g.brings.quiet;
@@ -62,13 +64,13 @@ join_all [] gained journal both first = first
 join_all (item ∷ later) gained journal both first =
     (subst (MayJoin item) (sym (append_assoc later gained journal)) both.0, join_all later gained journal both.1 first)
 
--- no message of channel zero ends in both
-quiet_all : (later gained : List Item) → list_any ends_zero later ≡ false → list_any ends_zero gained ≡ false → list_any ends_zero (later ++ gained) ≡ false
-quiet_all [] gained both first = first
-quiet_all (item ∷ later) gained both first = of (ends_zero item) refl both (λ rest. quiet_all later gained rest first)
+-- what no item of two lists does, none of both does
+none_all : (does : Item → Bool) (later gained : List Item) → list_any does later ≡ false → list_any does gained ≡ false → list_any does (later ++ gained) ≡ false
+none_all does [] gained both first = first
+none_all does (item ∷ later) gained both first = of (does item) refl both (λ rest. none_all does later gained rest first)
   where
-    of : (b : Bool) → ends_zero item ≡ b → (b || list_any ends_zero later) ≡ false → (list_any ends_zero later ≡ false → list_any ends_zero (later ++ gained) ≡ false)
-        → (ends_zero item || list_any ends_zero (later ++ gained)) ≡ false
+    of : (b : Bool) → does item ≡ b → (b || list_any does later) ≡ false → (list_any does later ≡ false → list_any does (later ++ gained) ≡ false)
+        → (does item || list_any does (later ++ gained)) ≡ false
     of true e both others = absurd (let g : true ≡ false = both in cc)
     of false e both others = rw e (others both)
 
@@ -80,7 +82,7 @@ module _ (size : ℕ) (one two fed : List ℕ) (journal : List Item) (given take
   brings_both : (gained : List Item) → Brings size two (fed ++ one) (g.gained ++ journal) gained given mid new later → Brings size (one ++ two) fed journal (gained ++ g.gained) given taken new later
   brings_both gained b = record {
     join = join_all gained g.gained journal b.join g.brings.join;
-    quiet = quiet_all gained g.gained b.quiet g.brings.quiet;
+    quiet = none_all ends_zero gained g.gained b.quiet g.brings.quiet;
     rest = b.rest;
     taken_now = b.taken_now;
     same = λ n above. b.same n above ∙ g.brings.same n above;
@@ -88,7 +90,7 @@ module _ (size : ℕ) (one two fed : List ℕ) (journal : List Item) (given take
   }
 
   pub goes_both : Goes size two (fed ++ one) (g.gained ++ journal) given mid new later → Goes size (one ++ two) fed journal given taken new later
-  goes_both h = record { gained = h.gained ++ g.gained; brings = brings_both h.gained h.brings }
+  goes_both h = record { gained = h.gained ++ g.gained; none_above = none_all is_above h.gained g.gained h.none_above g.none_above; brings = brings_both h.gained h.brings }
 
   arrives_both : (number : ℕ) → Arrives number size two (fed ++ one) (g.gained ++ journal) given mid new later → Arrives number size (one ++ two) fed journal given taken new later
   arrives_both number h = record {
@@ -97,6 +99,7 @@ module _ (size : ℕ) (one two fed : List ℕ) (journal : List Item) (given take
     payload = h.payload;
     channel = h.channel;
     above = h.above;
+    none_above = none_all is_above h.gained g.gained h.none_above g.none_above;
     brings = brings_both (passed Side.Received h.head h.payload ∷ h.gained) h.brings;
   }
 
@@ -106,7 +109,8 @@ module _ (size : ℕ) (one two fed : List ℕ) (journal : List Item) (given take
   answers_both (Heard.Zero head) h = record {
     gained = h.gained ++ g.gained;
     join = join_all h.gained g.gained journal h.join g.brings.join;
-    quiet = quiet_all h.gained g.gained h.quiet g.brings.quiet;
+    quiet = none_all ends_zero h.gained g.gained h.quiet g.brings.quiet;
+    none_above = none_all is_above h.gained g.gained h.none_above g.none_above;
     payload = h.payload;
     taken_now = h.taken_now;
     same = λ n above. h.same n above ∙ g.brings.same n above;
@@ -117,7 +121,8 @@ module _ (size : ℕ) (one two fed : List ℕ) (journal : List Item) (given take
       record {
         gained = h.gained ++ g.gained;
         join = join_all h.gained g.gained journal h.join g.brings.join;
-        quiet = quiet_all h.gained g.gained h.quiet g.brings.quiet;
+        quiet = none_all ends_zero h.gained g.gained h.quiet g.brings.quiet;
+        none_above = none_all is_above h.gained g.gained h.none_above g.none_above;
         before = one ++ h.before;
         octet = h.octet;
         rest = h.rest;

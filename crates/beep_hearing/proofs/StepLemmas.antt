@@ -127,6 +127,7 @@ module _ (size : ℕ) (fed rest : List ℕ) (journal : List Item) (given taken :
   pub goes_more : WasFed decoder (fed_of (fed ++ octets) s.hears.is_fed.frames (rest ++ octets) under) → Goes size octets fed journal given taken read channels
   goes_more stands = record {
     gained = [];
+    none_above = refl;
     brings = record {
       join = tt;
       quiet = refl;
@@ -154,6 +155,7 @@ module _ (size : ℕ) (fed rest : List ℕ) (journal : List Item) (given taken :
       → Goes size octets fed journal given taken (record read { under = Some head }) later
   goes_head head later gives fine live = record {
     gained = began Side.Received head ∷ [];
+    none_above = refl;
     brings = record {
       join = ((refl, gives.is_head, gives.first, fine), tt);
       quiet = refl;
@@ -181,6 +183,7 @@ module _ (size : ℕ) (fed rest : List ℕ) (journal : List Item) (given taken :
       → Goes size octets fed journal given taken read later
   goes_seq seq later gives fine live = record {
     gained = told Side.Received seq ∷ [];
+    none_above = refl;
     brings = record {
       join = ((refl, gives.is_seq, gives.none, fine), tt);
       quiet = refl;
@@ -249,6 +252,7 @@ module _ (size : ℕ) (fed rest : List ℕ) (journal : List Item) (given taken :
       payload = payload;
       channel = named;
       above = subst (λ (n : ℕ). (n == 0) ≡ false) named above;
+      none_above = refl;
       brings = record {
         join = ((refl, subst₂ (λ (h : Head) (p : List ℕ). IsFrame (framed h p)) head_is payload_is gives.is_frame, frame_known), tt);
         quiet = quiet-above above;
@@ -280,6 +284,7 @@ module _ (size : ℕ) (fed rest : List ℕ) (journal : List Item) (given taken :
         → Goes size octets fed journal given taken (record read { under = None; heard = true; text = text }) later
     goes_part text later zero more is passes = record {
       gained = passed Side.Received head payload ∷ [];
+      none_above = rw zero refl;
       brings = record {
         join = ((refl, subst₂ (λ (h : Head) (p : List ℕ). IsFrame (framed h p)) head_is payload_is gives.is_frame, frame_known), tt);
         quiet = quiet-part more;
@@ -308,6 +313,7 @@ module _ (size : ℕ) (fed rest : List ℕ) (journal : List Item) (given taken :
       gained = [];
       join = tt;
       quiet = refl;
+      none_above = refl;
       payload = payload;
       taken_now = taken;
       same = λ n above. refl;
@@ -340,6 +346,7 @@ module _ (size : ℕ) (fed rest : List ℕ) (journal : List Item) (given taken :
       gained = [];
       join = tt;
       quiet = refl;
+      none_above = refl;
       before = before;
       octet = octet;
       rest = rest ++ before;

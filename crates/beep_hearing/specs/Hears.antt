@@ -130,6 +130,12 @@ ends_zero (began side head) = false
 ends_zero (passed side head payload) = head.channel == 0 && not head.more
 ends_zero (told side seq) = false
 
+-- an item is a frame above channel zero
+abbrev pub is_above : Item → Bool
+is_above (began side head) = false
+is_above (passed side head payload) = not (head.channel == 0)
+is_above (told side seq) = false
+
 -- what is taken stays, but in channel zero
 abbrev pub SameAbove : Marks → Marks → Type 0
 SameAbove old new = (n : ℕ) → (0 == n) ≡ false → new n ≡ old n
@@ -181,13 +187,14 @@ pub record Brings (size : ℕ) (octets fed : List ℕ) (journal gained : List It
   pub same : SameAbove taken taken_now
   pub stands : IsEar size (fed ++ octets) rest (gained ++ journal) given taken_now ear channels
 
--- these octets brought some items
+-- these octets brought some items, of which none is a frame above channel zero
 pub record Goes (size : ℕ) (octets fed : List ℕ) (journal : List Item) (given taken : Marks)
     (ear : Ear) (channels : List Live) : Type 0 where
   pub gained : List Item
+  pub none_above : list_any is_above gained ≡ false
   pub brings : Brings size octets fed journal gained given taken ear channels
 
--- the last of these octets ended a frame of this channel above zero
+-- the last of these octets ended a frame of this channel above zero, the first that they brought
 pub record Arrives (number size : ℕ) (octets fed : List ℕ) (journal : List Item)
     (given taken : Marks) (ear : Ear) (channels : List Live) : Type 0 where
   pub gained : List Item
@@ -195,16 +202,18 @@ pub record Arrives (number size : ℕ) (octets fed : List ℕ) (journal : List I
   pub payload : List ℕ
   pub channel : head.channel ≡ number
   pub above : (number == 0) ≡ false
+  pub none_above : list_any is_above gained ≡ false
   pub brings : Brings size octets fed journal (passed Side.Received head payload ∷ gained) given
       taken ear channels
 
 -- the last of these octets ended the last frame of a message of channel zero, which waits; no item
--- before it ended one
+-- before it ended one, and none is a frame above channel zero
 pub record EndsZero (head : Head) (size : ℕ) (octets fed : List ℕ) (journal : List Item)
     (given taken : Marks) (ear : Ear) (channels : List Live) : Type 0 where
   pub gained : List Item
   pub join : Join gained journal
   pub quiet : list_any ends_zero gained ≡ false
+  pub none_above : list_any is_above gained ≡ false
   pub payload : List ℕ
   pub taken_now : Marks
   pub same : SameAbove taken taken_now
@@ -212,12 +221,13 @@ pub record EndsZero (head : Head) (size : ℕ) (octets fed : List ℕ) (journal 
       channels
 
 -- the last of these octets broke this rule, and its number is the place; no item before it ended a
--- message of channel zero
+-- message of channel zero, and none is a frame above it
 pub record Breaks (rule : Rule) (place size : ℕ) (octets fed : List ℕ) (journal : List Item)
     (given taken : Marks) (ear : Ear) (channels : List Live) : Type 0 where
   pub gained : List Item
   pub join : Join gained journal
   pub quiet : list_any ends_zero gained ≡ false
+  pub none_above : list_any is_above gained ≡ false
   pub before : List ℕ
   pub octet : ℕ
   pub rest : List ℕ
