@@ -8,7 +8,7 @@ use Rattle.beep_outbox.specs.Queue.{message_marks}
 use Rattle.beep_lawful.specs.declared.terms.Terms.{Terms}
 use Rattle.beep_standing.specs.Standing.{no_marks}
 use Rattle.beep_spoken.specs.Spoken.{kinds_of}
-use Rattle.beep_asked.specs.Kept.{Kept, implied_request}
+use Rattle.beep_asked.specs.Kept.{implied_request}
 use Rattle.beep_management.specs.Managed.{Managed}
 use Rattle.beep_upright.specs.Turns.{kinds_at}
 use Rattle.beep_upright.specs.Upright.{asked_at, AreReady, IsUpright}

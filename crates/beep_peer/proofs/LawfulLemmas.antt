@@ -1,13 +1,10 @@
 -- What goes out of a peer that stands for a lawful journal leaves it lawful.
-use Rattle.std.proofs.Common.{◌≡◌, ℕ, suc, ◌+◌, ◌-◌, not, ◌<◌, ◌≤◌, ◌==◌, nat_lt, Bool, true, false, List, [], ◌∷◌, ◌++◌, length, map, Option, Some, None, refl, sym, ap, ◌∙◌, subst, arith}
+use Rattle.std.proofs.Common.{◌≡◌, ℕ, suc, ◌+◌, ◌-◌, not, ◌<◌, ◌≤◌, ◌==◌, Bool, true, false, List, [], ◌∷◌, length, map, Option, refl, sym, ap, ◌∙◌, subst, arith}
 use Rattle.std.proofs.lemmas.Bool.Decides.{nat_tests}
 use Rattle.std.specs.Prelude.{slice_get}
 use Rattle.beep_frame.specs.declared.head.Head.{Head}
-use Rattle.beep_frame.specs.declared.kind.Kind.{Kind}
 use Rattle.beep_frame.specs.declared.seq.Seq.{Seq}
 use Rattle.beep_frame.specs.declared.limits.TheConstants.{MAX_PAYLOAD}
-use Rattle.beep_frame.specs.Frame.{framed, seq_frame}
-use Rattle.beep_frame.specs.Spelling.{spelling}
 use Rattle.beep_history.specs.declared.journal.Side.{Side}
 use Rattle.beep_history.specs.Journal.{Item, began, passed, told}
 use Rattle.beep_journal.specs.Zero.{zero_history, zero_events, asked}
@@ -16,8 +13,7 @@ use Rattle.beep_mgmt.specs.Form.{Form}
 use Rattle.beep_journal.specs.Broken.{none_tunes}
 use Rattle.beep_journal.specs.Life.{is_released}
 use Rattle.beep_channel.specs.Held.{Live}
-use Rattle.beep_lives.specs.Lives.{live_at}
-use Rattle.beep_lives.specs.Edits.{Edits, Sends, Tells}
+use Rattle.beep_lives.specs.Edits.{Tells}
 use Rattle.beep_standing.specs.Standing.{Marks}
 use Rattle.beep_decide.specs.Asks.{is_greeted as is_greeted_by}
 use Rattle.beep_lawful.specs.declared.terms.Terms.{Terms}
@@ -25,10 +21,9 @@ use Rattle.beep_lawful.specs.Lawful.{IsLawful}
 use Rattle.beep_asked.specs.Kept.{Kept, oldest}
 use Rattle.beep_asked.specs.Asked.{AreAsked, AreWaiting}
 use Rattle.beep_speaking.specs.declared.emit.Emit.{Emit}
-use Rattle.beep_speaking.specs.Emits.{Emits, TellsNext, SendsNext}
-use Rattle.beep_management.specs.Managed.{Managed}
-use Rattle.beep_upright.specs.Turns.{kinds_in, kinds_at}
-use Rattle.beep_upright.specs.Upright.{asked_in, asked_at, AreReady, IsUpright}
+use Rattle.beep_speaking.specs.Emits.{Emits, SendsNext}
+use Rattle.beep_upright.specs.Turns.{kinds_in}
+use Rattle.beep_upright.specs.Upright.{asked_in, IsUpright}
 use Rattle.beep_upright.proofs.TestLemmas.{is-less}
 use Rattle.beep_upright.proofs.SeqLemmas.{seq-lawful}
 use Rattle.beep_upright.proofs.HeadLemmas.{head-lawful}
@@ -36,9 +31,9 @@ use Rattle.beep_upright.proofs.FrameLemmas.{frame-lawful}
 use Rattle.beep_upright.proofs.LawLemmas.{with-seq, with-frame}
 use Rattle.beep_upright.proofs.StillLemmas.{seq-passes}
 use Rattle.beep_peer.specs.declared.peer.Peer.{Peer}
-use Rattle.beep_peer.specs.Peering.{IsPeer, is_greeted, is_met}
+use Rattle.beep_peer.specs.Peering.{is_greeted, is_met}
 use Rattle.beep_peer.specs.Calls.{IsSent}
-use Rattle.beep_peer.specs.Lawfully.{IsLawfulPeer, SendsLawfully, SpeaksLawfully}
+use Rattle.beep_peer.specs.Lawfully.{IsLawfulPeer, SpeaksLawfully}
 use Rattle.beep_peer.proofs.SpeakLemmas.{seq-speaks}
 use Rattle.beep_peer.proofs.KindsLemmas.{at-edit, upright-same}
 

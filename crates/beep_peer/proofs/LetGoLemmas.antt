@@ -3,7 +3,7 @@ use Rattle.std.proofs.Common.{◌≡◌, ℕ, zero, suc, ◌+◌, ◌-◌, ◌<�
 use Rattle.std.specs.Prelude.{is_some}
 use Rattle.std.specs.List.{list_any}
 use Rattle.std.proofs.lemmas.Bool.Decides.{nat_tests}
-use Rattle.std.proofs.lemmas.List.{length-map, length-reverse, append_cancel_right, append_cancel_left}
+use Rattle.std.proofs.lemmas.List.{length-reverse, append_cancel_right, append_cancel_left}
 use Rattle.std.proofs.lemmas.List.Elements.{filter-append}
 use Rattle.beep_frame.specs.declared.kind.Kind.{Kind}
 use Rattle.beep_frame.specs.Frame.{is_msg, same_kind}
@@ -20,7 +20,7 @@ use Rattle.beep_journal.proofs.LivesLemmas.{ended-before}
 use Rattle.beep_journal.proofs.MomentLemmas.{named-within}
 use Rattle.beep_journal.specs.Zero.{zero_history, asked, said_at, events}
 use Rattle.beep_journal.specs.Life.{is_there, history, life, life_now}
-use Rattle.beep_channel.specs.Held.{Live, is_held_drained}
+use Rattle.beep_channel.specs.Held.{Live}
 use Rattle.beep_lives.specs.Lives.{live_at}
 use Rattle.beep_decide.specs.Asks.{is_close_of}
 use Rattle.beep_lawful.specs.Closing.{is_drained, are_drained, has_other_asking, is_ready, has_come, was_quiet_since}
@@ -30,7 +30,7 @@ use Rattle.beep_standing.proofs.DueLemmas.{channel-drained}
 use Rattle.beep_standing.proofs.ZeroLemmas.{none-of-zero}
 use Rattle.beep_spoken.specs.Spoken.{Spoken, kinds_of}
 use Rattle.beep_outbox.specs.Queue.{Message, marks_of}
-use Rattle.beep_asked.specs.Kept.{Kept, asks_otherwise, closes_one}
+use Rattle.beep_asked.specs.Kept.{Kept, asks_otherwise}
 use Rattle.beep_asked.specs.Asked.{names_life, AreAsked, AreWaiting}
 use Rattle.beep_management.specs.declared.wait.Wait.{Wait}
 use Rattle.beep_management.specs.Managed.{Prepared, Managed}

@@ -1,17 +1,16 @@
 -- What was let go was given, and what it waited for has come, also after it is given.
-use Rattle.std.proofs.Common.{◌≡◌, ℕ, ◌==◌, Bool, true, false, if◌then◌else◌, List, [], ◌∷◌, ◌++◌, map, Option, Some, None, refl, sym, ap, ◌∙◌, subst}
+use Rattle.std.proofs.Common.{◌≡◌, ℕ, ◌==◌, Bool, true, false, if◌then◌else◌, List, [], ◌∷◌, ◌++◌, Option, Some, None, refl, sym, ap, ◌∙◌, subst}
 use Rattle.std.proofs.lemmas.List.{append_cancel_right}
 use Rattle.std.proofs.lemmas.Bool.{eqb-false, ne_eqb}
 use Rattle.beep_frame.specs.declared.kind.Kind.{Kind}
 use Rattle.beep_mgmt.specs.Form.{Form, greeting, start, chosen, close, okay, fault}
 use Rattle.beep_history.specs.Journal.{Item}
 use Rattle.beep_channel.specs.Held.{Live}
-use Rattle.beep_lives.specs.Lives.{live_at}
 use Rattle.beep_standing.specs.Standing.{Marks}
 use Rattle.beep_asked.specs.Kept.{Kept, asks_otherwise}
 use Rattle.beep_management.specs.declared.wait.Wait.{Wait}
-use Rattle.beep_management.specs.Managed.{Prepared, Managed, one_without, without}
-use Rattle.beep_management.specs.Steps.{cleared_by, answers_after, answers_if}
+use Rattle.beep_management.specs.Managed.{Prepared, Managed, without}
+use Rattle.beep_management.specs.Steps.{cleared_by, answers_if}
 use Rattle.beep_outbox.specs.Queue.{marks_of}
 use Rattle.beep_peer.specs.declared.peer.Peer.{Peer}
 use Rattle.beep_peer.specs.Calls.{LetsGo, GivesFirst, words_of}

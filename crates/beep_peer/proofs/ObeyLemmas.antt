@@ -1,5 +1,5 @@
 -- An upright end stays upright, as a reply of the peer passes and what it grants is done.
-use Rattle.std.proofs.Common.{◌≡◌, ℕ, ◌==◌, Bool, true, false, ◌&&◌, List, ◌∷◌, Option, refl, sym, ap, ◌∙◌, subst, append-nil}
+use Rattle.std.proofs.Common.{◌≡◌, ℕ, ◌==◌, Bool, true, false, ◌&&◌, List, ◌∷◌, Option, sym, append-nil}
 use Rattle.std.specs.Prelude.{IfSome}
 use Rattle.std.specs.Option.{option_map_or, option_to_list}
 use Rattle.beep_frame.specs.declared.head.Head.{Head}

@@ -1,5 +1,5 @@
 -- A release that isn't refused may be asked.
-use Rattle.std.proofs.Common.{◌≡◌, ℕ, suc, ◌+◌, ◌-◌, ◌<◌, ◌≤◌, ◌==◌, nat_lt, Bool, true, false, not, ◌&&◌, if◌then◌else◌, List, [], ◌∷◌, ◌++◌, length, map, filter, Option, Some, None, is_some, refl, sym, ap, ◌∙◌, arith, subst}
+use Rattle.std.proofs.Common.{◌≡◌, ℕ, suc, ◌+◌, ◌-◌, ◌<◌, ◌≤◌, ◌==◌, nat_lt, Bool, true, false, not, ◌&&◌, if◌then◌else◌, List, [], ◌∷◌, ◌++◌, length, map, filter, Option, Some, None, is_some, refl, sym, ap, ◌∙◌, arith}
 use Rattle.std.specs.List.{list_any}
 use Rattle.std.specs.Option.{option_map_or}
 use Rattle.std.proofs.lemmas.Bool.Decides.{nat_tests}
@@ -22,14 +22,14 @@ use Rattle.beep_channel.specs.Stands.{Stands}
 use Rattle.beep_lives.specs.Lives.{live_at, numbers}
 use Rattle.beep_standing.specs.Standing.{Marks}
 use Rattle.beep_management.specs.Managed.{Managed, lowest, numbers_of}
-use Rattle.beep_upright.specs.Turns.{kinds_at, kinds_in}
+use Rattle.beep_upright.specs.Turns.{kinds_in}
 use Rattle.beep_upright.proofs.MoreLemmas.{request_kinds}
 use Rattle.beep_upright.proofs.KindsLemmas.{count-requests}
 use Rattle.beep_peer.specs.declared.refusals.ReleaseError.{ReleaseError}
 use Rattle.beep_peer.specs.declared.peer.Peer.{Peer}
 use Rattle.beep_peer.specs.Peering.{Holds}
 use Rattle.beep_peer.specs.Standing.{rest_of}
-use Rattle.beep_peer.specs.Acts.{first_asked_of, asked_of, either_cause, numbered_cause, first_of_causes, lowest_used, release_refusal}
+use Rattle.beep_peer.specs.Acts.{first_asked_of, asked_of, either_cause, numbered_cause, lowest_used, release_refusal}
 use Rattle.beep_peer.specs.Asking.{MayRelease}
 use Rattle.beep_peer.proofs.HeardLemmas.{live-rest}
 use Rattle.beep_peer.proofs.MayLemmas.{none-asked}

@@ -1,5 +1,5 @@
 -- What is left of an upright end stays upright, as an own message of channel zero goes out.
-use Rattle.std.proofs.Common.{◌≡◌, ℕ, suc, ◌+◌, ◌-◌, ◌<◌, ◌≤◌, ◌==◌, Bool, true, false, not, ◌&&◌, if◌then◌else◌, List, [], ◌∷◌, ◌++◌, length, length-append, map, Option, Some, None, is_some, refl, sym, ap, ◌∙◌, arith, subst}
+use Rattle.std.proofs.Common.{◌≡◌, ℕ, suc, ◌+◌, ◌≤◌, ◌==◌, Bool, true, false, not, ◌&&◌, if◌then◌else◌, List, [], ◌∷◌, ◌++◌, length, length-append, Option, refl, sym, ap, ◌∙◌, arith, subst}
 use Rattle.std.specs.Prelude.{IfSome}
 use Rattle.std.proofs.lemmas.List.{append_cancel_left}
 use Rattle.std.specs.Option.{option_to_list}
@@ -40,7 +40,7 @@ use Rattle.beep_upright.proofs.ReplyLemmas.{refusal-sent, grant-sent}
 use Rattle.beep_peer.specs.Peering.{Carries}
 use Rattle.beep_peer.specs.Calls.{HasGone, IsDone}
 use Rattle.beep_peer.proofs.KindsLemmas.{kinds-by, asked-by, asked-none, upright-same}
-use Rattle.beep_peer.proofs.GoneLemmas.{request-gone, refusal-gone, grant-gone}
+use Rattle.beep_peer.proofs.GoneLemmas.{request-gone, grant-gone}
 
 -- ---- the channels, before and after
 

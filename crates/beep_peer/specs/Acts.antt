@@ -104,10 +104,12 @@ pub record GivesZero (size : ℕ) (journal : List Item) (given taken : Marks) (o
   pub holds : Holds size journal (with_marks 0 (given 0 ++ message_marks ask) given) taken
       peer.lives peer.management
 
--- an own request is kept as one that was given, with the channel that it starts
+-- an own request is kept as one that was given, with the channel that it starts; the answers that
+-- wait stay
 pub record KeepsRequest (request : Kept) (fresh : List Live) (old new : Managed) : Type 0 where
   pub acts : new.acts.requests ≡ request ∷ old.acts.requests
   pub starting : new.starting ≡ old.starting ++ fresh
+  pub answers : new.answers ≡ old.answers
 
 -- ---- what stays
 

@@ -1,6 +1,6 @@
 -- What a program may ask on channel zero, so that what is asked may lawfully go out (RFC 3080,
 -- sections 2.3.1.2 and 2.3.1.3).
-use Rattle.std.specs.Prelude.{◌≡◌, ℕ, ◌==◌, Bool, true, false, List, [], length, Option, None, Some, is_some}
+use Rattle.std.specs.Prelude.{◌≡◌, ℕ, ◌==◌, Bool, true, false, [], length, Option, None, Some, is_some}
 use Rattle.std.specs.List.{list_any}
 use Rattle.beep_mgmt.specs.Form.{Form, greeting, start, chosen, close, okay, fault}
 use Rattle.beep_journal.specs.declared.role.Role.{Role}

@@ -4,6 +4,7 @@ ghost use Rattle.beep_octets.specs.Held.{KeepsRoom};
 ghost use Rattle.beep_frame.specs.declared.head.Head.{Head as HeadValue};
 ghost use Rattle.beep_frame.specs.declared.head.TheConstants.{MAX_NUMBER};
 ghost use Rattle.beep_frame.specs.declared.limits.TheConstants.{MAX_PAYLOAD};
+ghost use Rattle.beep_frame.specs.declared.seq.Seq.{Seq as SeqValue};
 ghost use Rattle.beep_frame.specs.declared.spelling.TheConstants.{SPELL_ROOM};
 ghost use Rattle.beep_history.specs.declared.journal.Side.{Side};
 ghost use Rattle.beep_history.specs.Journal.{Item, began, passed};
@@ -48,6 +49,8 @@ pub fn speak(peer: &mut Peer, scratch: &mut Octets, most: u32, out: &mut Octets)
         → IsLawfulPeer terms fed rest journal given taken peer.old → AreFrames journal
         → IsFramed result }
     ensures turn { TakesTurn result peer.old }
+    ensures told { (seq : SeqValue) → result ≡ EmitValue.Seq seq
+        → (peer.new.management ≡ peer.old.management) × (peer.new.released ≡ peer.old.released) }
     ensures ear { peer.new.ear ≡ peer.old.ear }
     ensures stuck { (head : HeadValue) → result ≡ EmitValue.Data head
         → IsStuck peer.new.lives peer.new.management }

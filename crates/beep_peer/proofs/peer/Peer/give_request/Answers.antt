@@ -89,4 +89,4 @@ returns-clause-upright c terms journal given taken h starts few u may =
     c.in_ok-act.ensures.ok starts may
 
 pub returns-clause-kept : goal.returns-clause-kept
-returns-clause-kept c = record { acts = c.in_ok-act.ensures.acts; starting = ap (λ (m : Managed). m.starting) c.in_ok-act.ensures.ok }
+returns-clause-kept c = record { acts = c.in_ok-act.ensures.acts; starting = ap (λ (m : Managed). m.starting) c.in_ok-act.ensures.ok; answers = ap (λ (m : Managed). m.answers) c.in_ok-act.ensures.ok }
