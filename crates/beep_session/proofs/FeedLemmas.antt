@@ -59,6 +59,7 @@ module _ (size : ℕ) (octets fed rest : List ℕ) (journal : List Item) (given 
     gained = e.gained;
     join = e.join;
     quiet = e.quiet;
+    none_above = e.none_above;
     head = head;
     payload = e.payload;
     taken_now = e.taken_now;
@@ -74,18 +75,19 @@ module _ (size : ℕ) (octets fed rest : List ℕ) (journal : List Item) (given 
 
   -- what was heard is what the event says
   pub feeds : (heard : Heard) → Answers heard size octets fed journal given taken ear lives → Feeds (event_of heard) size octets fed journal given taken now
-  feeds Heard.More g = record { gained = g.gained; gains = gains g.gained g.brings }
+  feeds Heard.More g = record { gained = g.gained; none_above = g.none_above; gains = gains g.gained g.brings }
   feeds (Heard.Arrived number) a = record {
     gained = a.gained;
     head = a.head;
     payload = a.payload;
     channel = a.channel;
     above = a.above;
+    none_above = a.none_above;
     gains = gains (passed Side.Received a.head a.payload ∷ a.gained) a.brings;
   }
   feeds (Heard.Zero head) e = waits-now head e
   feeds (Heard.Broken rule place) b = b
-  feeds Heard.NoMemory g = record { gained = g.gained; gains = gains g.gained g.brings }
+  feeds Heard.NoMemory g = record { gained = g.gained; none_above = g.none_above; gains = gains g.gained g.brings }
 
   -- the peer stands for something after it
   still-going : (gained : List Item) → Gains size octets fed journal gained given taken now → IsReached size now

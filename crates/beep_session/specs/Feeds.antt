@@ -7,7 +7,7 @@ use Rattle.beep_frame.specs.declared.head.Head.{Head}
 use Rattle.beep_history.specs.declared.journal.Side.{Side}
 use Rattle.beep_history.specs.Journal.{Item, passed}
 use Rattle.beep_standing.specs.Standing.{Marks}
-use Rattle.beep_hearing.specs.Hears.{SameAbove, Join, ends_zero, Breaks}
+use Rattle.beep_hearing.specs.Hears.{SameAbove, Join, ends_zero, is_above, Breaks}
 use Rattle.beep_session.specs.declared.event.Event.{Event}
 use Rattle.beep_peer.specs.declared.peer.Peer.{Peer}
 use Rattle.beep_peer.specs.Peering.{IsPeer, WaitsIn}
@@ -23,13 +23,14 @@ pub record Gains (size : ℕ) (octets fed : List ℕ) (journal gained : List Ite
   pub same : SameAbove taken taken_now
   pub stands : IsPeer size (fed ++ octets) rest (gained ++ journal) given taken_now peer
 
--- these octets brought some items
+-- these octets brought some items, of which none is a frame above channel zero
 pub record GainsSome (size : ℕ) (octets fed : List ℕ) (journal : List Item) (given taken : Marks)
     (peer : Peer) : Type 0 where
   pub gained : List Item
+  pub none_above : list_any is_above gained ≡ false
   pub gains : Gains size octets fed journal gained given taken peer
 
--- the last of these octets ended a frame of this channel above zero
+-- the last of these octets ended a frame of this channel above zero, the first that they brought
 pub record HasArrived (number size : ℕ) (octets fed : List ℕ) (journal : List Item)
     (given taken : Marks) (peer : Peer) : Type 0 where
   pub gained : List Item
@@ -37,15 +38,18 @@ pub record HasArrived (number size : ℕ) (octets fed : List ℕ) (journal : Lis
   pub payload : List ℕ
   pub channel : head.channel ≡ number
   pub above : (number == 0) ≡ false
+  pub none_above : list_any is_above gained ≡ false
   pub gains : Gains size octets fed journal (passed Side.Received head payload ∷ gained) given
       taken peer
 
--- the last of these octets ended the last frame of a message of channel zero, which waits
+-- the last of these octets ended the last frame of a message of channel zero, which waits; none that
+-- they brought before is a frame above channel zero
 pub record ZeroWaits (size : ℕ) (octets fed : List ℕ) (journal : List Item) (given taken : Marks)
     (peer : Peer) : Type 0 where
   pub gained : List Item
   pub join : Join gained journal
   pub quiet : list_any ends_zero gained ≡ false
+  pub none_above : list_any is_above gained ≡ false
   pub head : Head
   pub payload : List ℕ
   pub taken_now : Marks

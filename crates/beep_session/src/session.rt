@@ -3,6 +3,7 @@ ghost use Rattle.std.specs.Prelude.{◌≡◌, ◌≢◌, ◌<◌, ◌≤◌, �
 ghost use Rattle.std.specs.List.{list_all};
 ghost use Rattle.beep_frame.specs.declared.rule.Rule.{Rule as RuleValue};
 ghost use Rattle.beep_frame.specs.declared.head.Head.{Head as HeadValue};
+ghost use Rattle.beep_frame.specs.declared.seq.Seq.{Seq as SeqValue};
 ghost use Rattle.beep_frame.specs.declared.spelling.TheConstants.{SPELL_ROOM};
 ghost use Rattle.beep_session.specs.declared.limits.TheConstants.{MAX_PIECE};
 ghost use Rattle.beep_frame.specs.Modulo.{modulo_2_64};
@@ -235,6 +236,11 @@ impl Session {
             → result ≡ Err (SettleErrorValue.Broken rule place) → self.new.peer.ear.broken
             ≡ Some (record { rule = rule; place = place; left = 0 }) }
 
+        ensures rests { (rule : RuleValue) (place : ℕ)
+            → result ≡ Err (SettleErrorValue.Broken rule place)
+            → (self.new.peer.released ≡ self.old.peer.released)
+            × (self.new.peer.management ≡ self.old.peer.management) }
+
         // No answer is held back whose wait is over.
         ensures stuck { OnOk result (IsStuck self.new.peer.lives self.new.peer.management) }
 
@@ -329,6 +335,9 @@ impl Session {
             → IsLawfulSession self.old fed rest journal given taken → AreFrames journal
             → IsFramed result }
         ensures turn { is_over self.old.peer ≡ false → TakesTurn result self.old.peer }
+        ensures told { (seq : SeqValue) → result ≡ EmitValue.Seq seq
+            → (self.new.peer.management ≡ self.old.peer.management)
+            × (self.new.peer.released ≡ self.old.peer.released) }
         ensures over { is_over self.old.peer ≡ true
             → (result ≡ EmitValue.Nothing) × (self.new ≡ self.old) × (out.new ≡ out.old) }
         ensures falls { result ≢ EmitValue.Nothing

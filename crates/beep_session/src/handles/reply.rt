@@ -32,6 +32,8 @@ impl<'c> Owed<'c> {
             × (owed_number e.0 ≡ owed_number self.entry)) }
         ensures upright { IfErr result (λ e.
             KeepsUpright (owed_session self.entry).now (owed_session e.0).now) }
+        ensures accepted { OnOk result (reply_refusal_at (live_at (owed_number self.entry)
+            (owed_session self.entry).now.peer.lives) (length octets.now) ≡ None) }
         ensures refused { IfErr result (λ e. e.1 ≢ GiveErrorValue.NoMemory
             → reply_refusal_at (live_at (owed_number self.entry)
             (owed_session self.entry).now.peer.lives) (length octets.now) ≡ Some e.1) }
@@ -58,6 +60,8 @@ impl<'c> Owed<'c> {
             × (owed_number e.0 ≡ owed_number self.entry)) }
         ensures upright { IfErr result (λ e.
             KeepsUpright (owed_session self.entry).now (owed_session e.0).now) }
+        ensures accepted { OnOk result (reply_refusal_at (live_at (owed_number self.entry)
+            (owed_session self.entry).now.peer.lives) (length octets.now) ≡ None) }
         ensures refused { IfErr result (λ e. e.1 ≢ GiveErrorValue.NoMemory
             → reply_refusal_at (live_at (owed_number self.entry)
             (owed_session self.entry).now.peer.lives) (length octets.now) ≡ Some e.1) }
@@ -99,6 +103,8 @@ impl<'c> Answering<'c> {
             (answering_session self.new).now }
         ensures value { IfOk result (λ number. number ≡ next_answer
             (answering_number self.old) (answering_session self.old).now) }
+        ensures accepted { OnOk result (reply_refusal_at (live_at (answering_number self.old)
+            (answering_session self.old).now.peer.lives) (length octets.now) ≡ None) }
         ensures refused { IfErr result (λ error. error ≢ GiveErrorValue.NoMemory
             → reply_refusal_at (live_at (answering_number self.old)
             (answering_session self.old).now.peer.lives) (length octets.now) ≡ Some error) }
@@ -127,6 +133,8 @@ impl<'c> Answering<'c> {
             × (answering_number e.0 ≡ answering_number self.entry)) }
         ensures upright { IfErr result (λ e.
             KeepsUpright (answering_session self.entry).now (answering_session e.0).now) }
+        ensures accepted { OnOk result (reply_refusal_at (live_at (answering_number self.entry)
+            (answering_session self.entry).now.peer.lives) 0 ≡ None) }
     {
         let Answering { session, at } = self;
         match session.give_reply(at, Kind::Nul, &[]) {

@@ -49,6 +49,8 @@ impl Session {
             → OnOk result (AsksZero self.old.limits.window fed rest journal given taken
             (start_text number (map plain_profile profiles.now)) self.new.peer) }
         ensures upright { KeepsUpright self.old self.new }
+        ensures kept { OnOk result
+            (self.new.peer.management.answers ≡ self.old.peer.management.answers) }
 
         ensures accepted { OnOk result (refusal_of_start self.old.peer number
             (map plain_profile profiles.now) ≡ None) }
@@ -88,6 +90,8 @@ impl Session {
             → OnOk result (AsksZero self.old.limits.window fed rest journal given taken
             (message_text (closing_of 0)) self.new.peer) }
         ensures upright { KeepsUpright self.old self.new }
+        ensures kept { OnOk result
+            (self.new.peer.management.answers ≡ self.old.peer.management.answers) }
 
         ensures accepted { OnOk result (release_refusal self.old.peer ≡ None) }
         ensures refused { IfErr result (λ error. error ≢ ReleaseErrorValue.NoMemory

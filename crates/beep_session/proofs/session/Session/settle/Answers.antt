@@ -1,5 +1,5 @@
 -- The message that waits is settled as a request or as a reply, whichever journal it waits in.
-use Rattle.std.proofs.Common.{◌≡◌, true, false, map, Some, Ok, Err, option_map, sym, ap, ◌∙◌, subst}
+use Rattle.std.proofs.Common.{◌≡◌, true, map, Some, Ok, Err, option_map, sym, ap, ◌∙◌, subst}
 use Rattle.std.proofs.lemmas.Grind.{merely}
 use Rattle.beep_mgmt.specs.Form.{form_of}
 use Rattle.beep_mgmt.specs.Message.{message_said}
@@ -10,7 +10,6 @@ use Rattle.beep_session.specs.Session.{Held}
 use Rattle.std.proofs.Common.{ℕ, List, ◌∷◌}
 use Rattle.std.specs.Prelude.{OnOk, OnErr}
 use Rattle.beep_frame.specs.declared.head.Head.{Head}
-use Rattle.beep_frame.specs.Frame.{is_msg}
 use Rattle.beep_history.specs.declared.journal.Side.{Side}
 use Rattle.beep_history.specs.Journal.{Item, passed}
 use Rattle.beep_standing.specs.Standing.{Marks}
