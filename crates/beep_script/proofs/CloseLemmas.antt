@@ -21,9 +21,10 @@ use Rattle.beep_journal.specs.Zero.{channel_of, zero_history, gathered, asked, s
 use Rattle.beep_journal.proofs.PiecesLemmas.{AreCut, are-cut}
 use Rattle.beep_journal.proofs.MomentLemmas.{apart-more}
 use Rattle.beep_decide.specs.Asks.{is_close_of}
-use Rattle.beep_script.specs.declared.plan.Command.{Command}
-use Rattle.beep_script.specs.Plan.{PlainPlan}
-use Rattle.beep_script.specs.Desk.{ZeroMessage, Answer, answer_message, profile_of, grants_own, ends_lines, asks_where, asks, listing, is_clear, decided, desk}
+use Rattle.beep_talk.specs.declared.plan.Command.{Command}
+use Rattle.beep_talk.specs.Plan.{PlainPlan}
+use Rattle.beep_talk.specs.AtZero.{ZeroMessage, Answer, answer_message, profile_of}
+use Rattle.beep_script.specs.Desk.{grants_own, ends_lines, asks_where, asks, listing, is_clear, decided, desk}
 use Rattle.beep_script.specs.Script.{whole_message, message_marks, KeepsScript}
 use Rattle.beep_script.specs.EachEnd.{WasGranted}
 use Rattle.beep_script.specs.Laws.{AreRead}

@@ -1,10 +1,10 @@
 -- Answers that are listed, one by one.
 use Rattle.std.proofs.Common.{◌≡◌, ℕ, zero, suc, ◌-◌, List, [], ◌∷◌, ◌++◌, map, take, drop, refl, sym, ap, ◌∙◌, arith}
 use Rattle.std.proofs.lemmas.List.{map-append, append_assoc}
-use Rattle.beep_script.specs.declared.at_zero.ZeroMessage.{ZeroMessage}
-use Rattle.beep_script.specs.declared.at_zero.OwedAnswer.{OwedAnswer}
-use Rattle.beep_script.specs.Desk.{ZeroMessage as PlainZero, Answer, answer_message}
-use Rattle.beep_script.specs.Plain.{plain_zero, plain_zeros, plain_answer, plain_answers}
+use Rattle.beep_talk.specs.declared.at_zero.ZeroMessage.{ZeroMessage}
+use Rattle.beep_talk.specs.declared.at_zero.OwedAnswer.{OwedAnswer}
+use Rattle.beep_talk.specs.AtZero.{ZeroMessage as PlainZero, Answer, answer_message}
+use Rattle.beep_talk.specs.Plain.{plain_zero, plain_zeros, plain_answer, plain_answers}
 
 take-first : (count : ℕ) (x : Answer) (xs : List Answer) → (count ≡ 0 → ⊥) → take count (x ∷ xs) ≡ x ∷ take (count - 1) xs
 take-first zero x xs some = absurd (some refl)

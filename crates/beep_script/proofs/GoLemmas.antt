@@ -4,8 +4,8 @@ use Rattle.std.proofs.lemmas.List.{drop_more}
 use Rattle.beep_frame.specs.declared.tag.Tag.{Tag}
 use Rattle.beep_history.specs.Marks.{Mark, octet, end}
 use Rattle.beep_lawful.specs.Due.{may_go}
-use Rattle.beep_script.specs.declared.message.Message.{Message}
-use Rattle.beep_script.specs.Plain.{plain_messages}
+use Rattle.beep_talk.specs.declared.message.Message.{Message}
+use Rattle.beep_talk.specs.Plain.{plain_messages}
 use Rattle.beep_script.specs.Script.{message_marks}
 
 -- within a message an octet comes next

@@ -26,7 +26,7 @@ use Rattle.beep_lawful.specs.declared.breach.Breach.{Breach}
 use Rattle.beep_lawful.specs.declared.terms.Terms.{Terms}
 use Rattle.beep_lawful.specs.Closing.{has_begun, has_come, has_other_asking, is_ready, are_drained, was_ready_since}
 use Rattle.beep_lawful.specs.Lawful.{first_breach, breaks_apart, breaks_content, content_tests, request_said, breaks_ok_too_soon, granted_said, granted_position, unlawful_frame, unlawful_item, is_lawful}
-use Rattle.beep_script.specs.declared.plan.Command.{Command}
+use Rattle.beep_talk.specs.declared.plan.Command.{Command}
 use Rattle.beep_script.specs.Refused.{close_code, refused_at, first_code, refusal}
 use Rattle.beep_script.proofs.OnceLemmas.{keeps-where}
 use Rattle.beep_script.proofs.CloseLemmas.{SaysRelease, says-more, none-said}

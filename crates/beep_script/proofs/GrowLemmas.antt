@@ -3,9 +3,10 @@ use Rattle.std.proofs.Common.{ℕ, ◌==◌, Bool, true, false, if◌then◌else
 use Rattle.std.proofs.lemmas.List.{map-append, append_assoc, append-nil}
 use Rattle.beep_history.specs.Journal.{Item}
 use Rattle.beep_history.specs.Messages.{Message}
-use Rattle.beep_script.specs.Plan.{PlainPlan}
-use Rattle.beep_script.specs.Talk.{talk, called_for}
-use Rattle.beep_script.specs.Desk.{ZeroMessage, Answer, answer_message, listing, desk, asks}
+use Rattle.beep_talk.specs.Plan.{PlainPlan}
+use Rattle.beep_talk.specs.Talk.{talk, called_for}
+use Rattle.beep_talk.specs.AtZero.{ZeroMessage, Answer, answer_message}
+use Rattle.beep_script.specs.Desk.{listing, desk, asks}
 use Rattle.beep_script.specs.Script.{whole_message, script, BeginsWith}
 
 pub same-front : {X : Type 0} (xs : List X) → BeginsWith xs xs

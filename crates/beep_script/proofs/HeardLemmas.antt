@@ -13,8 +13,8 @@ use Rattle.beep_journal.specs.Life.{life, life_now, life_under_way}
 use Rattle.beep_journal.proofs.MomentLemmas.{same-number, equal-number}
 use Rattle.prof_raw.specs.Entries.{entries_of}
 use Rattle.prof_raw.specs.Line.{line_of}
-use Rattle.beep_script.specs.Plan.{PlainPlan}
-use Rattle.beep_script.specs.Talk.{has_profile}
+use Rattle.beep_talk.specs.Plan.{PlainPlan}
+use Rattle.beep_talk.specs.Talk.{has_profile}
 use Rattle.beep_script.specs.Script.{BeginsWith}
 use Rattle.beep_script.specs.Laws.{IsLastAnswer}
 use Rattle.beep_script.specs.Lines.{ends_answer, content_with, Heard, heard_at, heard, entries_in, entries, lines}

@@ -1,5 +1,3 @@
-mod NoteLemmas
-mod ListLemmas
 mod DeskLemmas
 mod GoLemmas
 mod GrowLemmas

@@ -18,9 +18,9 @@ use Rattle.beep_journal.specs.Life.{life, is_of_life, life_under_way, life_now}
 use Rattle.beep_journal.specs.Lives.{Event}
 use Rattle.beep_journal.specs.Zero.{events}
 use Rattle.beep_journal.proofs.MomentLemmas.{equal-number}
-use Rattle.beep_script.specs.declared.plan.Command.{Command}
-use Rattle.beep_script.specs.Plan.{PlainPlan}
-use Rattle.beep_script.specs.Talk.{has_profile, begins_with, reply_of, asked_first, ends_request, replied, called_for, talk}
+use Rattle.beep_talk.specs.declared.plan.Command.{Command}
+use Rattle.beep_talk.specs.Plan.{PlainPlan}
+use Rattle.beep_talk.specs.Talk.{has_profile, begins_with, reply_of, asked_first, ends_request, replied, called_for, talk}
 use Rattle.beep_script.proofs.SentLemmas.{is_first, reply-kept, reply-dropped, or-right, or-left}
 
 -- ---- a request under way has begun

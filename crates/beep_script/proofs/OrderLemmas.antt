@@ -12,9 +12,10 @@ use Rattle.beep_mgmt.specs.Form.{Form, start, close}
 use Rattle.beep_mgmt.specs.Message.{message_said}
 use Rattle.beep_journal.specs.Zero.{channel_of, zero_history, gathered, asked}
 use Rattle.beep_decide.specs.Decide.{PlainStanding, Decision, decide, answer_of}
-use Rattle.beep_script.specs.declared.plan.Command.{Command}
-use Rattle.beep_script.specs.Plan.{PlainPlan}
-use Rattle.beep_script.specs.Desk.{ZeroMessage, Answer, Desk, answer_message, profile_of, asks_where, asks, grants_own, ends_lines, listing, is_clear, standing, closes_by, answered, decided, desk}
+use Rattle.beep_talk.specs.declared.plan.Command.{Command}
+use Rattle.beep_talk.specs.Plan.{PlainPlan}
+use Rattle.beep_talk.specs.AtZero.{ZeroMessage, Answer, Desk, answer_message, profile_of}
+use Rattle.beep_script.specs.Desk.{asks_where, asks, grants_own, ends_lines, listing, is_clear, standing, closes_by, answered, decided, desk}
 use Rattle.beep_script.specs.Laws.{RiseBelow, replied_positions, answered_positions}
 use Rattle.beep_script.proofs.WholeLemmas.{reply-kind}
 

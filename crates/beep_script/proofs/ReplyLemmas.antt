@@ -21,8 +21,8 @@ use Rattle.beep_journal.specs.Zero.{channel_of, zero_history, gathered, asked, s
 use Rattle.beep_decide.specs.Asks.{is_close_of}
 use Rattle.beep_lawful.specs.Closing.{has_begun}
 use Rattle.beep_lawful.specs.Lawful.{granted_position, is_lawful}
-use Rattle.beep_script.specs.declared.plan.Command.{Command}
-use Rattle.beep_script.specs.Plan.{PlainPlan}
+use Rattle.beep_talk.specs.declared.plan.Command.{Command}
+use Rattle.beep_talk.specs.Plan.{PlainPlan}
 use Rattle.beep_script.specs.Desk.{grants_own, desk}
 use Rattle.beep_script.specs.Refused.{fault_code, refused_at, refusal}
 use Rattle.beep_script.specs.Script.{KeepsScript}

@@ -14,10 +14,11 @@ use Rattle.beep_history.proofs.PassedLemmas.{sound}
 use Rattle.beep_journal.specs.Life.{life}
 use Rattle.beep_journal.specs.Zero.{channel_of, zero_history, completes_form}
 use Rattle.beep_journal.proofs.MomentLemmas.{equal-number}
-use Rattle.beep_script.specs.declared.plan.Command.{Command}
-use Rattle.beep_script.specs.Plan.{PlainPlan}
-use Rattle.beep_script.specs.Talk.{reply_of, talk}
-use Rattle.beep_script.specs.Desk.{ZeroMessage, grants_own, desk}
+use Rattle.beep_talk.specs.declared.plan.Command.{Command}
+use Rattle.beep_talk.specs.Plan.{PlainPlan}
+use Rattle.beep_talk.specs.Talk.{reply_of, talk}
+use Rattle.beep_talk.specs.AtZero.{ZeroMessage}
+use Rattle.beep_script.specs.Desk.{grants_own, desk}
 use Rattle.beep_script.specs.Script.{whole_message, message_marks, KeepsScript}
 use Rattle.beep_script.specs.EachEnd.{WasGranted, HasSentLines}
 use Rattle.beep_script.proofs.SentLemmas.{is_first_mark, is_nul_mark, any-left, first-marks, reply-whole, any-kept}

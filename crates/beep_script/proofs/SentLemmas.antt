@@ -13,8 +13,8 @@ use Rattle.beep_history.specs.Messages.{Message}
 use Rattle.beep_history.specs.Moments.{mark_tag}
 use Rattle.beep_lawful.specs.declared.limits.TheConstants.{MESSAGE_NUMBERS}
 use Rattle.prof_raw.specs.Entries.{body_of}
-use Rattle.beep_script.specs.declared.plan.Command.{Command}
-use Rattle.beep_script.specs.Talk.{message_of, answers_from, nul, reply_of}
+use Rattle.beep_talk.specs.declared.plan.Command.{Command}
+use Rattle.beep_talk.specs.Talk.{message_of, answers_from, nul, reply_of}
 use Rattle.beep_script.specs.Script.{message_marks}
 
 -- ---- which marks and messages belong to the first request

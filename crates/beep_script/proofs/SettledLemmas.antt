@@ -12,7 +12,7 @@ use Rattle.beep_journal.specs.Zero.{events}
 use Rattle.beep_journal.proofs.MomentLemmas.{same-number, equal-number}
 use Rattle.beep_decide.specs.Decide.{is_among}
 use Rattle.beep_lawful.specs.Due.{due, is_ready}
-use Rattle.beep_script.specs.Plan.{PlainPlan}
+use Rattle.beep_talk.specs.Plan.{PlainPlan}
 use Rattle.beep_script.specs.Desk.{live_among, live_numbers}
 use Rattle.beep_script.specs.Script.{unsent}
 use Rattle.beep_script.specs.Prompt.{taken_all, IsSettled, is_settled_at, is_settled}

@@ -13,10 +13,11 @@ use Rattle.beep_mgmt.specs.Form.{Form, greeting, start, chosen, close, okay, fau
 use Rattle.beep_journal.specs.Life.{life, is_of_life, life_under_way}
 use Rattle.beep_journal.specs.Zero.{channel_of, zero_history}
 use Rattle.beep_journal.proofs.MomentLemmas.{same-number, equal-number}
-use Rattle.beep_script.specs.declared.plan.Command.{Command}
-use Rattle.beep_script.specs.Plan.{PlainPlan}
-use Rattle.beep_script.specs.Talk.{has_profile}
-use Rattle.beep_script.specs.Desk.{ZeroMessage, Answer, answer_message, kind_of, grants_own, ends_lines, asks_where, asks, profile_of, listing, is_clear, decided, desk}
+use Rattle.beep_talk.specs.declared.plan.Command.{Command}
+use Rattle.beep_talk.specs.Plan.{PlainPlan}
+use Rattle.beep_talk.specs.Talk.{has_profile}
+use Rattle.beep_talk.specs.AtZero.{ZeroMessage, Answer, answer_message, kind_of, profile_of}
+use Rattle.beep_script.specs.Desk.{grants_own, ends_lines, asks_where, asks, listing, is_clear, decided, desk}
 use Rattle.beep_script.proofs.SentLemmas.{is_nul_mark, is_first_mark, any-left, any-right, or-left}
 
 -- the marks that belong to the own request at a position

@@ -6,14 +6,12 @@
 use Rattle.std.specs.Prelude.{ℕ, ◌==◌, Bool, true, false, not, ◌&&◌, ◌||◌, if◌then◌else◌, List, [], ◌∷◌, ◌++◌, length, map, take, drop, filter, flat_map, Option, None, Some, option_to_list}
 use Rattle.std.specs.List.{list_any, list_all, prefix_len}
 use Rattle.beep_frame.specs.declared.kind.Kind.{Kind}
-use Rattle.beep_frame.specs.declared.tag.Tag.{Tag}
 use Rattle.beep_frame.specs.Frame.{is_msg, is_nul, same_kind}
 use Rattle.beep_history.specs.declared.journal.Side.{Side}
 use Rattle.beep_history.specs.Journal.{Item, began, passed, told}
 use Rattle.beep_history.specs.Marks.{position_of, is_answered}
 use Rattle.beep_history.specs.Messages.{messages}
-use Rattle.beep_mgmt.specs.declared.profile.Encoding.{Encoding}
-use Rattle.beep_mgmt.specs.Form.{Form, PlainProfile, greeting, start, chosen, close, okay, fault}
+use Rattle.beep_mgmt.specs.Form.{Form, greeting, start, chosen, close, okay, fault}
 use Rattle.beep_mgmt.specs.Message.{message_said}
 use Rattle.beep_journal.specs.Lives.{Event, close_came, start_granted, close_granted, is_live, has_ended, life_named}
 use Rattle.beep_journal.specs.Zero.{zero_history, gathered, asked, said_at, completes_form, events}
@@ -21,51 +19,12 @@ use Rattle.beep_journal.specs.Life.{life, life_now, life_under_way}
 use Rattle.beep_decide.specs.Asks.{is_close_of}
 use Rattle.beep_decide.specs.Decide.{PlainOffer, PlainStanding, Decision, refuse, choose, tune, grant_close, is_among, decide, answer_of}
 use Rattle.beep_lawful.specs.Closing.{is_drained}
-use Rattle.beep_script.specs.declared.plan.Command.{Command}
-use Rattle.beep_script.specs.Plan.{PlainPlan}
-use Rattle.beep_script.specs.Talk.{has_profile, talk}
+use Rattle.beep_talk.specs.declared.plan.Command.{Command}
+use Rattle.beep_talk.specs.Plan.{PlainPlan}
+use Rattle.beep_talk.specs.Talk.{has_profile, talk}
+use Rattle.beep_talk.specs.AtZero.{ZeroMessage, Answer, Desk, zero_message, answer_message, profile_of}
 
--- ---- what is said
-
--- a message of channel zero: what its octets are marked with, and what it says
-pub record ZeroMessage : Type 0 where
-  pub tag : Tag
-  pub form : Form
-
--- an answer to the peer's request at a position that isn't listed yet; of an `ok` the number of the
--- close that it grants
-pub record Answer : Type 0 where
-  pub position : ℕ
-  pub form : Form
-  pub closes : Option ℕ
-
--- the messages that are listed, and the answers that aren't, in the order of their requests
-pub record Desk : Type 0 where
-  pub listed : List ZeroMessage
-  pub owed : List Answer
-
--- a message of this kind to the request at a position, or as that request
-abbrev pub zero_message : Kind → ℕ → Form → ZeroMessage
-zero_message kind position form =
-    record { tag = record { kind = kind; request = position; ansno = 0 }; form = form }
-
--- the kind of a reply that says this
-abbrev pub kind_of : Form → Kind
-kind_of (greeting features localize profiles) = Kind.Rpy
-kind_of (start number server profiles) = Kind.Rpy
-kind_of (chosen profile) = Kind.Rpy
-kind_of (close number code note) = Kind.Rpy
-kind_of okay = Kind.Rpy
-kind_of (fault code note) = Kind.Err
-
--- the message of an answer
-abbrev pub answer_message : Answer → ZeroMessage
-answer_message answer = zero_message (kind_of answer.form) answer.position answer.form
-
--- a profile as it is listed: its URI, and no content
-abbrev pub profile_of : List ℕ → PlainProfile
-profile_of uri =
-    record { uri = uri; encoding = Encoding.Plain; content = []; readable = true }
+-- ---- the greeting
 
 -- the greeting of an end with these offers
 abbrev pub own_greeting : List PlainOffer → ZeroMessage

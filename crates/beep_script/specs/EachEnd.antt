@@ -11,8 +11,8 @@ use Rattle.beep_journal.specs.Journal.{Past, Shows}
 use Rattle.beep_journal.specs.Life.{life, is_released}
 use Rattle.beep_journal.specs.Log.{Entry, Moment, flat}
 use Rattle.beep_lawful.specs.Lawful.{IsLawfulLog}
-use Rattle.beep_script.specs.Plan.{PlainPlan}
-use Rattle.beep_script.specs.Talk.{reply_of}
+use Rattle.beep_talk.specs.Plan.{PlainPlan}
+use Rattle.beep_talk.specs.Talk.{reply_of}
 use Rattle.beep_script.specs.Desk.{grants_own}
 use Rattle.beep_script.specs.Script.{BeginsWith, KeepsScript, message_marks}
 use Rattle.beep_script.specs.Prompt.{IsPrompt, is_over}

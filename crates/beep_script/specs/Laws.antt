@@ -10,7 +10,7 @@ use Rattle.beep_journal.specs.Life.{life, life_now}
 use Rattle.beep_mgmt.specs.declared.limits.TheConstants.{MAX_CODE}
 use Rattle.beep_decide.specs.Decide.{Decision, refuse, choose, tune, grant_close}
 use Rattle.beep_mgmt.specs.Message.{message_said, message_text}
-use Rattle.beep_script.specs.Desk.{ZeroMessage, Desk}
+use Rattle.beep_talk.specs.AtZero.{ZeroMessage, Desk}
 use Rattle.beep_script.specs.Lines.{Heard}
 
 -- a refusal has a code of three digits

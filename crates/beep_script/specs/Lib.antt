@@ -1,6 +1,4 @@
 -- What public clauses cite.
-pub mod Plan
-pub mod Talk
 pub mod Desk
 pub mod Script
 pub mod Prompt
@@ -8,5 +6,3 @@ pub mod Lines
 pub mod Refused
 pub mod EachEnd
 pub mod Laws
--- What the values of the plain program stand for.
-pub mod Plain

@@ -15,8 +15,8 @@ use Rattle.beep_history.specs.Messages.{gathered}
 use Rattle.beep_journal.specs.Life.{life, life_now, life_under_way}
 use Rattle.prof_raw.specs.Entries.{entries_of}
 use Rattle.prof_raw.specs.Line.{line_of}
-use Rattle.beep_script.specs.Plan.{PlainPlan}
-use Rattle.beep_script.specs.Talk.{has_profile}
+use Rattle.beep_talk.specs.Plan.{PlainPlan}
+use Rattle.beep_talk.specs.Talk.{has_profile}
 
 -- a frame of the peer completes an answer to the first request of a life of RAW that is live
 abbrev pub ends_answer : PlainPlan → Head → List Item → Bool

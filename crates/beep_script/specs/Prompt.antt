@@ -13,7 +13,7 @@ use Rattle.beep_journal.specs.Journal.{Past, Shows, goes_on}
 use Rattle.beep_journal.specs.Life.{history, is_released}
 use Rattle.beep_journal.specs.Log.{Entry, read, wrote, quiet, ended, Moment, flat}
 use Rattle.beep_lawful.specs.Due.{due, is_ready, NothingDue}
-use Rattle.beep_script.specs.Plan.{PlainPlan}
+use Rattle.beep_talk.specs.Plan.{PlainPlan}
 use Rattle.beep_script.specs.Desk.{live_numbers}
 use Rattle.beep_script.specs.Script.{unsent}
 

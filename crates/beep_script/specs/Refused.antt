@@ -13,7 +13,7 @@ use Rattle.beep_mgmt.specs.Message.{message_said}
 use Rattle.beep_journal.specs.Lives.{Event, is_live}
 use Rattle.beep_journal.specs.Zero.{zero_history, gathered, events}
 use Rattle.beep_lawful.specs.Closing.{has_begun}
-use Rattle.beep_script.specs.declared.plan.Command.{Command}
+use Rattle.beep_talk.specs.declared.plan.Command.{Command}
 
 -- the code of an error
 abbrev pub fault_code : Option Form → Option ℕ

@@ -9,9 +9,10 @@ use Rattle.beep_history.specs.Messages.{Message}
 use Rattle.beep_mgmt.specs.Message.{message_text}
 use Rattle.beep_journal.specs.Zero.{zero_history}
 use Rattle.beep_journal.specs.Life.{life, life_now, history}
-use Rattle.beep_script.specs.Plan.{PlainPlan}
-use Rattle.beep_script.specs.Talk.{talk}
-use Rattle.beep_script.specs.Desk.{ZeroMessage, desk}
+use Rattle.beep_talk.specs.Plan.{PlainPlan}
+use Rattle.beep_talk.specs.Talk.{talk}
+use Rattle.beep_talk.specs.AtZero.{ZeroMessage}
+use Rattle.beep_script.specs.Desk.{desk}
 
 -- a message of channel zero with its octets
 abbrev pub whole_message : ZeroMessage → Message

@@ -5,20 +5,19 @@
 ghost use Rattle.std.specs.Prelude.{◌≡◌, ◌++◌, [], ◌∷◌, IfOk, OnOk, None};
 ghost use Rattle.beep_history.specs.Journal.{item_of, history_of};
 ghost use Rattle.beep_frame.specs.declared.kind.Kind.{Kind};
-ghost use Rattle.beep_script.specs.Plan.{HasAllowedUris};
-ghost use Rattle.beep_script.specs.Plain.{plain_plan, plain_zeros};
-ghost use Rattle.beep_script.specs.Desk.{zero_message, profile_of, grants_own, ends_lines, asks_where, sender_asks, asks};
+ghost use Rattle.beep_talk.specs.Plan.{HasAllowedUris};
+ghost use Rattle.beep_talk.specs.Plain.{plain_plan, plain_zeros};
+ghost use Rattle.beep_talk.specs.AtZero.{zero_message, profile_of};
+ghost use Rattle.beep_script.specs.Desk.{grants_own, ends_lines, asks_where, sender_asks, asks};
 
-use crate::at_zero::{ZeroMessage, zero_message};
-use crate::look::{life_under_way, position_of};
-use crate::message::put_last;
-use crate::plan::{Command, Plan};
-use crate::talking::has_profile;
-use crate::words::Words;
 use beep_frame::Kind;
 use beep_history::{JournalItem, Side};
 use beep_journal::{completes_form, life, zero_history};
 use beep_octets::NoMemory;
+use beep_talk::{
+    Command, Plan, Words, ZeroMessage, has_profile, life_under_way, position_of, put_last,
+    zero_message,
+};
 use std::alloc::Global;
 
 /// Whether an item passes the last frame of the positive reply to the own request at a position.

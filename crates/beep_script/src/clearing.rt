@@ -6,17 +6,14 @@ ghost use Rattle.std.specs.Prelude.{◌≡◌, ◌≤◌, length, IfOk};
 ghost use Rattle.std.specs.List.{list_all, prefix_len};
 ghost use Rattle.beep_history.specs.Journal.{history_of};
 ghost use Rattle.beep_journal.specs.Life.{life_now};
-ghost use Rattle.beep_script.specs.Plain.{plain_plan, plain_zeros, plain_answer, plain_answers};
+ghost use Rattle.beep_talk.specs.Plain.{plain_plan, plain_zeros, plain_answer, plain_answers};
 ghost use Rattle.beep_script.specs.Desk.{is_said, is_free, are_free, is_clear_of, is_clear};
 
-use crate::at_zero::{OwedAnswer, ZeroMessage};
-use crate::look::{is_drained, message_count};
-use crate::plan::Plan;
 use crate::standing_now::{has_listed_other, live_numbers};
-use crate::talking::talk;
 use beep_history::{JournalItem, Side};
 use beep_journal::{events, has_ended, life, life_named, life_now, zero_history};
 use beep_octets::NoMemory;
+use beep_talk::{OwedAnswer, Plan, ZeroMessage, is_drained, message_count, talk};
 use std::alloc::Global;
 
 /// Whether each message that an end has to say in a life has wholly passed.

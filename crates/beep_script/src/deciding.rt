@@ -11,22 +11,20 @@ ghost use Rattle.beep_mgmt.specs.Form.{plain_profile, chosen};
 ghost use Rattle.beep_journal.specs.Plain.{form_in};
 ghost use Rattle.beep_decide.specs.Decide.{Decision, uri_at, decide, answer_of};
 ghost use Rattle.beep_decide.specs.Plain.{plain_offer, plain_standing, decision_of};
-ghost use Rattle.beep_script.specs.Plan.{HasAllowedUris};
-ghost use Rattle.beep_script.specs.Plain.{plain_plan, plain_answer, plain_answers, plain_desk};
-ghost use Rattle.beep_script.specs.Desk.{profile_of, standing, number_closed, closes_by, answered, decided};
+ghost use Rattle.beep_talk.specs.Plan.{HasAllowedUris};
+ghost use Rattle.beep_talk.specs.Plain.{plain_plan, plain_answer, plain_answers, plain_desk};
+ghost use Rattle.beep_talk.specs.AtZero.{profile_of};
+ghost use Rattle.beep_script.specs.Desk.{standing, number_closed, closes_by, answered, decided};
 ghost use Rattle.beep_script.specs.Laws.{HasThreeDigits};
 
-use crate::at_zero::{Desk, OwedAnswer};
-use crate::message::put_last;
-use crate::plan::Plan;
 use crate::standing_now::standing;
-use crate::words::Words;
 use beep_chars::Text;
 use beep_decide::{Answer, Offer, Standing, decide};
 use beep_history::{JournalItem, Side};
 use beep_journal::{asked, completed, zero_history};
 use beep_mgmt::Mgmt;
 use beep_octets::NoMemory;
+use beep_talk::{Desk, OwedAnswer, Plan, Words, put_last};
 use std::alloc::Global;
 
 /// The number of the close that a request says.

@@ -5,20 +5,20 @@
 ghost use Rattle.std.specs.Prelude.{◌≡◌, ◌<◌, ◌≤◌, [], ◌∷◌, ◌++◌, length, map, take, drop, IfOk, OnOk};
 ghost use Rattle.beep_history.specs.Journal.{item_of, history_of};
 ghost use Rattle.beep_decide.specs.Plain.{plain_offer};
-ghost use Rattle.beep_script.specs.Plan.{HasAllowedUris};
-ghost use Rattle.beep_script.specs.Plain.{plain_plan, plain_zero, plain_zeros, plain_answers, plain_desk};
-ghost use Rattle.beep_script.specs.Desk.{own_greeting, answer_message, desk_after, desk};
+ghost use Rattle.beep_talk.specs.Plan.{HasAllowedUris};
+ghost use Rattle.beep_talk.specs.Plain.{plain_plan, plain_zero, plain_zeros, plain_answers, plain_desk};
+ghost use Rattle.beep_talk.specs.AtZero.{answer_message};
+ghost use Rattle.beep_script.specs.Desk.{own_greeting, desk_after, desk};
 
 use crate::asking::put_asks;
-use crate::at_zero::{Desk, OwedAnswer, ZeroMessage, answer_message, zero_message};
 use crate::clearing::clear_count;
 use crate::deciding::put_decided;
-use crate::message::put_last;
-use crate::plan::Plan;
-use crate::words::Words;
 use beep_frame::Kind;
 use beep_history::JournalItem;
 use beep_octets::NoMemory;
+use beep_talk::{
+    Desk, OwedAnswer, Plan, Words, ZeroMessage, answer_message, put_last, zero_message,
+};
 use std::alloc::Global;
 
 /// Takes the first of some answers out.

@@ -6,15 +6,11 @@
 #![tactic(auto)]
 
 mod asking;
-mod at_zero;
 mod clearing;
 mod deciding;
 mod desks;
 pub mod laws;
 mod lines_heard;
-mod look;
-mod message;
-mod plan;
 mod refusals;
 #[cfg(test)]
 mod sample;
@@ -23,16 +19,9 @@ mod settled;
 mod standing_now;
 #[cfg(test)]
 mod story;
-mod talking;
-mod words;
 
-pub use at_zero::{Desk, OwedAnswer, ZeroMessage};
 pub use desks::desk;
 pub use lines_heard::{entries, lines};
-pub use message::Message;
-pub use plan::{Command, Plan};
 pub use refusals::refusal;
 pub use scripts::script;
 pub use settled::is_settled;
-pub use talking::talk;
-pub use words::Words;

@@ -5,17 +5,15 @@
 ghost use Rattle.std.specs.Prelude.{◌≡◌, ◌≤◌, ◌++◌, length, drop, flat_map, IfOk, OnOk};
 ghost use Rattle.beep_history.specs.Journal.{item_of, history_of};
 ghost use Rattle.prof_raw.specs.Line.{line_of};
-ghost use Rattle.beep_script.specs.Plain.{plain_plan};
+ghost use Rattle.beep_talk.specs.Plain.{plain_plan};
 ghost use Rattle.beep_script.specs.Lines.{ends_answer, content_with, heard_at, entries_in, entries, lines};
 
-use crate::look::{gathered, life_under_way, position_of, tag_of};
-use crate::plan::Plan;
-use crate::talking::{has_profile, line_at};
 use beep_frame::Head;
 use beep_history::{JournalItem, Side};
 use beep_journal::{life, life_now};
 use beep_mime::body;
 use beep_octets::{NoMemory, Octets};
+use beep_talk::{Plan, gathered, has_profile, life_under_way, line_at, position_of, tag_of};
 use prof_raw::{Entries, entries as entries_of, line_room, write_line};
 use std::alloc::Global;
 

@@ -9,12 +9,12 @@ ghost use Rattle.beep_journal.specs.Plain.{form_in, events_of};
 ghost use Rattle.beep_lawful.specs.Closing.{has_begun};
 ghost use Rattle.beep_script.specs.Refused.{fault_code, close_code, refused_by, refused_at, refusal};
 
-use crate::plan::Command;
 use beep_frame::{Head, Kind};
 use beep_history::{JournalItem, Side, request_count};
 use beep_journal::{LifeEvent, completed, events, is_live, zero_history};
 use beep_mgmt::Mgmt;
 use beep_octets::NoMemory;
+use beep_talk::Command;
 use std::alloc::Global;
 
 /// The code of an error.

@@ -1,9 +1,8 @@
 //! Three lines that are sent and listened for, frame by frame.
-ghost use Rattle.beep_script.specs.Plan.{HasAllowedUris};
-ghost use Rattle.beep_script.specs.Plain.{plain_plan};
+ghost use Rattle.beep_talk.specs.Plan.{HasAllowedUris};
+ghost use Rattle.beep_talk.specs.Plain.{plain_plan};
 
 use crate::lines_heard::lines;
-use crate::plan::{Command, Plan};
 use crate::refusals::refusal;
 use crate::scripts::script;
 use crate::settled::is_settled;
@@ -11,6 +10,7 @@ use crate::story::{Story, are, plan_of};
 use beep_history::{JournalItem, Side};
 use beep_journal::is_released;
 use beep_lawful::is_lawful;
+use beep_talk::{Command, Plan};
 use std::alloc::Global;
 use std::test::Fail;
 

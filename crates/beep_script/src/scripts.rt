@@ -5,19 +5,15 @@
 ghost use Rattle.std.specs.Prelude.{◌≡◌, map, drop, flat_map, IfOk};
 ghost use Rattle.beep_history.specs.Journal.{history_of};
 ghost use Rattle.beep_lawful.specs.Due.{may_go};
-ghost use Rattle.beep_script.specs.Plan.{HasAllowedUris};
-ghost use Rattle.beep_script.specs.Plain.{plain_plan, plain_zeros, plain_messages};
+ghost use Rattle.beep_talk.specs.Plan.{HasAllowedUris};
+ghost use Rattle.beep_talk.specs.Plain.{plain_plan, plain_zeros, plain_messages};
 ghost use Rattle.beep_script.specs.Script.{whole_message, script, message_marks, unsent};
 
-use crate::at_zero::ZeroMessage;
 use crate::desks::desk;
-use crate::look::mark_count;
-use crate::message::Message;
-use crate::plan::Plan;
-use crate::talking::talk;
 use beep_history::{JournalItem, Side};
 use beep_journal::{history, life_now};
 use beep_octets::{NoMemory, Octets};
+use beep_talk::{Message, Plan, ZeroMessage, mark_count, talk};
 use std::alloc::Global;
 
 /// The messages of channel zero with their octets.

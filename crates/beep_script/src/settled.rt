@@ -5,17 +5,17 @@
 ghost use Rattle.std.specs.Prelude.{◌≡◌, IfOk};
 ghost use Rattle.std.specs.List.{list_all};
 ghost use Rattle.beep_history.specs.Journal.{history_of};
-ghost use Rattle.beep_script.specs.Plan.{HasAllowedUris};
-ghost use Rattle.beep_script.specs.Plain.{plain_plan};
+ghost use Rattle.beep_talk.specs.Plan.{HasAllowedUris};
+ghost use Rattle.beep_talk.specs.Plain.{plain_plan};
 ghost use Rattle.beep_script.specs.Prompt.{is_settled_at, is_settled};
 
-use crate::plan::Plan;
 use crate::scripts::unsent_may_go;
 use crate::standing_now::live_numbers;
 use beep_history::JournalItem;
 use beep_journal::is_there;
 use beep_lawful::{due, open_octets};
 use beep_octets::NoMemory;
+use beep_talk::Plan;
 use std::alloc::Global;
 
 /// Whether nothing is due on the channel of a number.

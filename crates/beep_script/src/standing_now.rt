@@ -12,11 +12,10 @@ ghost use Rattle.beep_journal.specs.Zero.{zero_history, asked};
 ghost use Rattle.beep_decide.specs.Asks.{is_close_of};
 ghost use Rattle.beep_decide.specs.Decide.{is_among};
 ghost use Rattle.beep_decide.specs.Plain.{plain_offer, plain_standing};
-ghost use Rattle.beep_script.specs.Plain.{plain_plan, plain_zero, plain_zeros, plain_answers, plain_desk};
-ghost use Rattle.beep_script.specs.Desk.{answer_message, waits, has_listed, live_among, live_numbers, number_started, own_starting, peer_starting, has_peer_close, is_closing, standing};
+ghost use Rattle.beep_talk.specs.Plain.{plain_plan, plain_zero, plain_zeros, plain_answers, plain_desk};
+ghost use Rattle.beep_talk.specs.AtZero.{answer_message};
+ghost use Rattle.beep_script.specs.Desk.{waits, has_listed, live_among, live_numbers, number_started, own_starting, peer_starting, has_peer_close, is_closing, standing};
 
-use crate::at_zero::{Desk, OwedAnswer, ZeroMessage, kind_of};
-use crate::plan::Plan;
 use beep_decide::{Offer, Standing, is_close_of};
 use beep_frame::Kind;
 use beep_history::{JournalItem, Side, has_answer};
@@ -25,6 +24,7 @@ use beep_journal::{
 };
 use beep_mgmt::Mgmt;
 use beep_octets::NoMemory;
+use beep_talk::{Desk, OwedAnswer, Plan, ZeroMessage, kind_of};
 use std::alloc::Global;
 
 // ---- own requests that wait

@@ -11,11 +11,9 @@
 //! A message of a script is written as its keyword, the position of its request, for an ANS its
 //! answer number, and what it holds.
 ghost use Rattle.std.specs.Prelude.{IfOk};
-ghost use Rattle.beep_script.specs.Plan.{HasAllowedUris};
-ghost use Rattle.beep_script.specs.Plain.{plain_plan};
+ghost use Rattle.beep_talk.specs.Plan.{HasAllowedUris};
+ghost use Rattle.beep_talk.specs.Plain.{plain_plan};
 
-use crate::message::Message;
-use crate::plan::{Command, Plan};
 use beep_chars::{Text, are_allowed};
 use beep_decide::Offer;
 use beep_frame::{Head, Kind, Seq, Tag};
@@ -23,6 +21,7 @@ use beep_history::{JournalItem, Side};
 use beep_journal::Role;
 use beep_lawful::Terms;
 use beep_octets::Octets;
+use beep_talk::{Command, Message, Plan};
 use prof_raw::Entries;
 use std::alloc::Global;
 use std::test::Fail;

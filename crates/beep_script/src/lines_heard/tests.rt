@@ -1,7 +1,7 @@
 use super::lines;
-use crate::plan::{Command, Plan};
 use crate::story::{Story, plan_of};
 use beep_lawful::is_lawful;
+use beep_talk::{Command, Plan};
 use std::alloc::Global;
 use std::test::Fail;
 

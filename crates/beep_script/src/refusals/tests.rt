@@ -1,6 +1,6 @@
 use super::refusal;
-use crate::plan::Command;
 use crate::story::Story;
+use beep_talk::Command;
 use std::test::Fail;
 
 /// What has happened, and the code with which a sender was refused.

@@ -1,10 +1,10 @@
-ghost use Rattle.beep_script.specs.Plan.{HasAllowedUris};
-ghost use Rattle.beep_script.specs.Plain.{plain_plan};
+ghost use Rattle.beep_talk.specs.Plan.{HasAllowedUris};
+ghost use Rattle.beep_talk.specs.Plain.{plain_plan};
 
 use super::script;
-use crate::plan::{Command, Plan};
 use crate::story::{Story, are, plan_of};
 use beep_lawful::is_lawful;
+use beep_talk::{Command, Plan};
 use std::alloc::Global;
 use std::test::Fail;
 

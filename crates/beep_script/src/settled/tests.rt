@@ -1,10 +1,10 @@
-ghost use Rattle.beep_script.specs.Plan.{HasAllowedUris};
-ghost use Rattle.beep_script.specs.Plain.{plain_plan};
+ghost use Rattle.beep_talk.specs.Plan.{HasAllowedUris};
+ghost use Rattle.beep_talk.specs.Plain.{plain_plan};
 
 use super::is_settled;
-use crate::plan::{Command, Plan};
 use crate::story::{Story, plan_of};
 use beep_lawful::is_lawful;
+use beep_talk::{Command, Plan};
 use std::alloc::Global;
 use std::test::Fail;
 

@@ -1,7 +1,7 @@
 use Rattle.std.proofs.Common.{◌++◌, map, take, ◌-◌, ap, ◌∙◌}
 use Rattle.std.proofs.lemmas.Result.{on_ok_weaker, IfOk-weaker}
-use Rattle.beep_script.specs.Desk.{answer_message}
-use Rattle.beep_script.specs.Plain.{plain_zeros, plain_answers}
+use Rattle.beep_talk.specs.AtZero.{answer_message}
+use Rattle.beep_talk.specs.Plain.{plain_zeros, plain_answers}
 use Rattle.beep_script.proofs.DeskLemmas.{put-first, list-rest, left-rest}
 use Rattle.beep_script.proofs.desks.+list_answers.Goals as goal
 

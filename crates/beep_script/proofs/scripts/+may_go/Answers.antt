@@ -1,7 +1,7 @@
 use Rattle.std.proofs.Common.{◌-◌, drop, flat_map, ap, arith, ◌∙◌}
 use Rattle.std.proofs.lemmas.List.{take_rest}
 use Rattle.beep_lawful.specs.Due.{may_go}
-use Rattle.beep_script.specs.Plain.{plain_messages}
+use Rattle.beep_talk.specs.Plain.{plain_messages}
 use Rattle.beep_script.specs.Script.{message_marks}
 use Rattle.beep_script.proofs.GoLemmas.{goes-within, goes-past}
 use Rattle.beep_script.proofs.scripts.+may_go.Goals as goal

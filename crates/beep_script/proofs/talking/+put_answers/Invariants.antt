@@ -1,5 +1,0 @@
-use Rattle.std.proofs.Common.{◌-◌, length}
-use Rattle.beep_script.proofs.talking.+put_answers.Given as goal
-
-abbrev pub decreases-put_answers : goal.decreases-put_answers
-decreases-put_answers l = length l.lines.now - l.from

@@ -1,5 +1,0 @@
-use Rattle.std.proofs.Common.{length}
-use Rattle.beep_script.proofs.words.+put_offered.Given as goal
-
-abbrev pub decreases-put_offered : goal.decreases-put_offered
-decreases-put_offered l = length l.offers.now
