@@ -1,0 +1,225 @@
+-- What is kept of a link stays its log.
+use Rattle.std.proofs.Common.{◌≡◌, ◌==◌, ◌&&◌, not, ℕ, ◌+◌, ◌<◌, ◌≤◌, Bool, true, false, List, [], ◌∷◌, ◌++◌, map, Option, Some, None, Result, Ok, Err, ◌⊎◌, inl, inr, refl, sym, ap, subst, ◌∙◌, arith}
+use Rattle.std.specs.Result.{IfOk}
+use Rattle.std.proofs.lemmas.Bool.{cases_Bool, eqb-true, eq-eqb, eqb-false}
+use Rattle.std.proofs.lemmas.List.{map-append}
+use Rattle.beep_wires.specs.declared.failed.Failed.{Failed}
+use Rattle.beep_wires.specs.declared.links.Got.{Got}
+use Rattle.beep_wires.specs.declared.links.WireError.{WireError}
+use Rattle.beep_wires.specs.Log.{Entry as LinkEntry, Logs}
+use Rattle.beep_wires.specs.Links.{Link, IsFresh, SameBeside, LeavesLinks, given_after}
+use Rattle.beep_wires.specs.Got.{read_entries, write_entries, gives_end}
+use Rattle.beep_journal.specs.Log.{Entry, read, wrote, quiet, ended}
+use Rattle.beep_record.specs.Record.{has_ended, IsOrdered}
+use Rattle.beep_recorder.specs.Said.{entry_said, log_said}
+use Rattle.beep_recorder.specs.Kept.{IsUnread, IsGiven, EndsWith, IsTold, is_recorded, first_given}
+use Rattle.beep_recorder.specs.Ordered.{is_ordered}
+
+-- ---- the order of entries
+
+and-true : (a b : Bool) → (a && b) ≡ true → (a ≡ true) × (b ≡ true)
+and-true true b is = (refl, is)
+and-true false b is = absurd (cc is)
+
+not-true : (a : Bool) → not a ≡ true → a ≡ false
+not-true true is = absurd (cc is)
+not-true false is = refl
+
+not-false : (a : Bool) → not a ≡ false → a ≡ true
+not-false true is = refl
+not-false false is = absurd (cc is)
+
+pub ordered-of : (log : List Entry) → is_ordered log ≡ true → IsOrdered log
+ordered-of [] is = tt
+ordered-of (read octets ∷ log) is =
+    let both = and-true _ _ is in
+    (not-true _ both.0, ordered-of log both.1)
+ordered-of (wrote octets ∷ log) is = ordered-of log is
+ordered-of (quiet ∷ log) is =
+    let both = and-true _ _ is in
+    (not-true _ both.0, ordered-of log both.1)
+ordered-of (ended ∷ log) is =
+    let both = and-true _ _ is in
+    (not-true _ both.0, ordered-of log both.1)
+
+-- ---- what a read or a write adds
+
+read-ordered : (r : Result Got Failed) (buf : List ℕ) (log : List Entry) → has_ended log ≡ false → is_ordered log ≡ true → is_ordered (log_said (read_entries r buf) ++ log) ≡ true
+read-ordered (Ok (Got.Bytes n)) buf log going is = rw (going, is) refl
+read-ordered (Ok Got.Quiet) buf log going is = rw (going, is) refl
+read-ordered (Ok Got.End) buf log going is = rw (going, is) refl
+read-ordered (Err e) buf log going is = is
+
+read-ends : (r : Result Got Failed) (buf : List ℕ) (log : List Entry) → has_ended log ≡ false → has_ended (log_said (read_entries r buf) ++ log) ≡ gives_end r
+read-ends (Ok (Got.Bytes n)) buf log going = going
+read-ends (Ok Got.Quiet) buf log going = going
+read-ends (Ok Got.End) buf log going = refl
+read-ends (Err e) buf log going = going
+
+write-ordered : (r : Result ℕ Failed) (bytes : List ℕ) (log : List Entry) → is_ordered log ≡ true → is_ordered (log_said (write_entries r bytes) ++ log) ≡ true
+write-ordered (Ok n) bytes log is = is
+write-ordered (Err e) bytes log is = is
+
+write-ends : (r : Result ℕ Failed) (bytes : List ℕ) (log : List Entry) → has_ended (log_said (write_entries r bytes) ++ log) ≡ has_ended log
+write-ends (Ok n) bytes log = refl
+write-ends (Err e) bytes log = refl
+
+-- ---- another link
+
+recorded-whole : (short : Bool) (link : Option ℕ) (m : ℕ) → is_recorded short link m ≡ true → short ≡ false
+recorded-whole short None m is = absurd (cc is)
+recorded-whole short (Some n) m is = not-true short (and-true (not short) (n == m) is).0
+
+same-number : (n m : ℕ) → (n == m) ≡ true → Some n ≡ Some m
+same-number n m is = ap (λ k. Some k) (eqb-true n m is)
+
+recorded-link : (short : Bool) (link : Option ℕ) (m : ℕ) → is_recorded short link m ≡ true → link ≡ Some m
+recorded-link short None m is = absurd (cc is)
+recorded-link short (Some n) m is = same-number n m (and-true (not short) (n == m) is).1
+
+recorded-here : (short : Bool) (n m : ℕ) → short ≡ false → n ≡ m → is_recorded short (Some n) m ≡ true
+recorded-here short n m whole same = rw whole (eq-eqb n m same)
+
+other-link : (short : Bool) (link : Option ℕ) (n m : ℕ) → is_recorded short link m ≡ false → short ≡ false → link ≡ Some n → n ≡ m → ⊥
+other-link short link n m not_it whole is same =
+    let it : is_recorded short link m ≡ true = subst (λ (o : Option ℕ). is_recorded short o m ≡ true) (sym is) (recorded-here short n m whole same) in
+    absurd (cc (sym not_it ∙ it))
+
+module _ (short : Bool) (link : Option ℕ) (m : ℕ) (log : List Entry) (state state2 : ℕ → Link) (not_it : is_recorded short link m ≡ false) (others : SameBeside m state state2) where
+  pub beside-ended : EndsWith short state link log → EndsWith short state2 link log
+  beside-ended ends = λ n whole is. ends n whole is ∙ ap (λ l. l.has_ended) (sym (others n (other-link short link n m not_it whole is)))
+
+  pub beside-told : IsTold short state link log → IsTold short state2 link log
+  beside-told told = λ n entries whole is log_is. told n entries whole is (ap (λ l. l.log) (sym (others n (other-link short link n m not_it whole is))) ∙ log_is)
+
+-- ---- the link itself
+
+module _ (short : Bool) (link : Option ℕ) (m : ℕ) (log : List Entry) (state state2 : ℕ → Link) (it : is_recorded short link m ≡ true)
+    (more : List LinkEntry) (log2 : List Entry) (is_kept : Bool) (kept : is_kept ≡ true → log2 ≡ log_said more ++ log) where
+  same-link : (n : ℕ) → link ≡ Some n → n ≡ m
+  same-link n is =
+      let both : Some n ≡ Some m = sym is ∙ recorded-link short link m it in
+      cc both
+
+  told-more : (old : Option (List LinkEntry)) (entries : List LinkEntry) → Logs old (Some entries) more → ((l : List LinkEntry) → old ≡ Some l → log ≡ log_said l)
+      → log2 ≡ log_said more ++ log → log2 ≡ log_said entries
+  told-more None entries logs told grown = absurd logs
+  told-more (Some l) entries logs told grown =
+      grown ∙ ap (λ x. log_said more ++ x) (told l refl) ∙ sym (map-append entry_said more l) ∙ ap log_said (sym logs)
+
+  pub it-told : Logs (state m).log (state2 m).log more → IsTold short state link log → IsTold (not is_kept) state2 link log2
+  it-told logs told = λ n entries whole is log_is.
+      let same = same-link n is in
+      told-more (state m).log entries (subst (λ (o : Option (List LinkEntry)). Logs (state m).log o more) (ap (λ k. (state2 k).log) (sym same) ∙ log_is) logs)
+      (λ l log_was. told m l (recorded-whole short link m it) (recorded-link short link m it) log_was)
+      (kept (not-false is_kept whole))
+
+  pub it-ends : (has_ended (log_said more ++ log) ≡ (state2 m).has_ended) → EndsWith (not is_kept) state2 link log2
+  it-ends ends = λ n whole is.
+      ap has_ended (kept (not-false is_kept whole)) ∙ ends ∙ ap (λ k. (state2 k).has_ended) (sym (same-link n is))
+
+  pub it-ordered : (is_kept ≡ false → log2 ≡ log) → is_ordered log ≡ true → is_ordered (log_said more ++ log) ≡ true → is_ordered log2 ≡ true
+  it-ordered lost is grown = elim (cases_Bool is_kept) as (λ _. is_ordered log2 ≡ true) [
+    | inl yes_kept ↦ ap is_ordered (kept yes_kept) ∙ grown
+    | inr not_kept ↦ ap is_ordered (lost not_kept) ∙ is
+  ]
+
+  pub it-unread : IsUnread (not is_kept) link log2
+  it-unread = λ whole is. absurd (cc (sym is ∙ recorded-link short link m it))
+
+pub going-of : (short : Bool) (link : Option ℕ) (m : ℕ) (log : List Entry) (state : ℕ → Link) → is_recorded short link m ≡ true → EndsWith short state link log
+    → has_ended log ≡ (state m).has_ended
+going-of short link m log state it ends = ends m (recorded-whole short link m it) (recorded-link short link m it)
+
+pub read-grown : (r : Result Got Failed) (buf : List ℕ) (log : List Entry) (old new : Bool) → has_ended log ≡ old → old ≡ false → new ≡ gives_end r
+    → has_ended (log_said (read_entries r buf) ++ log) ≡ new
+read-grown r buf log old new was going is = read-ends r buf log (was ∙ going) ∙ sym is
+
+pub read-in-order : (r : Result Got Failed) (buf : List ℕ) (log : List Entry) (old : Bool) → has_ended log ≡ old → old ≡ false → is_ordered log ≡ true
+    → is_ordered (log_said (read_entries r buf) ++ log) ≡ true
+read-in-order r buf log old was going is = read-ordered r buf log (was ∙ going) is
+
+pub write-grown : (r : Result ℕ Failed) (bytes : List ℕ) (log : List Entry) (old new : Bool) → has_ended log ≡ old → new ≡ old
+    → has_ended (log_said (write_entries r bytes) ++ log) ≡ new
+write-grown r bytes log old new was same = write-ends r bytes log ∙ was ∙ sym same
+
+pub write-in-order : (r : Result ℕ Failed) (bytes : List ℕ) (log : List Entry) → is_ordered log ≡ true → is_ordered (log_said (write_entries r bytes) ++ log) ≡ true
+write-in-order r bytes log is = write-ordered r bytes log is
+
+-- ---- a link that is given
+
+module _ (short : Bool) (link : Option ℕ) (log : List Entry) (state state2 : ℕ → Link) (given given2 : ℕ)
+    (unread : IsUnread short link log) (within : IsGiven short given link) where
+  pub given-unread : (r : Result ℕ WireError) → IsUnread short (first_given link r) log
+  given-unread r = λ whole is. unread whole (none-before link r is)
+    where
+      none-before : (link : Option ℕ) (r : Result ℕ WireError) → first_given link r ≡ None → link ≡ None
+      none-before None r is = refl
+      none-before (Some n) r is = is
+
+  given-within-of : (link : Option ℕ) → IsGiven short given link → (r : Result ℕ WireError) → IfOk r (λ m. m ≡ given) → given2 ≡ given_after given r → IsGiven short given2 (first_given link r)
+  given-within-of None w (Ok m) number after = λ n whole is.
+      let same : m ≡ n = cc is in
+      omega (arith, same, number, after)
+  given-within-of None w (Err e) number after = λ n whole is. absurd (cc is)
+  given-within-of (Some k) w (Ok m) number after = λ n whole is. omega (arith, w n whole is, after)
+  given-within-of (Some k) w (Err e) number after = λ n whole is. omega (arith, w n whole is, after)
+
+  pub given-within : (r : Result ℕ WireError) → IfOk r (λ m. m ≡ given) → given2 ≡ given_after given r → IsGiven short given2 (first_given link r)
+  given-within r number after = given-within-of link within r number after
+
+-- a link that was given before is as it was
+as-before : (state state2 : ℕ → Link) (given n : ℕ) (r : Result ℕ WireError) → n < given → IfOk r (λ m. m ≡ given) → LeavesLinks r state state2 → state2 n ≡ state n
+as-before state state2 given n (Ok m) less number leaves = leaves n (λ same. absurd (omega (arith, less, number, same)))
+as-before state state2 given n (Err e) less number leaves = leaves n
+
+fresh-log : (l : Option (List LinkEntry)) (entries : List LinkEntry) → (l ≡ None) ⊎ (l ≡ Some []) → l ≡ Some entries → entries ≡ []
+fresh-log l entries (inl none) is = absurd (cc (sym none ∙ is))
+fresh-log l entries (inr empty) is =
+    let both : Some entries ≡ Some [] = sym is ∙ empty in
+    cc both
+
+pub given-ended : (short : Bool) (link : Option ℕ) (log : List Entry) (state state2 : ℕ → Link) (given : ℕ) (r : Result ℕ WireError) → IsUnread short link log → IsGiven short given link
+    → IfOk r (λ m. m ≡ given) → IfOk r (λ m. IsFresh (state2 m)) → LeavesLinks r state state2 → EndsWith short state link log → EndsWith short state2 (first_given link r) log
+given-ended short None log state state2 given (Ok m) unread within number fresh leaves ends = λ n whole is.
+    let same : m ≡ n = cc is in
+    ap has_ended (unread whole refl) ∙ sym fresh.going ∙ ap (λ k. (state2 k).has_ended) same
+given-ended short None log state state2 given (Err e) unread within number fresh leaves ends = λ n whole is. absurd (cc is)
+given-ended short (Some k) log state state2 given r unread within number fresh leaves ends = λ n whole is.
+    ends n whole is ∙ ap (λ l. l.has_ended) (sym (as-before state state2 given n r (within n whole is) number leaves))
+
+pub given-told : (short : Bool) (link : Option ℕ) (log : List Entry) (state state2 : ℕ → Link) (given : ℕ) (r : Result ℕ WireError) → IsUnread short link log → IsGiven short given link
+    → IfOk r (λ m. m ≡ given) → IfOk r (λ m. IsFresh (state2 m)) → LeavesLinks r state state2 → IsTold short state link log → IsTold short state2 (first_given link r) log
+given-told short None log state state2 given (Ok m) unread within number fresh leaves told = λ n entries whole is log_is.
+    let same : m ≡ n = cc is in
+    unread whole refl ∙ ap log_said (sym (fresh-log (state2 m).log entries fresh.unread (ap (λ k. (state2 k).log) same ∙ log_is)))
+given-told short None log state state2 given (Err e) unread within number fresh leaves told = λ n entries whole is log_is. absurd (cc is)
+given-told short (Some k) log state state2 given r unread within number fresh leaves told = λ n entries whole is log_is.
+    told n entries whole is (ap (λ l. l.log) (sym (as-before state state2 given n r (within n whole is) number leaves)) ∙ log_is)
+
+-- ---- a link that is shut
+
+module _ (short : Bool) (link : Option ℕ) (m : ℕ) (log : List Entry) (state state2 : ℕ → Link) (shut : state2 m ≡ record (state m) { is_open = false }) (others : SameBeside m state state2) where
+  shut-log : (n : ℕ) → (state2 n).log ≡ (state n).log
+  shut-log n = elim (cases_Bool (n == m)) as (λ _. (state2 n).log ≡ (state n).log) [
+    | inl here ↦ subst (λ (k : ℕ). (state2 k).log ≡ (state k).log) (sym (eq-here n m here)) (ap (λ l. l.log) shut)
+    | inr away ↦ ap (λ l. l.log) (others n (λ same. absurd (cc (sym away ∙ eq-eqb n m same))))
+  ]
+    where
+      eq-here : (n m : ℕ) → (n == m) ≡ true → n ≡ m
+      eq-here n m here = eqb-true n m here
+
+  shut-end : (n : ℕ) → (state2 n).has_ended ≡ (state n).has_ended
+  shut-end n = elim (cases_Bool (n == m)) as (λ _. (state2 n).has_ended ≡ (state n).has_ended) [
+    | inl here ↦ subst (λ (k : ℕ). (state2 k).has_ended ≡ (state k).has_ended) (sym (eq-here n m here)) (ap (λ l. l.has_ended) shut)
+    | inr away ↦ ap (λ l. l.has_ended) (others n (λ same. absurd (cc (sym away ∙ eq-eqb n m same))))
+  ]
+    where
+      eq-here : (n m : ℕ) → (n == m) ≡ true → n ≡ m
+      eq-here n m here = eqb-true n m here
+
+  pub shut-ended : EndsWith short state link log → EndsWith short state2 link log
+  shut-ended ends = λ n whole is. ends n whole is ∙ sym (shut-end n)
+
+  pub shut-told : IsTold short state link log → IsTold short state2 link log
+  shut-told told = λ n entries whole is log_is. told n entries whole is (sym (shut-log n) ∙ log_is)

@@ -1,0 +1,5 @@
+-- What public clauses cite.
+pub mod Said
+pub mod Kept
+-- What proofs alone need.
+pub mod Ordered

@@ -1,0 +1,149 @@
+//! Links that are passed on, and the log of one of them.
+ghost use Rattle.std.specs.Prelude.{◌≡◌, ◌<◌, ℕ, List, [], Option, Some, None, true, false, OnOk, OnErr};
+ghost use Rattle.beep_record.specs.Record.{IsOrdered};
+ghost use Rattle.beep_recorder.specs.Kept.{IsUnread, IsGiven, EndsWith, IsTold};
+ghost use Rattle.beep_recorder.specs.Ordered.{is_ordered};
+
+use crate::keep::{first_given, is_recorded, keep_read, keep_write};
+use beep_octets::{NoMemory, Octets};
+use beep_record::{Log, LogEntries, Role, write_record};
+use beep_wires::{Failed, Got, WireError, Wires};
+use std::alloc::Global;
+
+/// Passes each call on to these links, and keeps the log of one of them: of the first that an
+/// accept or a dial through it gave.
+#[derive(Drop)]
+pub struct Recorder<'w, W: Wires> {
+    wires: &'w mut W,
+    alloc: Global,
+    log: Log,
+    link: Option<u32>,
+    short: bool,
+    ghost ordered: { is_ordered log.entries ≡ true },
+    ghost unread: { IsUnread short link log.entries },
+    ghost given: { IsGiven short (W.counts wires.now).given link },
+    ghost ended: { EndsWith short (W.state wires.now) link log.entries },
+    ghost told: { IsTold short (W.state wires.now) link log.entries },
+}
+
+impl<'w, W: Wires> Recorder<'w, W> {
+    /// A recorder of the end of this role, which has kept nothing. It takes no memory.
+    pub fn new(alloc: Global, wires: &'w mut W, role: Role) -> Recorder<'w, W>
+        ensures same_reference { result.wires.ghost_name ≡ wires.entry.ghost_name }
+        ensures same { result.wires.now ≡ wires.entry.now }
+        ensures log { result.log ≡ record { role = role; entries = [] } }
+        ensures link { result.link ≡ None }
+        ensures whole { result.short ≡ false }
+    {
+        Recorder {
+            wires,
+            alloc,
+            log: Log {
+                role,
+                entries: LogEntries::new(alloc),
+            },
+            link: None,
+            short: false,
+        }
+    }
+
+    ghost use Rattle.beep_wires.specs.Log.{Entry as LinkEntry};
+    ghost use Rattle.beep_recorder.specs.Said.{log_said};
+    ghost use Rattle.beep_recorder.specs.Kept.{Records};
+
+    /// The log that was kept. It is the whole one where [`Recorder::short`] is false.
+    pub fn log(&self) -> &Log
+        ensures value { result.now ≡ self.now.log }
+        ensures ordered { IsOrdered result.now.entries }
+        ensures told { (n : ℕ) (entries : List LinkEntry) → self.now.short ≡ false
+            → self.now.link ≡ Some n → (W.state self.now.wires.now n).log ≡ Some entries
+            → result.now.entries ≡ log_said entries }
+    {
+        &self.log
+    }
+
+    /// The link whose log is kept, once one was given.
+    pub fn link(&self) -> Option<u32>
+        ensures { result ≡ self.now.link }
+    {
+        self.link
+    }
+
+    /// Whether an entry found no room. From then on nothing is kept.
+    pub fn short(&self) -> bool
+        ensures { result ≡ self.now.short }
+    {
+        self.short
+    }
+
+    /// Appends the record of the link's log. Where an entry found no room there is none.
+    pub fn put_record(&self, out: &mut Octets) -> Result<(), NoMemory>
+        ensures appended { OnOk result (Records (W.state self.now.wires.now) self.now.link
+            self.now.log.role out.old.octets out.new.octets) }
+        ensures err { OnErr result (out.new.octets ≡ out.old.octets) }
+    {
+        if self.short {
+            return Err(NoMemory);
+        }
+        write_record(self.log(), out)
+    }
+}
+
+impl<'w, W: Wires> Wires for Recorder<'w, W> {
+    ghost state = { λ r. W.state r.wires.now };
+
+    ghost counts = { λ r. W.counts r.wires.now };
+
+    ghost asked = { λ r. W.asked r.wires.now };
+
+    ghost story = { λ r. W.story r.wires.now };
+
+    ghost lent = { λ r. Some r.wires.ghost_name };
+
+    ghost in_story = { λ r link. W.in_story r.wires.now link };
+
+    fn accept(&mut self, port: u16) -> Result<u32, WireError> {
+        let was_short = self.short;
+        self.short = true;
+        let answer = self.wires.accept(port);
+        self.link = first_given(self.link, answer);
+        self.short = was_short;
+        answer
+    }
+
+    fn dial(&mut self, host: &str, port: u16) -> Result<u32, WireError> {
+        let was_short = self.short;
+        self.short = true;
+        let answer = self.wires.dial(host, port);
+        self.link = first_given(self.link, answer);
+        self.short = was_short;
+        answer
+    }
+
+    fn read(&mut self, link: u32, buf: &mut [u8]) -> Result<Got, Failed> {
+        if !is_recorded(self.short, self.link, link) {
+            return self.wires.read(link, buf);
+        }
+        self.short = true;
+        let answer = self.wires.read(link, buf);
+        self.short = !keep_read(&mut self.log.entries, self.alloc, answer, buf);
+        answer
+    }
+
+    fn write(&mut self, link: u32, bytes: &[u8]) -> Result<usize, Failed> {
+        if !is_recorded(self.short, self.link, link) {
+            return self.wires.write(link, bytes);
+        }
+        self.short = true;
+        let answer = self.wires.write(link, bytes);
+        self.short = !keep_write(&mut self.log.entries, self.alloc, answer, bytes);
+        answer
+    }
+
+    fn shut(&mut self, link: u32) {
+        self.wires.shut(link);
+    }
+}
+
+#[cfg(test)]
+mod tests;
