@@ -377,15 +377,16 @@ fn each_script_is_answered(rt: HostRuntime) -> Result<(), Fail> {
     Ok(())
 }
 
-/// Feeds one frame of a request of channel zero, `size` octets of it.
+/// Feeds one frame of this kind on channel zero, `size` octets of its message.
 fn hear_part(
     end: &mut Session,
     octets: &mut Octets,
-    header: &str,
+    (kind, header): (&str, &str),
     size: usize,
     notes: &mut String,
 ) -> Result<(), Fail> {
     octets.clear();
+    octets.extend(kind.as_bytes())?;
     octets.extend(header.as_bytes())?;
     octets.extend(b"\r\n")?;
     for _ in 0..size {
@@ -396,51 +397,88 @@ fn hear_part(
     hear(end, octets.as_slice(), notes)
 }
 
-/// A request of channel zero of one octet more than is read, frame by frame, each as large as the
-/// window allows, and what goes out after each.
+/// The frames of a message of channel zero of one octet more than is read, each as large as the
+/// window allows, and what goes out after each but the last.
 static LONG: [(&str, usize, &str); 17] = [
-    ("MSG 0 1 * 52 4044", 4044, "SEQ 0 4096 4096"),
-    ("MSG 0 1 * 4096 4096", 4096, "SEQ 0 8192 4096"),
-    ("MSG 0 1 * 8192 4096", 4096, "SEQ 0 12288 4096"),
-    ("MSG 0 1 * 12288 4096", 4096, "SEQ 0 16384 4096"),
-    ("MSG 0 1 * 16384 4096", 4096, "SEQ 0 20480 4096"),
-    ("MSG 0 1 * 20480 4096", 4096, "SEQ 0 24576 4096"),
-    ("MSG 0 1 * 24576 4096", 4096, "SEQ 0 28672 4096"),
-    ("MSG 0 1 * 28672 4096", 4096, "SEQ 0 32768 4096"),
-    ("MSG 0 1 * 32768 4096", 4096, "SEQ 0 36864 4096"),
-    ("MSG 0 1 * 36864 4096", 4096, "SEQ 0 40960 4096"),
-    ("MSG 0 1 * 40960 4096", 4096, "SEQ 0 45056 4096"),
-    ("MSG 0 1 * 45056 4096", 4096, "SEQ 0 49152 4096"),
-    ("MSG 0 1 * 49152 4096", 4096, "SEQ 0 53248 4096"),
-    ("MSG 0 1 * 53248 4096", 4096, "SEQ 0 57344 4096"),
-    ("MSG 0 1 * 57344 4096", 4096, "SEQ 0 61440 4096"),
-    ("MSG 0 1 * 61440 4096", 4096, "SEQ 0 65536 4096"),
-    ("MSG 0 1 . 65536 53", 53, "ERR 0 1 . 103 86"),
+    (" 0 1 * 52 4044", 4044, "SEQ 0 4096 4096"),
+    (" 0 1 * 4096 4096", 4096, "SEQ 0 8192 4096"),
+    (" 0 1 * 8192 4096", 4096, "SEQ 0 12288 4096"),
+    (" 0 1 * 12288 4096", 4096, "SEQ 0 16384 4096"),
+    (" 0 1 * 16384 4096", 4096, "SEQ 0 20480 4096"),
+    (" 0 1 * 20480 4096", 4096, "SEQ 0 24576 4096"),
+    (" 0 1 * 24576 4096", 4096, "SEQ 0 28672 4096"),
+    (" 0 1 * 28672 4096", 4096, "SEQ 0 32768 4096"),
+    (" 0 1 * 32768 4096", 4096, "SEQ 0 36864 4096"),
+    (" 0 1 * 36864 4096", 4096, "SEQ 0 40960 4096"),
+    (" 0 1 * 40960 4096", 4096, "SEQ 0 45056 4096"),
+    (" 0 1 * 45056 4096", 4096, "SEQ 0 49152 4096"),
+    (" 0 1 * 49152 4096", 4096, "SEQ 0 53248 4096"),
+    (" 0 1 * 53248 4096", 4096, "SEQ 0 57344 4096"),
+    (" 0 1 * 57344 4096", 4096, "SEQ 0 61440 4096"),
+    (" 0 1 * 61440 4096", 4096, "SEQ 0 65536 4096"),
+    (" 0 1 . 65536 53", 53, ""),
 ];
 
-fn refuses_long(rt: &impl Abort, alloc: Global, end: &mut End) -> Result<(), Fail> {
-    run(
-        rt,
-        alloc,
-        end,
-        "hear RPY 0 0 . 0 52 <greeting />\n[greeted]",
-    )?;
+/// After this opening a message of this kind comes that is too long. What goes out after its last
+/// frame, and whether the session is over then.
+struct TooLong {
+    opening: &'static str,
+    kind: &'static str,
+    last: &'static str,
+    over: bool,
+}
+
+static TOO_LONG: [TooLong; 2] = [
+    // A request is refused.
+    TooLong {
+        opening: "hear RPY 0 0 . 0 52 <greeting />\n[greeted]",
+        kind: "MSG",
+        last: "ERR 0 1 . 103 86",
+        over: false,
+    },
+    // A reply breaks ZeroReply.
+    TooLong {
+        opening: "hear RPY 0 0 . 0 52 <greeting />\n[greeted]\nstart 2\n[ok]\n\
+                  say MSG 0 1 . 103 108",
+        kind: "RPY",
+        last: "nothing",
+        over: true,
+    },
+];
+
+/// What goes out after a frame, where that isn't what goes out after the last one.
+fn wanted(says: &'static str, last: &'static str) -> &'static str {
+    if says.is_empty() { last } else { says }
+}
+
+fn ends_long(rt: &impl Abort, alloc: Global, end: &mut End, row: &TooLong) -> Result<(), Fail> {
+    run(rt, alloc, end, row.opening)?;
     let mut octets = Octets::new(alloc);
     let mut out = Octets::new(alloc);
     let mut notes = String::new(alloc);
     for i in 0..LONG.len() {
         let (header, size, says) = LONG[i];
-        hear_part(&mut end.session, &mut octets, header, size, &mut notes)?;
+        let says = wanted(says, row.last);
+        hear_part(
+            &mut end.session,
+            &mut octets,
+            (row.kind, header),
+            size,
+            &mut notes,
+        )?;
         notes.clear();
         said(&mut end.session, &mut out, &mut notes)?;
         assert_eq!(rt; notes.as_str().strip_prefix("say "), Some(says), "{header}");
     }
-    assert!(rt; !end.session.is_over());
+    assert_eq!(rt; end.session.is_over(), row.over);
     Ok(())
 }
 
 #[test]
-fn a_request_above_the_limit_is_refused_at_its_end(rt: HostRuntime) -> Result<(), Fail> {
-    let mut end = listener(rt.alloc(), LIMITS.window)?;
-    refuses_long(&rt, rt.alloc(), &mut end)
+fn a_message_above_the_limit_is_told_at_its_end(rt: HostRuntime) -> Result<(), Fail> {
+    for i in 0..TOO_LONG.len() {
+        let mut end = listener(rt.alloc(), LIMITS.window)?;
+        ends_long(&rt, rt.alloc(), &mut end, &TOO_LONG[i])?;
+    }
+    Ok(())
 }
