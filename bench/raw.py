@@ -1,14 +1,18 @@
 #!/usr/bin/env python3
-"""Times `beep send` to `beep listen` over loopback: inputs of 16 MB in lines of several lengths, at two windows.
+"""Times `beep send` to `beep listen` over loopback: 16 MB in lines of 80 and of 1,000 octets, at two windows.
 
 usage: bench/raw.py [ROUNDS]
 
-In each of ROUNDS (5) rounds every run is made once; the table has the medians, from the start of the sender to the end of
-both processes. The ratio is to a C program, run in the same round, that carries the same octets over one connection from
-standard input to standard output, in pieces of 65,536 octets. What the two processes take on the processor is told too.
+In each of ROUNDS (5) rounds every run is made once, and beside it that of bench/raw.c, a sender and a collector in C that
+make the same frames in the same exchanges and check nothing. The table has the medians, from the start of the sender to
+the end of both processes: lines and MB a second, microseconds on the processor for a line at both ends together, and the
+ratios to the C pair, of the time and of the processor. What the collector writes is compared with what was sent. Then,
+where there is strace, the system calls of both ends for a line.
 """
-import os
+import filecmp
+import re
 import resource
+import shutil
 import socket
 import statistics
 import subprocess
@@ -22,8 +26,11 @@ PROGRAM = TOP / "crates/beep/out/beep"
 
 # The octets of an input, and of each of its lines with the LF.
 SIZE = 16_000_000
-LENGTHS = [20, 100, 1000, 8000]
-OPTIONS = [("4096", [], []), ("65536", ["--window", "65536"], ["--piece", "4096"])]
+LENGTHS = [80, 1000]
+WINDOWS = ["4096", "65536"]
+
+# The octets of a payload at most: what `beep send` takes where nothing is set.
+PIECE = "1024"
 
 
 def free_port():
@@ -37,53 +44,78 @@ def processor():
     return used.ru_utime + used.ru_stime
 
 
-def timed(listen, send, lines, wanted):
-    """The seconds of a sender and a collector, and those of both on the processor."""
-    with tempfile.TemporaryFile() as got:
-        before = processor()
-        collector = subprocess.Popen(listen, stdout=got)
+def commands(pair, window):
+    """The words of a collector and a sender."""
+    port = free_port()
+    if pair:
+        return [pair, "listen", port, window], [pair, "send", port, PIECE]
+    listen = [PROGRAM, "listen", "--port", port, "--window", window]
+    return listen, [PROGRAM, "send", "--host", "127.0.0.1", "--port", port, "--piece", PIECE]
+
+
+def measure(words, lines, before=((), ())):
+    """The seconds of a collector and a sender, and those of both on the processor."""
+    got = lines.with_suffix(".got")
+    with open(got, "wb") as output, open(lines, "rb") as source:
+        used = processor()
+        collector = subprocess.Popen([*before[0], *words[0]], stdout=output)
         # Until it has its port a sender fails at once.
-        time.sleep(0.2)
+        time.sleep(0.5)
         start = time.perf_counter()
-        subprocess.run(send, stdin=open(lines, "rb"), check=True)
+        subprocess.run([*before[1], *words[1]], stdin=source, stdout=subprocess.DEVNULL, check=True)
         if collector.wait() != 0:
             sys.exit("the collector fails")
         took = time.perf_counter() - start
-        if os.fstat(got.fileno()).st_size != wanted:
-            sys.exit("what the collector writes has another size")
-        return took, processor() - before
+    if not filecmp.cmp(got, lines, shallow=False):
+        sys.exit("what the collector writes isn't what was sent")
+    return took, processor() - used
 
 
-def measure(folder, tcp, length):
-    """The seconds of each run of one round, the C program's last."""
-    lines = Path(folder) / f"lines.{length}"
-    if not lines.exists():
+def print_times(pair, lines, length, window, rounds):
+    found = [(*measure(commands(None, window), lines), *measure(commands(pair, window), lines)) for _ in range(rounds)]
+    took, used, c_took, c_used = (statistics.median(column) for column in zip(*found))
+    count = SIZE // length
+    print(f"{length:6} {window:>6} {count / took:10.0f} {SIZE / took / 1e6:7.1f} {used / count * 1e6:9.3f}"
+          f" {took / c_took:6.2f} {used / c_used:6.2f}")
+
+
+def calls(report):
+    total = re.search(r"^100\.00\s+\S+\s+\S+\s+(\d+)", report.read_text(), re.M)
+    return int(total[1])
+
+
+def print_calls(pair, lines, length, window):
+    reports = [lines.with_suffix(f".calls{end}") for end in (0, 1)]
+    traced = tuple(["strace", "-f", "-c", "-U", "time,avg-time,total-time,calls", "-o", str(report)] for report in reports)
+    found = []
+    for words in (commands(None, window), commands(pair, window)):
+        measure(words, lines, traced)
+        found.append(sum(calls(report) for report in reports) / (SIZE // length))
+    print(f"{length:6} {window:>6} {found[0]:10.4f} {found[1]:10.4f}")
+
+
+def each(folder):
+    for length in LENGTHS:
+        lines = Path(folder) / f"lines-{length}"
         lines.write_bytes((b"x" * (length - 1) + b"\n") * (SIZE // length))
-    wanted = lines.stat().st_size
-    runs = []
-    for _, for_listen, for_send in OPTIONS:
-        port = free_port()
-        listen = [PROGRAM, "listen", "--port", port, *for_listen]
-        send = [PROGRAM, "send", "--host", "127.0.0.1", "--port", port, *for_send]
-        runs.append(timed(listen, send, lines, wanted))
-    port = free_port()
-    runs.append(timed([tcp, "listen", port], [tcp, "send", port], lines, wanted))
-    return runs
+        for window in WINDOWS:
+            yield lines, length, window
 
 
 def main():
     rounds = int(sys.argv[1]) if len(sys.argv) > 1 else 5
     subprocess.run([TOP / "beep", "show"], stdin=subprocess.DEVNULL, stdout=subprocess.DEVNULL, check=True)
     with tempfile.TemporaryDirectory() as folder:
-        tcp = Path(folder) / "tcp"
-        subprocess.run(["gcc", "-O2", "-o", tcp, TOP / "bench/tcp.c"], check=True)
-        print("octets of a line  window   seconds  ratio  on the processor  lines a second")
-        for length in LENGTHS:
-            found = [measure(folder, tcp, length) for _ in range(rounds)]
-            columns = [[statistics.median(values) for values in zip(*column)] for column in zip(*found)]
-            plain = columns[-1][0]
-            for (window, _, _), (took, used) in zip(OPTIONS, columns):
-                print(f"{length:17d}  {window:>6}  {took:8.3f}  {took / plain:5.1f}  {used:16.3f}  {SIZE / length / took:14.0f}")
+        pair = Path(folder) / "raw"
+        subprocess.run(["gcc", "-O2", "-o", pair, TOP / "bench/raw.c"], check=True)
+        print("octets window    lines/s    MB/s   us/line   time    CPU")
+        for lines, length, window in each(folder):
+            print_times(pair, lines, length, window, rounds)
+        if shutil.which("strace"):
+            print("octets window calls/line  of the C pair")
+            for lines, length, window in each(folder):
+                print_calls(pair, lines, length, window)
 
 
-main()
+if __name__ == "__main__":
+    main()
