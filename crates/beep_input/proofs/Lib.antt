@@ -1,3 +1,4 @@
 -- Proofs.
+mod FoundLemmas
 mod GatherLemmas
 mod LineLemmas

@@ -1,6 +1,6 @@
 -- How far the first line of an input goes.
 -- No contract of a public call cites it.
-use Rattle.std.specs.Prelude.{ℕ, suc, ◌≡◌, ◌≤◌, ◌==◌, Option, None, Some, List, [], ◌∷◌, length, if◌then◌else◌}
+use Rattle.std.specs.Prelude.{ℕ, suc, ◌≡◌, ◌==◌, Some, List, [], ◌∷◌, if◌then◌else◌}
 use Rattle.beep_input.specs.declared.lines.Unlisted.{Unlisted}
 use Rattle.beep_input.specs.Lines.{pieces_at_lf, first_long}
 

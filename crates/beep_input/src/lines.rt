@@ -9,6 +9,7 @@ ghost use Rattle.beep_input.specs.declared.whole.TheConstants.{MAX_INPUT};
 use crate::whole::{MAX_INPUT, Unread, read_input};
 use beep_octets::NoMemory;
 use beep_wires::Source;
+use memchr::memchr;
 use prof_raw::{ENTRY_MAX, Entries};
 use std::alloc::Global;
 
@@ -82,12 +83,10 @@ fn lf_place(octets: &[u8], from: usize) -> usize
     ensures value { result ≡ from + lf_len (drop from octets.now) }
     ensures place { (from ≤ result) × (result ≤ length octets.now) }
 {
-    for i in from..octets.len() {
-        if octets[i] == b'\n' {
-            return i;
-        }
+    match memchr(b'\n', &octets[from..]) {
+        Some(count) => from + count,
+        None => octets.len(),
     }
-    octets.len()
 }
 
 fn without_cr(line: &[u8]) -> &[u8]

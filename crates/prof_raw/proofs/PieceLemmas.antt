@@ -60,7 +60,7 @@ pieces-end octet octets is = put-end octet (pieces_of octets) (same_test octet o
 
 -- ---- how far the first piece goes
 
-len-plain : (octet : ℕ) (octets : List ℕ) → begins_with_end (octet ∷ octets) ≡ false → piece_len (octet ∷ octets) ≡ suc (piece_len octets)
+pub len-plain : (octet : ℕ) (octets : List ℕ) → begins_with_end (octet ∷ octets) ≡ false → piece_len (octet ∷ octets) ≡ suc (piece_len octets)
 len-plain octet octets is = rw is refl
 
 len-end : (octet : ℕ) (octets : List ℕ) → begins_with_end (octet ∷ octets) ≡ true → piece_len (octet ∷ octets) ≡ 0

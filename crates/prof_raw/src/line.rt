@@ -1,8 +1,10 @@
 //! The line that a listener writes of an entry.
 ghost use Rattle.std.specs.Prelude.{◌≡◌, ◌+◌, ◌*◌, ◌≤◌, ◌++◌, length};
+ghost use Rattle.std.specs.List.{slice_range};
 ghost use Rattle.prof_raw.specs.Line.{line_of, line_room, bang_mark, more_mark, octet_written, octets_written};
 
 use beep_octets::Octets;
+use memchr::memchr3;
 
 /// The most octets of an entry that its line shows: so many has the longest entry that is sent.
 pub const ENTRY_MAX: usize = 8192;
@@ -46,14 +48,34 @@ fn put_more_mark(entry: &[u8], out: &mut Octets)
     }
 }
 
-/// Appends octets as they are written.
+/// Appends octets as they are written. Octets that are written as they are go at once.
 fn put_octets(octets: &[u8], out: &mut Octets)
     requires { 2 * length octets.now ≤ out.old.spare }
     ensures appended { out.new.octets ≡ out.old.octets ++ octets_written octets.now }
     ensures room { out.old.spare ≤ out.new.spare + 2 * length octets.now }
 {
-    for octet in octets {
-        put_octet(*octet, out);
+    let mut at = 0;
+    while at < octets.len() {
+        let end = plain_end(octets, at);
+        out.extend_spare(&octets[at..end]);
+        at = end;
+        if at < octets.len() {
+            put_octet(octets[at], out);
+            at += 1;
+        }
+    }
+}
+
+/// The place from which on the first octet isn't written as it is, or the end.
+fn plain_end(octets: &[u8], from: usize) -> usize
+    requires { from ≤ length octets.now }
+    ensures place { (from ≤ result) × (result ≤ length octets.now) }
+    ensures plain { octets_written (slice_range octets.now from result)
+        ≡ slice_range octets.now from result }
+{
+    match memchr3(b'\n', b'\r', b'\\', &octets[from..]) {
+        Some(count) => from + count,
+        None => octets.len(),
     }
 }
 

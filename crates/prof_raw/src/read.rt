@@ -1,11 +1,12 @@
 //! The entries of a body (RFC 3195, section 3).
-ghost use Rattle.std.specs.Prelude.{◌≡◌, ◌+◌, ◌<◌, ◌≤◌, false, [], ◌∷◌, length, drop, MatchOption, IfOk, IfSome};
+ghost use Rattle.std.specs.Prelude.{◌≡◌, ◌+◌, ◌<◌, ◌≤◌, false, [], ◌∷◌, length, drop, MatchOption, IfOk, IfSome, IfNone};
 ghost use Rattle.std.specs.List.{slice_range};
 ghost use Rattle.prof_raw.specs.Entries.{entries_of};
 ghost use Rattle.prof_raw.specs.Walk.{begins_with_end, piece_len};
 
 use crate::list::Entries;
 use beep_octets::NoMemory;
+use memchr::memchr;
 use std::alloc::Global;
 
 /// Where an entry stands in a body: from its first octet to the place after its last.
@@ -67,12 +68,27 @@ fn piece_end(body: &[u8], from: usize) -> usize
     requires { from ≤ length body.now }
     ensures { result ≡ from + piece_len (drop from body.now) }
 {
-    for i in from..body.len() {
-        if is_line_end(body, i) {
-            return i;
+    let mut at = from;
+    while let Some(place) = next_cr(body, at) {
+        if is_line_end(body, place) {
+            return place;
         }
+        at = place + 1;
     }
     body.len()
+}
+
+/// The first place of a CR from a place on.
+fn next_cr(body: &[u8], from: usize) -> Option<usize>
+    requires { from ≤ length body.now }
+    ensures some { IfSome result (λ place. (from ≤ place) × (place < length body.now)
+        × (from + piece_len (drop from body.now) ≡ place + piece_len (drop place body.now))) }
+    ensures none { IfNone result (from + piece_len (drop from body.now) ≡ length body.now) }
+{
+    match memchr(b'\r', &body[from..]) {
+        Some(count) => Some(from + count),
+        None => None,
+    }
 }
 
 /// Whether CR LF stands at `at`.

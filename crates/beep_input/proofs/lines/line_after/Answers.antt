@@ -1,4 +1,4 @@
-use Rattle.std.proofs.Common.{◌≡◌, ◌<◌, ◌+◌, ◌≤◌, ◌==◌, Bool, true, false, cond, length, arith, get_or, subst, sym}
+use Rattle.std.proofs.Common.{◌<◌, ◌==◌, length, arith, get_or}
 use Rattle.beep_input.proofs.LineLemmas.{pieces-at, one-at-most}
 use Rattle.beep_input.proofs.lines.line_after.Goals as goal
 

@@ -1,9 +1,9 @@
-use Rattle.std.proofs.Common.{◌≡◌, ◌<◌, ◌≤◌, ◌+◌, ◌∷◌, [], ◌++◌, length, drop, subst, sym, ap, ◌∙◌, arith, append_assoc}
+use Rattle.std.proofs.Common.{◌<◌, ◌≤◌, ◌+◌, ◌∷◌, [], ◌++◌, length, drop, subst, sym, ap, ◌∙◌, arith, append_assoc}
 use Rattle.std.proofs.lemmas.Bool.Decides.{nat_tests}
 use Rattle.std.specs.List.{filter}
 use Rattle.prof_raw.specs.Entries.{has_some}
 use Rattle.prof_raw.specs.declared.line.TheConstants.{ENTRY_MAX}
-use Rattle.beep_input.specs.Lines.{lines_of, without_cr}
+use Rattle.beep_input.specs.Lines.{lines_of}
 use Rattle.beep_input.proofs.LineLemmas.{line-at, long-at, short-at}
 use Rattle.beep_input.proofs.lines.split_lines.Goals as goal
 

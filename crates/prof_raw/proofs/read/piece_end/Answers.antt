@@ -1,12 +1,13 @@
-use Rattle.std.proofs.Common.{◌∙◌, drop, sym, arith}
-use Rattle.prof_raw.proofs.PieceLemmas.{len-here, len-further}
+-- A CR without its LF ends no piece.
+use Rattle.std.proofs.Common.{◌∙◌, sym, arith}
+use Rattle.prof_raw.proofs.PieceLemmas.{len-further}
 use Rattle.prof_raw.proofs.read.piece_end.Goals as goal
 
-pub loop-i-preserved : goal.loop-i-preserved
-loop-i-preserved c =
+pub loop-place-preserved : goal.loop-place-preserved
+loop-place-preserved c =
+    let some = c.in-Some.ensures.some in
     let plain = sym c.is_line_end.ensures ∙ c.if-is_line_end.false in
-    omega (arith, c.loop-i.invariant, len-further c.args.body.now c.loop-i.i c.loop-i-test.true plain)
-
-pub returns-then-is_line_end : goal.returns-then-is_line_end
-returns-then-is_line_end c =
-    omega (arith, c.loop-i.invariant, len-here (drop c.loop-i.i c.args.body.now) (sym c.is_line_end.ensures ∙ c.if-is_line_end.true))
+    record {
+      walked = omega (arith, c.loop-place.invariant.walked, some.2, len-further c.args.body.now c.in-Some.place some.1 plain);
+      within = omega (arith, some.1);
+    }
