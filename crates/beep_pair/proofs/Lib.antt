@@ -1,0 +1,16 @@
+mod ReadyLemmas
+mod ActLemmas
+mod FeedLemmas
+mod WorldLemmas
+mod SendLemmas
+mod HearLemmas
+mod LeadLemmas
+mod DrainLemmas
+mod StillLemmas
+mod RunLemmas
+mod ListLemmas
+mod UriLemmas
+mod BeginLemmas
+mod UprightLemmas
+mod TakeLemmas
+mod PairLemmas

@@ -1,0 +1,80 @@
+-- What holds of a world that steps lead to.
+use Rattle.std.proofs.Common.{◌≡◌, ◌↔◌, inl, inr, ℕ, Bool, true, false, not, ◌&&◌, ◌||◌, refl, sym, ap, ◌∙◌}
+use Rattle.std.specs.List.{list_any}
+use Rattle.beep_journal.specs.Life.{history}
+use Rattle.beep_lives.specs.Lives.{can_send, owes_seq}
+use Rattle.beep_standing.specs.Due.{has_due, has_ready}
+use Rattle.beep_standing.proofs.DueLemmas.{channel-due, channel-ready, none-by}
+use Rattle.beep_peer.specs.Peering.{is_over, is_greeted}
+use Rattle.beep_session.specs.Looks.{IsTakenAt}
+use Rattle.beep_two_sessions.specs.End.{End as OneEnd, goes, StandsAs, NothingIsDue}
+use Rattle.beep_two_sessions.specs.Still.{HasNothingLeft, IsStillEnd, IsStill as AreStill}
+use Rattle.beep_two_sessions.proofs.MoveLemmas.{stands-a, stands-b}
+use Rattle.beep_two_sessions.proofs.PrefixLemmas.{taken-at-a, taken-at-b, order-at-a, order-at-b}
+use Rattle.beep_two_sessions.proofs.NoStallLemmas.{still-taken, released-taken}
+use Rattle.beep_schedule.specs.declared.event.End.{End}
+use Rattle.beep_pair.specs.World.{World, kept_of, IsWorld}
+use Rattle.beep_pair.specs.Report.{IsStill, HaveGreeted, IsKept, may_send}
+use Rattle.beep_pair.proofs.WorldLemmas.{stands-now}
+use Rattle.beep_pair.proofs.DrainLemmas.{taken-inbox}
+
+or-first : (a b : Bool) → (a || b) ≡ false → a ≡ false
+or-first true b e = e
+or-first false b e = refl
+
+or-second : (a b : Bool) → (a || b) ≡ false → b ≡ false
+or-second true b e = absurd (let bad : true ≡ false = e in cc)
+or-second false b e = e
+
+and-second : (a b : Bool) → a ≡ true → (a && b) ≡ false → b ≡ false
+and-second true b g e = e
+and-second false b g e = absurd (let bad : false ≡ true = g in cc)
+
+-- nothing is due at an end that may send nothing
+module _ (one : OneEnd) (s : StandsAs goes one) (on : is_over one.session.peer ≡ false) (silent : may_send one.session ≡ false) where
+  none : ((is_greeted one.session.peer.management && list_any owes_seq one.session.peer.lives) || list_any can_send one.session.peer.lives) ≡ false
+  none = and-second (not (is_over one.session.peer)) _ (ap not on) silent
+
+  nothing-due : NothingIsDue one
+  nothing-due = record {
+    no_seq = λ greets. (none-by one.session.limits.window one.journal one.given one.taken one.session.peer.lives s.stands.holds.live owes_seq
+        (λ (n : ℕ). has_due one.session.limits.window (one.taken n) (history n one.journal))
+        (channel-due one.session.limits.window one.journal one.given one.taken one.session.peer.lives s.stands.holds.live)).0
+        (and-second (is_greeted one.session.peer.management) _ greets (or-first (is_greeted one.session.peer.management && list_any owes_seq one.session.peer.lives) _ none));
+    no_frame = (none-by one.session.limits.window one.journal one.given one.taken one.session.peer.lives s.stands.holds.live can_send
+        (λ (n : ℕ). has_ready (one.given n) (history n one.journal))
+        (channel-ready one.session.limits.window one.journal one.given one.taken one.session.peer.lives s.stands.holds.live)).0
+        (or-second (is_greeted one.session.peer.management && list_any owes_seq one.session.peer.lives) _ none);
+  }
+
+still-end : (one : OneEnd) → one.doing ≡ goes → StandsAs goes one → may_send one.session ≡ false → (is_over one.session.peer || is_greeted one.session.peer.management) ≡ true
+    → ((n : ℕ) → IsTakenAt n one.session.peer.lives) → IsStillEnd one
+still-end one e s silent greeted taken = record {
+  going = e;
+  nothing = by (is_over one.session.peer) refl;
+  taken = λ n above. taken-inbox n one.session.peer.lives above (taken n);
+}
+  where
+    by : (b : Bool) → is_over one.session.peer ≡ b → HasNothingLeft one
+    by true o = inr o
+    by false o = inl (sym (ap (λ (b : Bool). b || is_greeted one.session.peer.management) o) ∙ greeted, nothing-due one s o silent)
+
+still-world : (world : World) → IsWorld world → IsStill (kept_of world) → HaveGreeted (kept_of world) → AreStill world.two
+still-world world w s g = record {
+  a = still-end world.two.a (w.going End.A) (stands-now End.A world w) s.silent_a g.greeted_a s.taken_a;
+  b = still-end world.two.b (w.going End.B) (stands-now End.B world w) s.silent_b g.greeted_b s.taken_b;
+  no_wire_to_a = s.empty_a;
+  no_wire_to_b = s.empty_b;
+}
+
+pub kept-so : (world : World) → IsWorld world → (still : Bool) → ((still ≡ true) ↔ IsStill (kept_of world)) → IsKept world.two still (kept_of world)
+kept-so world w still is = record {
+  unbroken_a = stands-a w.moves world.two w.reached;
+  unbroken_b = stands-b w.moves world.two w.reached;
+  prefix_by_b = λ n k above pos. taken-at-b w.moves world.two w.reached n k above pos;
+  prefix_by_a = λ n k above pos. taken-at-a w.moves world.two w.reached n k above pos;
+  order_at_a = λ n k above pos. order-at-a w.moves world.two w.reached n k above pos;
+  order_at_b = λ n k above pos. order-at-b w.moves world.two w.reached n k above pos;
+  if_still = λ e greeted n k above pos. still-taken w.moves world.two w.reached (still-world world w (is.0 e) greeted) n k above pos;
+  if_released = λ e n k above pos. released-taken w.moves world.two w.reached n k above pos e;
+}

@@ -1,0 +1,17 @@
+use Rattle.std.proofs.Common.{rules, ◌≡◌}
+use Rattle.beep_pair.proofs.UprightLemmas.{upright-over}
+use Rattle.beep_pair.proofs.acts.answer.Goals as goal
+
+pub returns-in-Ok-clause-upright : goal.returns-in-Ok-clause-upright
+returns-in-Ok-clause-upright c =
+    let owed = c.match-this.answering in
+    let first : owed.session.now ≡ c.args.session.now = search rules in
+    let last : c.session-2-1.given.0 ≡ c.answer.new.self.session.now = search rules in
+    upright-over owed.session.now c.answer.new.self.session.now c.args.session.now c.session-2-1.given.0 first last c.answer.ensures.upright
+
+pub returns-in-Err-clause-upright : goal.returns-in-Err-clause-upright
+returns-in-Err-clause-upright c =
+    let owed = c.match-this.answering in
+    let first : owed.session.now ≡ c.args.session.now = search rules in
+    let last : c.session-2-1.given.0 ≡ c.answer.new.self.session.now = search rules in
+    upright-over owed.session.now c.answer.new.self.session.now c.args.session.now c.session-2-1.given.0 first last c.answer.ensures.upright

@@ -1,0 +1,21 @@
+use Rattle.std.proofs.Common.{◌∙◌, false, [], ◌∷◌, ◌++◌, ap, sym, subst}
+use Rattle.beep_session.specs.Session.{AreLimits}
+use Rattle.beep_pair.proofs.UriLemmas.{offer_fits}
+use Rattle.beep_pair.proofs.ReadyLemmas.{begun_with}
+use Rattle.beep_pair.proofs.pair.new_end.Goals as goal
+
+pub new-requires-clause-uris : goal.new-requires-clause-uris
+new-requires-clause-uris c = offer_fits c.push.new.self (record { uri = c.in_ok-uri.uri; tuning = false }) (c.in_ok-push.ensures.ok ∙ ap (λ xs. xs ++ record { uri = c.in_ok-uri.uri; tuning = false } ∷ []) c.new-offers.ensures) c.in_ok-uri.ensures.uri
+
+pub returns-clause-ready : goal.returns-clause-ready
+returns-clause-ready c = begun_with _ c.args.limits c.in_ok-session.session c.in_ok-session.ensures.stands c.in_ok-session.ensures.terms.2
+
+pub returns-clause-begun : goal.returns-clause-begun
+returns-clause-begun c =
+    let e = c.in_ok-session.ensures in
+    record {
+      given = e.stands.given;
+      above = e.stands.same;
+      limits = subst (λ limits. AreLimits limits) (sym e.terms.2) c.requires.limits;
+      stands = e.lawful e.stands;
+    }

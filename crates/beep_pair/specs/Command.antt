@@ -1,0 +1,55 @@
+-- Two ends before a schedule is run, and the whole work of the command: the text of a schedule, and its
+-- report.
+use Rattle.std.specs.Prelude.{◌≡◌, ℕ, List, []}
+use Rattle.beep_standing.specs.Standing.{Marks, no_marks}
+use Rattle.beep_hearing.specs.Hears.{SameAbove}
+use Rattle.beep_session.specs.declared.limits.Limits.{Limits}
+use Rattle.beep_session.specs.Session.{Held, AreLimits}
+use Rattle.beep_session.specs.Lawfully.{IsLawfulSession}
+use Rattle.beep_schedule.specs.declared.event.PairEvent.{PairEvent}
+use Rattle.beep_schedule.specs.Schedule.{Says}
+use Rattle.beep_schedule.specs.Refused.{IsBadAt}
+use Rattle.beep_two_sessions.specs.World.{IsBegun}
+use Rattle.beep_pair.specs.declared.command.Outcome.{Outcome}
+use Rattle.beep_pair.specs.Sessions.{Sessions}
+use Rattle.beep_pair.specs.World.{World, kept_of}
+use Rattle.beep_pair.specs.Report.{Reported}
+
+-- a session that begins: nothing was given but its greeting
+pub record HasBegun (session : Held) : Type 0 where
+  pub given : Marks
+  pub above : SameAbove no_marks given
+  pub limits : AreLimits session.limits
+  pub stands : IsLawfulSession session [] [] [] given no_marks
+
+-- two sessions with these limits that begin, nothing between them, and no life
+pub record IsFresh (limits : Limits) (world : World) : Type 0 where
+  pub begun : IsBegun world.two
+  pub limits_a : world.two.a.session.limits ≡ limits
+  pub limits_b : world.two.b.session.limits ≡ limits
+  pub none : world.accounts ≡ []
+
+-- they are what is kept of such a world
+pub record AreFresh (limits : Limits) (both : Sessions) : Type 0 where
+  pub world : World
+  pub fresh : IsFresh limits world
+  pub kept : kept_of world ≡ both
+
+-- the text is the report of these events, between two ends with these limits that begin
+pub record ReportsEvents (limits : Limits) (events : List PairEvent) (report : List ℕ)
+    : Type 0 where
+  pub first : World
+  pub fresh : IsFresh limits first
+  pub last : World
+  pub reported : Reported events [] report first last
+
+-- the text is the report of the schedule that this text says
+pub record Reports (limits : Limits) (text report : List ℕ) : Type 0 where
+  pub events : List PairEvent
+  pub says : Says text events
+  pub reports : ReportsEvents limits events report
+
+-- what becomes of a text: the report of its schedule, or its first bad line
+abbrev pub Becomes : Limits → List ℕ → Outcome → Type 0
+Becomes limits text (Outcome.Report out) = Reports limits text out.octets
+Becomes limits text (Outcome.Bad number) = IsBadAt text number

@@ -1,0 +1,10 @@
+-- What public clauses cite.
+pub mod Acts
+pub mod Sessions
+pub mod World
+pub mod Steps
+pub mod Drains
+pub mod Draining
+pub mod Texts
+pub mod Report
+pub mod Command

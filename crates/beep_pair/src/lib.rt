@@ -1,0 +1,23 @@
+//! Two sessions and the two wires between them, driven by a schedule: what each event did, and what
+//! was given and taken in each life.
+#![tactic(auto)]
+
+mod acts;
+mod answer;
+mod command;
+mod deed;
+mod drain;
+mod hear;
+mod lives;
+mod message;
+mod pair;
+mod speak;
+mod take;
+mod uri;
+mod wire;
+mod words;
+
+pub use answer::Answer;
+pub use beep_session::Limits;
+pub use command::{Outcome, report};
+pub use pair::Pair;
