@@ -1,4 +1,5 @@
--- What an act of a schedule does at an end, and what is answered (RFC 3080, sections 2.1 and 2.3.1).
+-- What an act of a schedule does at an end, and what is answered (RFC 3080, sections 2.1 and
+-- 2.3.1).
 -- Each is said by what the session stood for and stands for then: no journal is kept.
 use Rattle.std.specs.Prelude.{◌≡◌, ℕ, nat_lt, Bool, true, false, not, ◌&&◌, List, [], ◌∷◌, length, None, Some, is_some, codes}
 use Rattle.beep_frame.specs.declared.kind.Kind.{Kind}
@@ -121,7 +122,8 @@ GivesZero octets old new = ((fed rest : List ℕ) (journal : List Item) (given t
 
 abbrev pub Starts : List ℕ → ℕ → Held → Held → Answer → Type 0
 Starts uri n old new Answer.Done =
-    (refusal_of_start old.peer n (listed uri) ≡ None) × GivesZero (start_text n (listed uri)) old new
+    (refusal_of_start old.peer n (listed uri) ≡ None)
+    × GivesZero (start_text n (listed uri)) old new
 Starts uri n old new (Answer.Start cause) =
     (refusal_of_start old.peer n (listed uri) ≡ Some cause) × IsStill old new
 Starts uri n old new answer = ⊥

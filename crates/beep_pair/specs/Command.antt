@@ -1,5 +1,5 @@
--- Two ends before a schedule is run, and the whole work of the command: the text of a schedule, and its
--- report.
+-- Two ends before a schedule is run, and the whole work of the command: the text of a schedule, and
+-- its report.
 use Rattle.std.specs.Prelude.{◌≡◌, ℕ, List, []}
 use Rattle.beep_standing.specs.Standing.{Marks, no_marks}
 use Rattle.beep_hearing.specs.Hears.{SameAbove}

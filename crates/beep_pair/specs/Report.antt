@@ -87,9 +87,9 @@ IsTakenWhole two number count =
     (two.b.took number count ≡ two.a.gave number count)
     × (two.a.took number count ≡ two.b.gave number count)
 
--- each session stands lawfully for its journal and found no broken rule; of each life and giver what
--- was taken is the first part of what was given, in order; and all of it where nothing can move, once
--- the greetings have gone, or where an end is released
+-- each session stands lawfully for its journal and found no broken rule; of each life and giver
+-- what was taken is the first part of what was given, in order; and all of it where nothing can
+-- move, once the greetings have gone, or where an end is released
 pub record IsKept (two : Two) (still : Bool) (both : Sessions) : Type 0 where
   pub unbroken_a : StandsUnbroken two.a
   pub unbroken_b : StandsUnbroken two.b

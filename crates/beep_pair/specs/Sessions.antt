@@ -1,5 +1,5 @@
--- The sessions of two ends, the octets on the wires between them, and what each call of a step makes of
--- one of them (RFC 3080, sections 2.1 to 2.3; RFC 3081, section 3.1).
+-- The sessions of two ends, the octets on the wires between them, and what each call of a step makes
+-- of one of them (RFC 3080, sections 2.1 to 2.3; RFC 3081, section 3.1).
 -- Each speaks of every journal for which the session stood: none is kept.
 use Rattle.std.specs.Prelude.{◌≡◌, ℕ, ◌+◌, ◌%◌, ◌<◌, ◌≤◌, nat_lt, min, map, if◌then◌else◌, Bool, true, false, List, [], ◌∷◌, ◌++◌, length, take, drop, Option, None, Some}
 use Rattle.std.specs.List.{range_with_len}
@@ -36,8 +36,8 @@ use Rattle.beep_tally.specs.Accounts.{lives_noted, with_given, with_taken}
 use Rattle.beep_pair.specs.declared.answer.Answer.{Answer}
 use Rattle.beep_pair.specs.Acts.{pair_uri, has_channel, Asks, Replies, Answers, Ends, ClosesChannel, Starts, Releases}
 
--- the sessions of both ends, the octets that were sent to each and it didn't use, and what was given
--- and taken in each life
+-- the sessions of both ends, the octets that were sent to each and it didn't use, and the counts of
+-- what was given and taken in each life
 pub record Sessions : Type 0 where
   pub a : Held
   pub b : Held

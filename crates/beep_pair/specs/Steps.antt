@@ -1,4 +1,5 @@
--- What each step of a schedule makes of a world (RFC 3080, sections 2.1 to 2.3; RFC 3081, section 3.1).
+-- What each step of a schedule makes of a world (RFC 3080, sections 2.1 to 2.3; RFC 3081, section
+-- 3.1).
 -- Each is what the call of a session answers, and what the end did by it.
 use Rattle.std.specs.Prelude.{◌≡◌, ℕ, Bool, true, false, if◌then◌else◌, List, [], ◌++◌, length, take, drop, Option, None, Some}
 use Rattle.beep_frame.specs.declared.kind.Kind.{Kind}

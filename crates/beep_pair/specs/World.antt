@@ -1,6 +1,7 @@
--- The world of two ends: their sessions, their journals, what was given and taken in each life, and the
--- octets on the wires (RFC 3080, sections 2.1 to 2.3; RFC 3081, section 3.1).
--- The code keeps the sessions, the wires and counts: neither a journal nor what was given and taken.
+-- The world of two ends: their sessions, their journals, what was given and taken in each life, and
+-- the octets on the wires (RFC 3080, sections 2.1 to 2.3; RFC 3081, section 3.1).
+-- The code keeps the sessions, the wires and counts, but neither a journal nor what was given and
+-- taken.
 use Rattle.std.specs.Prelude.{◌≡◌, ℕ, List, ◌++◌}
 use Rattle.beep_schedule.specs.declared.event.End.{End}
 use Rattle.beep_tally.specs.declared.account.Account.{Account}
@@ -58,8 +59,8 @@ abbrev pub move_at : End → Deed → Move
 move_at End.A deed = a_does deed
 move_at End.B deed = b_does deed
 
--- an end does something: what it sends comes after what lies on the wire, what it uses is the oldest
--- of it, and the other end stays
+-- an end does something: what it sends comes after what lies on the wire, what it uses is the
+-- oldest of it, and the other end stays
 pub record DoesAt (at : End) (deed : Deed) (old new : Two) : Type 0 where
   pub does : Does deed (end_of at old) (end_of at new)
   pub other : end_of (other_end at) new ≡ end_of (other_end at) old
@@ -68,7 +69,8 @@ pub record DoesAt (at : End) (deed : Deed) (old new : Two) : Type 0 where
 
 -- ---- which worlds there are
 
--- such deeds lead to it from two new sessions, and at neither end does a message of channel zero wait
+-- such deeds lead to it from two new sessions, and at neither end does a message of channel zero
+-- wait
 pub record IsWorld (world : World) : Type 0 where
   pub moves : List Move
   pub reached : IsReached moves world.two

@@ -87,7 +87,8 @@ pub(crate) fn act_counted(
     accounts: &mut Accounts,
 ) -> Result<Answer, NoMemory>
     requires ready { IsReady session.old }
-    requires may { deed.now.act ≡ ActValue.Start → may_start session.old.role deed.now.channel ≡ true }
+    requires may { deed.now.act ≡ ActValue.Start
+        → may_start session.old.role deed.now.channel ≡ true }
     requires some { deed.now.act ≡ ActValue.Answer → 0 < length octets.now }
     requires uri { uri.now ≡ pair_uri }
     requires valid { is_uri uri.now ≡ true }

@@ -101,8 +101,8 @@ pub(crate) fn hear(
     accounts: &mut Accounts,
 ) -> Result<usize, NoMemory>
     requires ready { IsReady session.old }
-    ensures heard { IfOk result (λ used. Gets at octets.now used session.old session.new accounts.old
-        accounts.new) }
+    ensures heard { IfOk result (λ used. Gets at octets.now used session.old session.new
+        accounts.old accounts.new) }
     ensures ready { OnOk result (IsReady session.new) }
     ensures role { OnOk result (session.new.role ≡ session.old.role) }
     ensures within { IfOk result (λ used. used ≤ length octets.now) }

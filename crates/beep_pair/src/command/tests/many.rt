@@ -2,8 +2,10 @@
 
 use super::super::run_fresh;
 use super::told;
+use beep_octets::Octets;
 use beep_schedule::generated;
 use beep_session::Limits;
+use std::alloc::Global;
 use std::fmt::Write;
 use std::process::Abort;
 use std::test::Fail;
@@ -101,7 +103,8 @@ fn many_channels_start_and_close_over_and_over(rt: HostRuntime) -> Result<(), Fa
     Ok(())
 }
 
-/// The octets that a generated schedule asks for on each of its channels, the sums of `3 * ((617 * i) mod 1000)`.
+/// The octets that the schedule made from 0 asks for on each of its channels: every eighth of the
+/// requests, of which the i-th has `3 * ((617 * i) mod 1000)`.
 const ASKED: [(u32, u32); 8] = [
     (1, 186000),
     (3, 186375),
@@ -113,27 +116,53 @@ const ASKED: [(u32, u32); 8] = [
     (15, 188625),
 ];
 
-/// The generated schedule ends with nothing that can move, and all of its requests and replies are
-/// taken: each of the eight channels has 125 of the 1,000 (docs/FORMATS.md, "Generated schedules").
-#[test]
-fn a_generated_schedule_loses_nothing(rt: HostRuntime) -> Result<(), Fail> {
-    let schedule = generated(rt.alloc(), 0)?;
+/// What all requests of a generated schedule have together: `3 * (0 + 1 + .. + 999)` octets.
+const ASKED_IN_ALL: u64 = 1498500;
+
+/// The report of the schedule that is made from a number.
+fn generated_report(alloc: Global, seed: u32) -> Result<Octets, Fail> {
+    let schedule = generated(alloc, seed)?;
     let limits = Limits {
         window: 4096,
         piece: 1024,
     };
-    let out = run_fresh(rt.alloc(), limits, &schedule)?;
+    Ok(run_fresh(alloc, limits, &schedule)?)
+}
+
+/// The generated schedule ends with nothing that can move, and all of its requests and replies are
+/// taken: each of the eight channels has 125 of the 1,000 (docs/FORMATS.md, "Generated schedules").
+#[test]
+fn a_generated_schedule_loses_nothing(rt: HostRuntime) -> Result<(), Fail> {
+    let out = generated_report(rt.alloc(), 0)?;
     assert_eq!(rt; count(out.as_slice(), "A release ok\n")?, 1);
     assert_eq!(rt;
         count(out.as_slice(), " B given 2000 125 taken 2000 125\n")?,
         8
     );
+    let mut all = 0u64;
     for (channel, octets) in ASKED {
         let line = format!(in rt.alloc();
             "total {channel} 1 A given {octets} 125 taken {octets} 125\n"
         )?;
         assert_eq!(rt; count(out.as_slice(), line.as_str())?, 1, "{channel}");
+        all = all.wrapping_add(u64::from(octets));
     }
+    assert_eq!(rt; all, ASKED_IN_ALL);
+    assert_eq!(rt; count(out.as_slice(), "still yes\n")?, 1);
+    Ok(())
+}
+
+/// The like of the greatest number: the same 1,000 lengths, in another order.
+#[test]
+fn nor_does_that_of_the_greatest_number(rt: HostRuntime) -> Result<(), Fail> {
+    let out = generated_report(rt.alloc(), u32::MAX)?;
+    assert_eq!(rt; count(out.as_slice(), "A release ok\n")?, 1);
+    assert_eq!(rt;
+        count(out.as_slice(), " B given 2000 125 taken 2000 125\n")?,
+        8
+    );
+    assert_eq!(rt; count(out.as_slice(), " A given ")?, 8);
+    assert_eq!(rt; count(out.as_slice(), "A ask ")?, 1000);
     assert_eq!(rt; count(out.as_slice(), "still yes\n")?, 1);
     Ok(())
 }
