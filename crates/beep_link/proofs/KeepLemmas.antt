@@ -1,5 +1,5 @@
 -- What stays over several reads and writes of one link.
-use Rattle.std.proofs.Common.{◌≡◌, ◌∙◌, refl, sym, arith, ℕ, ◌+◌, ◌≤◌, ◌<◌, true, Option, Some, None, List, [], ◌∷◌, ◌++◌, length, ap, subst, inl, inr}
+use Rattle.std.proofs.Common.{◌≡◌, ◌∙◌, refl, sym, arith, ℕ, ◌≤◌, true, Option, Some, None, List, [], ◌∷◌, ◌++◌, ap, subst, inl, inr}
 use Rattle.beep_wires.specs.Counts.{Rose}
 use Rattle.beep_wires.specs.Links.{Link, Counts, SameBeside}
 use Rattle.beep_wires.specs.Log.{Entry, Event, read, wrote, quiet, ended, Logs}

@@ -1,2 +1,3 @@
 -- Proofs.
 mod KeepLemmas
+mod StandLemmas

@@ -1,6 +1,6 @@
 -- What ends a session over a link, as the link's log and the counts of faults show it.
 -- The code counts as it reads; here the log is gone over, whole.
-use Rattle.std.specs.Prelude.{◌≡◌, ◌⊎◌, ℕ, ◌+◌, ◌-◌, ◌*◌, ◌≤◌, ◌<◌, Bool, true, false, Option, Some, None, List, [], ◌∷◌, length}
+use Rattle.std.specs.Prelude.{◌≡◌, ◌⊎◌, ℕ, ◌+◌, ◌-◌, ◌*◌, ◌≤◌, ◌<◌, true, false, Option, Some, None, List, [], ◌∷◌, length}
 use Rattle.std.specs.Borrow.{GName}
 use Rattle.beep_wires.specs.Log.{Entry, read, wrote, quiet, ended}
 use Rattle.beep_wires.specs.Links.{Link, Counts, Asked, SameBeside}
@@ -75,9 +75,28 @@ IsCaused (Ended.Idle count) reads old new = (count ≡ reads.idle) × IsQuiet re
 IsCaused (Ended.Spent count) reads old new =
     (count ≡ reads.octets) × HasRead reads.octets new.link.log
 
+-- the turns end so themselves, whatever the end of the session has to say to it
+abbrev pub IsOfTurns : Ended → Type 0
+IsOfTurns Ended.Released = ⊥
+IsOfTurns (Ended.Broken rule place) = ⊥
+IsOfTurns Ended.WriteFault = ⊥
+IsOfTurns Ended.WireFault = Unit {0}
+IsOfTurns Ended.NoMemory = Unit {0}
+IsOfTurns (Ended.Refused code) = ⊥
+IsOfTurns (Ended.Cut left) = ⊥
+IsOfTurns (Ended.Idle count) = Unit {0}
+IsOfTurns (Ended.Spent count) = Unit {0}
+
 -- the sink's count rose where a write of the output failed
 abbrev pub IsWritten : Ended → ℕ → ℕ → Type 0
 IsWritten cause old new = cause ≡ Ended.WriteFault → Rose old new
+
+-- ---- what an end stands for
+
+-- of a log that is known this holds
+abbrev pub WhereTold : (List Entry → Type 0) → Option (List Entry) → Type 0
+WhereTold P None = Unit {0}
+WhereTold P (Some log) = P log
 
 -- ---- what may still be read
 

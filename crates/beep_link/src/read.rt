@@ -1,7 +1,8 @@
 //! One read of a link.
-ghost use Rattle.std.specs.Prelude.{◌≡◌, ◌≤◌, ◌<◌, ◌+◌, ℕ, true, false, length, IfOk, OnOk, OnErr, vec_len};
+ghost use Rattle.std.specs.Prelude.{◌≡◌, ◌≤◌, ◌<◌, ◌+◌, ℕ, true, false, length, IfOk, OnOk, OnErr};
 ghost use Rattle.beep_wires.specs.Counts.{Rose};
-ghost use Rattle.beep_wires.specs.Got.{gives_end};
+ghost use Rattle.beep_wires.specs.Got.{gives_end, read_entries};
+ghost use Rattle.beep_wires.specs.Log.{Logs};
 ghost use Rattle.beep_link.specs.Causes.{CountsQuiet, Keeps, Moves, fits_buffer};
 ghost use Rattle.beep_link.specs.declared.buffers.TheConstants.{BUFFER};
 
@@ -11,7 +12,7 @@ use beep_wires::{Failed, Got, Wires};
 
 /// Reads once, as much as the buffer holds and may still be read, and notes what came.
 pub(crate) fn read_once<W: Wires>(
-    coming: &mut Vec<u8>,
+    coming: &mut [u8],
     wires: &mut W,
     link: u32,
     reads: Reads,
@@ -19,10 +20,12 @@ pub(crate) fn read_once<W: Wires>(
 ) -> Result<Got, Failed>
     requires open { (W.state wires.old link).is_open ≡ true }
     requires going { (W.state wires.old link).has_ended ≡ false }
-    requires buffer { vec_len coming.old ≡ BUFFER }
+    requires buffer { length coming.old ≡ BUFFER }
     requires some { 0 < left.old.octets }
     requires few { left.old.quiets < reads.idle }
     ensures within { IfOk result (λ got. fits_buffer got) }
+    ensures logged { Logs (W.state wires.old link).log (W.state wires.new link).log
+        (read_entries result coming.new) }
     ensures end { (W.state wires.new link).has_ended ≡ gives_end result }
     ensures failed { OnErr result
         (Rose (W.state wires.old link).faults (W.state wires.new link).faults) }
@@ -46,10 +49,10 @@ pub(crate) fn read_once<W: Wires>(
           lent = W.lent wires.new;
         }) }
     ensures reads { (W.state wires.new link).reads ≤ (W.state wires.old link).reads + 1 }
-    ensures buffer { vec_len coming.new ≡ BUFFER }
+    ensures buffer { length coming.new ≡ BUFFER }
 {
     let room = BUFFER.min(left.octets as usize);
-    let got = wires.read(link, &mut coming.as_mut_slice()[..room]);
+    let got = wires.read(link, &mut coming[..room]);
     match got {
         Ok(Got::Bytes(n)) => {
             left.octets -= n as u32;

@@ -1,7 +1,7 @@
 //! The turns over a link.
-ghost use Rattle.std.specs.Prelude.{◌≡◌, ◌≤◌, ◌<◌, ◌+◌, ◌*◌, ℕ, true, false, OnOk, IfErr, vec_len};
+ghost use Rattle.std.specs.Prelude.{◌≡◌, ◌≤◌, ◌<◌, ◌+◌, ◌*◌, ℕ, [], true, false, OnOk, IfErr, vec_len};
 ghost use Rattle.beep_wires.specs.Links.{Link};
-ghost use Rattle.beep_link.specs.Causes.{CountsQuiet, IsCaused, IsUnused, IsWritten, Keeps, reads_left, TellsLeft};
+ghost use Rattle.beep_link.specs.Causes.{CountsQuiet, IsCaused, IsUnused, IsWritten, Keeps, reads_left, TellsLeft, WhereTold};
 ghost use Rattle.beep_link.specs.declared.buffers.TheConstants.{BUFFER};
 
 use crate::buffers::{BUFFER, Buffers};
@@ -28,6 +28,8 @@ pub fn run_turns<E: End, W: Wires, O: Sink>(
         (record { link = W.state wires.old link; quiets = (W.counts wires.old).quiets })
         (record { link = W.state wires.new link; quiets = (W.counts wires.new).quiets }) }
     ensures written { IsWritten result (O.state output.old).faults (O.state output.new).faults }
+    ensures told { E.stands end.old [] []
+        → WhereTold (E.tells (E.terms end.old) result) (W.state wires.new link).log }
 
     // What stays, and how often is read.
     ensures keeps { Keeps link
@@ -73,6 +75,12 @@ fn turn<E: End, W: Wires, O: Sink>(
     requires going { (W.state wires.old link).has_ended ≡ false }
     requires told { TellsLeft reads left.old (W.state wires.old link).log }
     requires buffer { vec_len buffers.old.coming ≡ BUFFER }
+    requires empty { buffers.old.going.octets ≡ [] }
+    ensures stands { WhereTold (λ log. E.stands end.old log []) (W.state wires.old link).log
+        → OnOk result (WhereTold (λ log. E.stands end.new log []) (W.state wires.new link).log) }
+    ensures stopped { WhereTold (λ log. E.stands end.old log []) (W.state wires.old link).log
+        → IfErr result (λ ended.
+        WhereTold (E.tells (E.terms end.old) ended) (W.state wires.new link).log) }
     ensures going { OnOk result ((W.state wires.new link).has_ended ≡ false) }
     ensures falls { OnOk result (reads_left reads left.new < reads_left reads left.old) }
     ensures told { OnOk result (TellsLeft reads left.new (W.state wires.new link).log) }
@@ -102,6 +110,8 @@ fn turn<E: End, W: Wires, O: Sink>(
     ensures kept { (O.state output.old).faults ≤ (O.state output.new).faults }
     ensures reads { (W.state wires.new link).reads ≤ (W.state wires.old link).reads + 1 }
     ensures buffer { vec_len buffers.new.coming ≡ BUFFER }
+    ensures empty { OnOk result (buffers.new.going.octets ≡ []) }
+    ensures terms { E.terms end.new ≡ E.terms end.old }
 {
     say(end, &mut buffers.going, wires, link)?;
     if end.is_over() {
@@ -110,7 +120,7 @@ fn turn<E: End, W: Wires, O: Sink>(
     if let Some(ended) = left.is_spent(reads) {
         return Err(ended);
     }
-    match read_once(&mut buffers.coming, wires, link, reads, left) {
+    match read_once(buffers.coming.as_mut_slice(), wires, link, reads, left) {
         Ok(Got::Bytes(count)) => match end.hear(&buffers.coming[..count], output) {
             Ok(()) => Ok(()),
             Err(stop) => Err(Ended::of(stop)),

@@ -3,3 +3,4 @@ pub mod WholeLemmas
 pub mod JoinLemmas
 pub mod ReadLemmas
 pub mod WriteLemmas
+pub mod EndLemmas

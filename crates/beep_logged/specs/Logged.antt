@@ -32,6 +32,13 @@ pub record IsLogged (terms : Terms) (rest : List ℕ) (journal : List Item) (log
   pub shown : IsShown rest journal log
   pub lawful : IsLawfulLog terms none_tunes log
 
+-- a log shows no broken rule, and each moment of it was lawful
+pub record IsSound (terms : Terms) (log : List Moment) : Type 0 where
+  pub past : Past
+  pub shows : Shows none_tunes log past
+  pub going : past.fault ≡ None
+  pub lawful : IsLawfulLog terms none_tunes log
+
 -- ---- while a message of channel zero waits
 
 -- the last octet that was read ended the last frame of a message of channel zero: before it, the
@@ -47,10 +54,12 @@ pub record IsLoggedWaiting (terms : Terms) (head : Head) (payload : List ℕ)
 
 -- ---- after a broken rule
 
--- a log shows that the peer broke this rule first, at the received octet of this number
+-- a log shows that the peer broke this rule first, at the received octet of this number; each
+-- written frame is whole
 pub record IsLoggedBroken (terms : Terms) (rule : Rule) (place : ℕ) (log : List Moment)
     : Type 0 where
   pub past : Past
   pub shows : Shows none_tunes log past
   pub fault_is : past.fault ≡ Some (record { side = Side.Received; rule = rule; place = place })
+  pub whole : past.rest Side.Sent ≡ []
   pub lawful : IsLawfulLog terms none_tunes log

@@ -1,6 +1,6 @@
 //! What a session's calls make of the log of its link, as facts: each function does nothing, and
 //! its contract is the fact.
-ghost use Rattle.std.specs.Prelude.{◌≡◌, ℕ, ◌++◌, ◌∷◌, [], List, false, None, Some, length};
+ghost use Rattle.std.specs.Prelude.{◌≡◌, ℕ, ◌++◌, ◌∷◌, [], List, true, false, None, Some, length};
 ghost use Rattle.std.specs.List.{list_any};
 ghost use Rattle.beep_frame.specs.declared.head.Head.{Head};
 ghost use Rattle.beep_frame.specs.declared.rule.Rule.{Rule};
@@ -16,11 +16,11 @@ ghost use Rattle.beep_journal.specs.Broken.{none_tunes, broken_content};
 ghost use Rattle.beep_journal.specs.Journal.{Past, Shows, spelled};
 ghost use Rattle.beep_channel.specs.Held.{Live};
 ghost use Rattle.beep_lawful.specs.declared.terms.Terms.{Terms};
-ghost use Rattle.beep_lawful.specs.Lawful.{IsLawful};
+ghost use Rattle.beep_lawful.specs.Lawful.{IsLawful, IsLawfulLog};
 ghost use Rattle.beep_standing.specs.Standing.{Marks};
 ghost use Rattle.beep_hearing.specs.declared.ear.Ear.{Ear};
 ghost use Rattle.beep_hearing.specs.Hears.{IsFed, Waits, Join, ends_zero, Breaks};
-ghost use Rattle.beep_logged.specs.Logged.{IsLogged, IsLoggedWaiting, IsLoggedBroken};
+ghost use Rattle.beep_logged.specs.Logged.{IsLogged, IsLoggedWaiting, IsLoggedBroken, IsSound};
 
 /// Before the first octet a log shows a session in which nothing has happened.
 pub fn an_empty_log_shows_the_empty_journal()
@@ -110,4 +110,31 @@ pub fn a_quiet_read_and_an_end_leave_the_journal()
         → IsLogged terms rest journal log → IsLogged terms rest journal (none ∷ log) }
     ensures end { (terms : Terms) (rest : List ℕ) (journal : List Item) (log : List Moment)
         → IsLogged terms rest journal log → IsLogged terms rest journal (over ∷ log) }
+{}
+
+/// What is read after the release is no part of the log's session (RFC 3080, section 2.3.1.3).
+pub fn what_is_read_after_the_release_changes_nothing()
+    ensures { (terms : Terms) (rest octets : List ℕ) (journal : List Item) (log : List Moment)
+        → IsLogged terms rest journal log → is_released journal ≡ true
+        → IsLogged terms rest journal (got_all octets log) }
+{}
+
+/// What is read after a broken rule is none either: that rule stays the first.
+pub fn what_is_read_after_a_broken_rule_changes_nothing()
+    ensures { (terms : Terms) (rule : Rule) (place : ℕ) (octets : List ℕ) (log : List Moment)
+        → IsLoggedBroken terms rule place log
+        → IsLoggedBroken terms rule place (got_all octets log) }
+{}
+
+/// Whatever is read where each written frame is whole, what was written stays lawful.
+pub fn whatever_is_read_leaves_a_log_lawful()
+    ensures { (terms : Terms) (rest octets : List ℕ) (journal : List Item) (log : List Moment)
+        → IsLogged terms rest journal log → IsLawfulLog terms none_tunes (got_all octets log) }
+{}
+
+/// Where the last octets that are to be written aren't, the log shows no broken rule, and each
+/// moment of it was lawful (RFC 3080, section 2.2.1).
+pub fn a_beginning_of_what_is_written_is_lawful()
+    ensures { (terms : Terms) (rest octets : List ℕ) (journal : List Item) (log : List Moment)
+        → IsLogged terms rest journal (put_all octets log) → IsSound terms log }
 {}

@@ -17,6 +17,22 @@ struct Echo {
 }
 
 impl End for Echo {
+    ghost Terms = { Unit {0} };
+
+    ghost terms = { λ _. tt };
+
+    ghost stands = { λ _ _ _. Unit {0} };
+
+    ghost tells = { λ _ _ _. Unit {0} };
+
+    ghost writes = { λ _ _ _ _ _. tt };
+
+    ghost quiets = { λ _ _ _. tt };
+
+    ghost closes = { λ _ _ _. tt };
+
+    ghost stops = { λ _ _ _ _ _ _. tt };
+
     fn gather(&mut self, out: &mut Octets) -> Result<bool, NoMemory> {
         if self.due == 0 {
             return Ok(false);
