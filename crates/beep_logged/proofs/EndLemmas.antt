@@ -145,8 +145,8 @@ broken-got terms rule place log octet l =
       past = past;
       shows = (past, l.shows, takes);
       fault_is = l.fault_is;
-      whole = l.whole;
-      lawful = longer-lawful terms log (got octet) past past l.lawful l.shows takes l.whole (l.lawful.items past l.shows) (λ fault f. l.lawful.faultless past fault l.shows f);
+      written = l.written;
+      lawful = longer-lawful terms log (got octet) past past l.lawful l.shows takes l.written (l.lawful.items past l.shows) (λ fault f. l.lawful.faultless past fault l.shows f);
     }
 
 pub broken-gots : (terms : Terms) (rule : Rule) (place : ℕ) (octets : List ℕ) (log : List Moment) → IsLoggedBroken terms rule place log

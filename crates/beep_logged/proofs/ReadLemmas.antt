@@ -116,7 +116,7 @@ read-breaks terms fed rest octets journal log decoder used l was unreleased rule
       past = new;
       shows = (at.past, at.shows, takes);
       fault_is = ap (λ n. Some (record { side = Side.Received; rule = rule; place = n })) counted;
-      whole = at.others_is;
+      written = at.others_is;
       lawful = longer-lawful terms (many Side.Received b.before log) (got b.octet) at.past new at.lawful at.shows takes
           (moment-lawful terms (b.gained ++ journal) b.rest [] (many Side.Received b.before log) b.octet Side.Received at may)
           (at.lawful.items at.past at.shows) (λ fault e. let same : fault_at Side.Received at.past rule ≡ fault = (let h : Some (fault_at Side.Received at.past rule) ≡ Some fault = e in cc) in
@@ -169,7 +169,7 @@ module _ (terms : Terms) (head : Head) (payload : List ℕ) (journal : List Item
         past = new;
         shows = (at-waiting.past, at-waiting.shows, takes);
         fault_is = ap (λ n. Some (record { side = Side.Received; rule = rule; place = n })) counted;
-        whole = at-waiting.others_is;
+        written = at-waiting.others_is;
         lawful = longer-lawful terms w.earlier (got w.octet) at-waiting.past new at-waiting.lawful at-waiting.shows takes
             (moment-lawful terms journal w.rest [] w.earlier w.octet Side.Received at-waiting (unreleased, refl))
             (subst (λ j. IsLawful terms none_tunes (passed Side.Received head payload ∷ j)) (sym at-waiting.journal_is) (lawful-journal terms w.rest journal w.earlier w.logged))

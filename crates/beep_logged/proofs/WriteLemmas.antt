@@ -1,11 +1,11 @@
 -- What is written: a whole frame, or a SEQ.
-use Rattle.std.proofs.Common.{◌≡◌, ℕ, Bool, true, false, ◌&&◌, if◌then◌else◌, List, [], ◌∷◌, ◌++◌, None, Some, Option, refl, sym, ap, ◌∙◌, subst, append_assoc, append-nil}
+use Rattle.std.proofs.Common.{◌≡◌, ℕ, Bool, true, false, ◌&&◌, not, ◌==◌, if◌then◌else◌, length, eqb-true, List, [], ◌∷◌, ◌++◌, None, Some, Option, refl, sym, ap, ◌∙◌, subst, append_assoc, append-nil}
 use Rattle.std.specs.Prelude.{is_some}
 use Rattle.std.specs.Option.{is_none}
 use Rattle.beep_frame.specs.declared.head.Head.{Head}
 use Rattle.beep_frame.specs.declared.seq.Seq.{Seq}
 use Rattle.beep_frame.specs.declared.rule.Rule.{Rule}
-use Rattle.beep_frame.specs.Frame.{framed, seq_frame, IsFrame, IsSeq}
+use Rattle.beep_frame.specs.Frame.{framed, seq_frame, IsHead, IsFrame, IsSeq}
 use Rattle.beep_frame.specs.Spelling.{spelling, header, header_line, seq_line, trailer}
 use Rattle.beep_history.specs.declared.journal.Side.{Side}
 use Rattle.beep_history.specs.Journal.{Item, began, passed, told}
@@ -13,7 +13,7 @@ use Rattle.beep_journal.specs.Log.{Moment, put_all}
 use Rattle.beep_journal.specs.Broken.{none_tunes, broken_head, broken_seq, broken_content}
 use Rattle.beep_lawful.specs.declared.breach.Breach.{Breach}
 use Rattle.beep_lawful.specs.declared.terms.Terms.{Terms}
-use Rattle.beep_lawful.specs.Lawful.{is_apart, breaks_rule, breaks_content, breaks_seq_rule, breaks_after_end, unlawful_head, unlawful_frame, unlawful_seq, unlawful_item, is_lawful, IsLawful}
+use Rattle.beep_lawful.specs.Lawful.{is_apart, same_head, breaks_apart, breaks_rule, breaks_content, breaks_seq_rule, breaks_after_end, unlawful_head, unlawful_frame, unlawful_seq, unlawful_item, is_lawful, IsLawful}
 use Rattle.beep_logged.specs.Logged.{IsLogged}
 use Rattle.beep_logged.proofs.OctetLemmas.{At, many, many-append, many-put}
 use Rattle.beep_logged.proofs.WholeLemmas.{header-ends, frame-ends, seq-ends}
@@ -82,6 +82,19 @@ first-lawful terms item past is = none-is (unlawful_item terms none_tunes past i
 
 pub earlier-lawful : (terms : Terms) (item : Item) (past : List Item) → IsLawful terms none_tunes (item ∷ past) → IsLawful terms none_tunes past
 earlier-lawful terms item past is = both-two (is_none (unlawful_item terms none_tunes past item)) (is_lawful terms none_tunes past) is
+
+not-false : (b : Bool) → not b ≡ false → b ≡ true
+not-false true e = refl
+not-false false e = cc
+
+-- a lawful frame has the size that its header says
+pub lawful-frame : (terms : Terms) (journal : List Item) (head : Head) (payload : List ℕ) → IsHead head
+    → IsLawful terms none_tunes (passed Side.Sent head payload ∷ began Side.Sent head ∷ journal) → IsFrame (framed head payload)
+unfolding unlawful_frame
+lawful-frame terms journal head payload is_head is =
+    let one = next-none (breaks_apart (began Side.Sent head ∷ journal) head payload) Breach.Apart _
+        (first-lawful terms (passed Side.Sent head payload) (began Side.Sent head ∷ journal) is) in
+    (is_head, eqb-true (length payload) head.size (both-two (same_head head head) (length payload == head.size) (not-false _ one.0)))
 
 -- ---- a log, seen from the sent side
 

@@ -61,5 +61,5 @@ pub record IsLoggedBroken (terms : Terms) (rule : Rule) (place : ℕ) (log : Lis
   pub past : Past
   pub shows : Shows none_tunes log past
   pub fault_is : past.fault ≡ Some (record { side = Side.Received; rule = rule; place = place })
-  pub whole : past.rest Side.Sent ≡ []
+  pub written : past.rest Side.Sent ≡ []
   pub lawful : IsLawfulLog terms none_tunes log
