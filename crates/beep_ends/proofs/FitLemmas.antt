@@ -1,10 +1,8 @@
 -- Settings in their ranges are fit for a session.
-use Rattle.std.proofs.Common.{◌≡◌, ℕ, ◌≤◌, Bool, true, ◌&&◌, nat_lt, nat_le, length, refl, ap₂, ap, ◌∙◌, arith}
+use Rattle.std.proofs.Common.{◌≡◌, ◌≤◌, true, ◌&&◌, nat_lt, nat_le, length, ap₂, arith}
 use Rattle.std.specs.List.{list_all}
 use Rattle.std.proofs.lemmas.Bool.Decides.{nat_tests}
 use Rattle.beep_chars.specs.Characters.{is_allowed}
-use Rattle.beep_seq.specs.declared.limits.TheConstants.{MIN_WINDOW, MAX_WINDOW}
-use Rattle.beep_session.specs.declared.limits.TheConstants.{MAX_PIECE}
 use Rattle.beep_settings.specs.declared.settings.Settings.{Settings}
 use Rattle.beep_ends.specs.Ends.{AreFit}
 

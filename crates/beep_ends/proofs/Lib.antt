@@ -1,4 +1,6 @@
 -- Proofs.
+mod CallLemmas
 mod DefaultsLemmas
 pub mod FitLemmas
 mod NoteLemmas
+mod OnLemmas

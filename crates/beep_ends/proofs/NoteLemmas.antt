@@ -1,5 +1,5 @@
 -- Texts of ASCII: the note of a refusal, and a URI.
-use Rattle.std.proofs.Common.{◌≡◌, ℕ, Bool, ◌&&◌, suc, zero, nat_lt, true, false, List, [], ◌∷◌, chars, codes, IsAscii, refl, ap, ◌∙◌, arith, ltb-true}
+use Rattle.std.proofs.Common.{◌≡◌, ℕ, Bool, ◌&&◌, suc, zero, nat_lt, true, false, List, [], ◌∷◌, chars, IsAscii, refl, ap, ◌∙◌, arith, ltb-true}
 use Rattle.std.specs.List.{list_all}
 use Rattle.std.proofs.lemmas.Str.{chars-IsAscii}
 use Rattle.beep_chars.specs.Characters.{is_allowed}

@@ -1,2 +1,4 @@
 -- What public clauses cite.
 pub mod Ends
+pub mod Logs
+pub mod Turning

@@ -2,6 +2,7 @@
 ghost use Rattle.std.specs.Prelude.{◌≡◌, ◌≤◌, IfErr};
 ghost use Rattle.beep_wires.specs.Counts.{Rose};
 ghost use Rattle.beep_link.specs.declared.ended.Stop.{Stop as StopValue};
+ghost use Rattle.beep_ends.specs.Logs.{SaysNothing};
 
 use beep_link::{BUFFER, Stop};
 use beep_mime::body;
@@ -29,6 +30,7 @@ impl Lines {
     pub(crate) fn put<O: Sink>(&mut self, message: &[u8], output: &mut O) -> Result<(), Stop>
         ensures failed { IfErr result (λ stop. stop ≡ StopValue.WriteFault
             → Rose (O.state output.old).faults (O.state output.new).faults) }
+        ensures stopped { IfErr result (λ stop. SaysNothing stop) }
         ensures kept { (O.state output.old).faults ≤ (O.state output.new).faults }
     {
         let body = body(message);
@@ -44,6 +46,7 @@ impl Lines {
     fn put_entry<O: Sink>(&mut self, entry: &[u8], output: &mut O) -> Result<(), Stop>
         ensures failed { IfErr result (λ stop. stop ≡ StopValue.WriteFault
             → Rose (O.state output.old).faults (O.state output.new).faults) }
+        ensures stopped { IfErr result (λ stop. SaysNothing stop) }
         ensures kept { (O.state output.old).faults ≤ (O.state output.new).faults }
     {
         let room = line_room(entry.len());
@@ -62,6 +65,7 @@ impl Lines {
     pub(crate) fn flush<O: Sink>(&mut self, output: &mut O) -> Result<(), Stop>
         ensures failed { IfErr result (λ stop. stop ≡ StopValue.WriteFault
             → Rose (O.state output.old).faults (O.state output.new).faults) }
+        ensures stopped { IfErr result (λ stop. SaysNothing stop) }
         ensures kept { (O.state output.old).faults ≤ (O.state output.new).faults }
     {
         let written = write_all(output, self.octets.as_slice());

@@ -1,13 +1,19 @@
 //! What a listener does as messages come and go: it asks for lines on each channel, and writes the
 //! lines of each answer (RFC 3195, section 3.1).
-ghost use Rattle.std.specs.Prelude.{◌≡◌, ◌≤◌, ◌<◌, length, vec_len, true, IfErr, IfOk, IfSome};
+ghost use Rattle.std.specs.Prelude.{◌≡◌, ◌≤◌, ◌<◌, ◌∷◌, [], ℕ, List, length, take, vec_len, true, IfErr, IfOk, IfSome, OnOk};
 ghost use Rattle.beep_wires.specs.Counts.{Rose};
+ghost use Rattle.beep_wires.specs.Log.{Entry, read as came};
+ghost use Rattle.beep_journal.specs.Log.{Moment, got_all, put_all};
+ghost use Rattle.beep_lawful.specs.declared.terms.Terms.{Terms as TermsValue};
+ghost use Rattle.beep_session.specs.Lawfully.{terms_of};
+ghost use Rattle.beep_link.specs.Causes.{ended_by};
 ghost use Rattle.beep_link.specs.declared.end.TheConstants.{FRAME_ROOM};
 ghost use Rattle.beep_link.specs.declared.ended.Stop.{Stop as StopValue};
 ghost use Rattle.beep_ends.specs.declared.listener.TheConstants.{TAKEN};
+ghost use Rattle.beep_ends.specs.Logs.{SaysNothing, moments, Shows, StandsOn, StaysOn, StopsOn, WaitsOn};
 
 use crate::bodies::Bodies;
-use crate::hearing::{duty, say_next, settle_message, take_part};
+use crate::hearing::{Came, hear_next, is_open, say_next, settle_message, take_part};
 use crate::lines::Lines;
 use beep_channel::AskError;
 use beep_chars::Text;
@@ -17,7 +23,7 @@ use beep_link::{BUFFER, End, FRAME_ROOM, Stop};
 use beep_mgmt::{Mgmt, write_mgmt};
 use beep_octets::{NoMemory, Octets};
 use beep_outbox::GiveError;
-use beep_session::{Duty, Event, Session, Settled};
+use beep_session::{Duty, Session, Settled};
 use beep_speaking::Emit;
 use beep_wires::Sink;
 use std::alloc::Global;
@@ -51,7 +57,9 @@ fn refusal_text(alloc: Global) -> Result<Octets, NoMemory> {
 
 impl Listener {
     /// A listener over a session in which nothing has happened.
-    pub(crate) fn new(alloc: Global, session: Session) -> Result<Listener, NoMemory> {
+    pub(crate) fn new(alloc: Global, session: Session) -> Result<Listener, NoMemory>
+        ensures { IfOk result (λ listener. listener.session ≡ session) }
+    {
         let mut taken = Vec::new(alloc);
         taken.resize(TAKEN, 0)?;
         Ok(Listener {
@@ -65,9 +73,25 @@ impl Listener {
         })
     }
 
+    /// Does what that calls for which was said, and tells whether anything was.
+    fn said(&mut self, said: Emit) -> Result<bool, NoMemory>
+        ensures stays { StaysOn self.old.session self.new.session }
+    {
+        match said {
+            Emit::Data(head) => match self.went(&head) {
+                Ok(()) => Ok(true),
+                Err(NoMemory) => Err(NoMemory),
+            },
+            Emit::Seq(_) => Ok(true),
+            Emit::Nothing => Ok(false),
+        }
+    }
+
     /// Does what a frame calls for that goes out. Where it begins a life, and it begins one at
     /// most, the lines are asked for.
-    fn went(&mut self, head: &Head) -> Result<(), NoMemory> {
+    fn went(&mut self, head: &Head) -> Result<(), NoMemory>
+        ensures stays { StaysOn self.old.session self.new.session }
+    {
         if head.channel != 0 || head.more || self.session.is_over() {
             return Ok(());
         }
@@ -79,7 +103,9 @@ impl Listener {
     }
 
     /// Refuses what found no room before, and tells whether that was done.
-    fn refill(&mut self) -> Result<bool, NoMemory> {
+    fn refill(&mut self) -> Result<bool, NoMemory>
+        ensures stays { StaysOn self.old.session self.new.session }
+    {
         let Some(number) = self.owing.pop() else {
             return Ok(false);
         };
@@ -89,7 +115,9 @@ impl Listener {
     }
 
     /// Refuses the oldest request of a channel. One that finds no room waits.
-    fn refuse(&mut self, number: u32) -> Result<(), NoMemory> {
+    fn refuse(&mut self, number: u32) -> Result<(), NoMemory>
+        ensures stays { StaysOn self.old.session self.new.session }
+    {
         let is_given = refuse_oldest(&mut self.session, number, self.refusal.as_slice())?;
         if !is_given {
             self.owing.reserve(1)?;
@@ -100,6 +128,12 @@ impl Listener {
 
     /// Uses all octets, unless the session ends. Each event uses one at least.
     fn hear_all<O: Sink>(&mut self, bytes: &[u8], output: &mut O) -> Result<(), Stop>
+        ensures heard { (log : List Moment) → StandsOn self.old.session log
+            → OnOk result (StandsOn self.new.session (got_all bytes.now log)) }
+        ensures stopped { (log : List Moment) → StandsOn self.old.session log
+            → IfErr result (λ stop.
+            StopsOn (terms_of self.old.session) stop (got_all bytes.now log)) }
+        ensures terms { terms_of self.new.session ≡ terms_of self.old.session }
         ensures failed { IfErr result (λ stop. stop ≡ StopValue.WriteFault
             → Rose (O.state output.old).faults (O.state output.new).faults) }
         ensures kept { (O.state output.old).faults ≤ (O.state output.new).faults }
@@ -109,7 +143,10 @@ impl Listener {
             if bytes.len() <= at {
                 return Ok(());
             }
-            at += self.hear_some(&bytes[at..], output)?;
+            match self.hear_some(&bytes[at..], output) {
+                Ok(count) => at += count,
+                Err(stop) => return Err(stop),
+            }
         }
         Ok(())
     }
@@ -117,30 +154,41 @@ impl Listener {
     /// Uses octets up to the next event, and does what it calls for.
     fn hear_some<O: Sink>(&mut self, bytes: &[u8], output: &mut O) -> Result<usize, Stop>
         ensures within { IfOk result (λ n. n ≤ length bytes.now) }
+        ensures heard { (log : List Moment) → StandsOn self.old.session log → IfOk result (λ n.
+            StandsOn self.new.session (got_all (take n bytes.now) log)) }
+        ensures stopped { (log : List Moment) → StandsOn self.old.session log
+            → IfErr result (λ stop.
+            StopsOn (terms_of self.old.session) stop (got_all bytes.now log)) }
+        ensures more { (log : List Moment) → StandsOn self.old.session log
+            → 0 < length bytes.now → IfOk result (λ n. 0 < n) }
+        ensures terms { terms_of self.new.session ≡ terms_of self.old.session }
         ensures failed { IfErr result (λ stop. stop ≡ StopValue.WriteFault
             → Rose (O.state output.old).faults (O.state output.new).faults) }
         ensures kept { (O.state output.old).faults ≤ (O.state output.new).faults }
     {
-        let (count, event) = self.session.feed(bytes);
-        match event {
-            Event::More => Ok(count),
-            Event::Arrived(number) => {
-                self.take(number, output)?;
-                Ok(count)
-            }
-            Event::Zero => {
-                self.settle()?;
-                Ok(count)
-            }
-            Event::Released => Err(Stop::Released),
-            Event::Broken(rule, place) => Err(Stop::Broken(rule, place)),
-            Event::NoMemory => Err(Stop::NoMemory),
+        let (count, came) = hear_next(&mut self.session, bytes)?;
+        match came {
+            Came::More => Ok(count),
+            Came::Arrived(number) => match self.take(number, output) {
+                Ok(()) => Ok(count),
+                Err(stop) => Err(stop),
+            },
+            Came::Zero => match self.settle() {
+                Ok(()) => Ok(count),
+                Err(stop) => Err(stop),
+            },
         }
     }
 
     /// Settles what waits, and does what it calls for.
     fn settle(&mut self) -> Result<(), Stop>
-        ensures { IfErr result (λ stop. stop ≡ StopValue.WriteFault → ⊥) }
+        ensures settled { (log : List Moment) → WaitsOn self.old.session log
+            → OnOk result (StandsOn self.new.session log) }
+        ensures stopped { (log : List Moment) (octets : List ℕ)
+            → WaitsOn self.old.session log → IfErr result (λ stop.
+            StopsOn (terms_of self.old.session) stop (got_all octets log)) }
+        ensures terms { terms_of self.new.session ≡ terms_of self.old.session }
+        ensures failed { IfErr result (λ stop. stop ≡ StopValue.WriteFault → ⊥) }
     {
         if !self.session.zero_waits() {
             return Ok(());
@@ -151,8 +199,8 @@ impl Listener {
                 Ok(()) => Ok(()),
                 Err(_) => Err(Stop::NoMemory),
             },
-            Settled::Released => Err(Stop::Released),
-            Settled::Greeted
+            Settled::Released
+            | Settled::Greeted
             | Settled::Begun { .. }
             | Settled::NotBegun { .. }
             | Settled::PeerRefused { .. }
@@ -165,6 +213,8 @@ impl Listener {
 
     /// Takes the frame that has arrived.
     fn take<O: Sink>(&mut self, number: u32, output: &mut O) -> Result<(), Stop>
+        ensures stays { StaysOn self.old.session self.new.session }
+        ensures stopped { IfErr result (λ stop. SaysNothing stop) }
         ensures failed { IfErr result (λ stop. stop ≡ StopValue.WriteFault
             → Rose (O.state output.old).faults (O.state output.new).faults) }
         ensures kept { (O.state output.old).faults ≤ (O.state output.new).faults }
@@ -184,6 +234,8 @@ impl Listener {
 
     /// Adds octets to an answer, and writes its lines once it is whole.
     fn answer<O: Sink>(&mut self, number: u32, part: Part, output: &mut O) -> Result<(), Stop>
+        ensures same { self.new.session ≡ self.old.session }
+        ensures stopped { IfErr result (λ stop. SaysNothing stop) }
         ensures failed { IfErr result (λ stop. stop ≡ StopValue.WriteFault
             → Rose (O.state output.old).faults (O.state output.new).faults) }
         ensures kept { (O.state output.old).faults ≤ (O.state output.new).faults }
@@ -211,6 +263,8 @@ impl Listener {
     ) -> Result<(), Stop>
         requires place { i < vec_len self.old.bodies.list }
         requires within { count ≤ TAKEN }
+        ensures same { self.new.session ≡ self.old.session }
+        ensures stopped { IfErr result (λ stop. SaysNothing stop) }
         ensures failed { IfErr result (λ stop. stop ≡ StopValue.WriteFault
             → Rose (O.state output.old).faults (O.state output.new).faults) }
         ensures kept { (O.state output.old).faults ≤ (O.state output.new).faults }
@@ -228,29 +282,54 @@ impl Listener {
 }
 
 impl End for Listener {
+    ghost use Rattle.beep_ends.specs.Turning.{closes_on, quiets_on, stops_on, writes_on};
+
+    ghost Terms = { TermsValue };
+
+    ghost terms = { λ listener. terms_of listener.session };
+
+    ghost stands = { λ listener log octets. StandsOn listener.session (put_all octets (moments log)) };
+
+    ghost tells = { λ terms ended log. Shows terms ended log };
+
+    ghost writes = { λ listener log front octets s. writes_on listener.session log front octets s };
+
+    ghost quiets = { λ listener log s. quiets_on listener.session log s };
+
+    ghost closes = { λ listener log s. closes_on listener.session log s };
+
+    ghost stops = { λ listener log octets ended is s. stops_on listener.session log octets ended is s };
+
     fn gather(&mut self, out: &mut Octets) -> Result<bool, NoMemory> {
         let is_given = self.refill()?;
         for _ in 0..BUFFER {
             if out.spare() < FRAME_ROOM {
                 return Ok(true);
             }
-            match say_next(&mut self.session, out) {
-                Emit::Data(head) => self.went(&head)?,
-                Emit::Seq(_) => {}
-                Emit::Nothing => return Ok(is_given),
+            let said = say_next(&mut self.session, out);
+            if !self.said(said)? {
+                return Ok(is_given);
             }
         }
         Ok(true)
     }
 
     fn hear<O: Sink>(&mut self, bytes: &[u8], output: &mut O) -> Result<(), Stop>
+        ensures heard { (log : List Entry) → StandsOn self.old.session (moments log)
+            → OnOk result (StandsOn self.new.session (moments (came bytes.now ∷ log))) }
+        ensures stopped { (log : List Entry) → StandsOn self.old.session (moments log)
+            → IfErr result (λ stop.
+            Shows (terms_of self.old.session) (ended_by stop) (came bytes.now ∷ log)) }
         ensures failed { IfErr result (λ stop. stop ≡ StopValue.WriteFault
             → Rose (O.state output.old).faults (O.state output.new).faults) }
+        ensures terms { terms_of self.new.session ≡ terms_of self.old.session }
         ensures kept { (O.state output.old).faults ≤ (O.state output.new).faults }
     {
         let heard = self.hear_all(bytes, output);
-        self.lines.flush(output)?;
-        heard
+        match self.lines.flush(output) {
+            Ok(()) => heard,
+            Err(stop) => Err(stop),
+        }
     }
 
     fn is_over(&self) -> bool {
@@ -275,7 +354,9 @@ fn first_live(session: &Session, numbers: &[u32]) -> Option<usize>
 }
 
 /// Asks for lines on a channel. Once the peer closes the session nothing is asked.
-fn ask_lines(session: &mut Session, number: u32) -> Result<(), NoMemory> {
+fn ask_lines(session: &mut Session, number: u32) -> Result<(), NoMemory>
+    ensures stays { StaysOn session.old session.new }
+{
     if session.zero_waits() {
         return Ok(());
     }
@@ -290,17 +371,29 @@ fn ask_lines(session: &mut Session, number: u32) -> Result<(), NoMemory> {
 }
 
 /// Refuses the oldest request of a channel, and tells whether there was room.
-fn refuse_oldest(session: &mut Session, number: u32, refusal: &[u8]) -> Result<bool, NoMemory> {
-    match duty(session, number) {
+fn refuse_oldest(session: &mut Session, number: u32, refusal: &[u8]) -> Result<bool, NoMemory>
+    ensures stays { StaysOn session.old session.new }
+{
+    if !is_open(session, number) {
+        return Ok(true);
+    }
+    match session.owed(number) {
         None => Ok(true),
         Some(Duty::Fresh(owed)) => match owed.refuse(refusal) {
             Ok(()) => Ok(true),
-            Err((_, GiveError::Full { .. })) => Ok(false),
-            Err((_, GiveError::NoMemory)) => Err(NoMemory),
+            Err((_owed, error)) => found_no_room(error),
         },
         Some(Duty::Begun(answering)) => match answering.done() {
             Ok(()) => Ok(true),
-            Err((_, NoMemory)) => Err(NoMemory),
+            Err((_answering, NoMemory)) => Err(NoMemory),
         },
+    }
+}
+
+/// Whether a message waits for room, and not for memory.
+fn found_no_room(error: GiveError) -> Result<bool, NoMemory> {
+    match error {
+        GiveError::Full { .. } => Ok(false),
+        GiveError::NoMemory => Err(NoMemory),
     }
 }

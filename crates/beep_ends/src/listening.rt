@@ -1,11 +1,14 @@
 //! A listener over one link.
-ghost use Rattle.std.specs.Prelude.{◌≡◌, ◌≤◌, ◌+◌, ◌*◌, map, true, IfOk, OnOk};
+ghost use Rattle.std.specs.Prelude.{◌≡◌, ◌≤◌, ◌+◌, ◌*◌, [], map, true, IfOk, OnOk};
 ghost use Rattle.std.specs.List.{list_all};
 ghost use Rattle.beep_answering.specs.Decided.{NoneTunes};
 ghost use Rattle.beep_answering.specs.Sent.{is_uri};
 ghost use Rattle.beep_decide.specs.Plain.{plain_offer};
-ghost use Rattle.beep_link.specs.Causes.{IsCaused, IsUnused, IsWritten, Keeps};
+ghost use Rattle.beep_journal.specs.declared.role.Role.{Role as RoleValue};
+ghost use Rattle.beep_session.specs.Lawfully.{terms_of};
+ghost use Rattle.beep_link.specs.Causes.{IsCaused, IsUnused, IsWritten, Keeps, WhereTold};
 ghost use Rattle.beep_ends.specs.Ends.{AreFit, reads_of};
+ghost use Rattle.beep_ends.specs.Logs.{IsLawfulOn, Shows, StandsOn, terms_by};
 
 use crate::fit::{limits_of, reads_of};
 use crate::listener::Listener;
@@ -34,6 +37,12 @@ pub fn listen_end<W: Wires, O: Sink>(
         (record { link = W.state wires.old link; quiets = (W.counts wires.old).quiets })
         (record { link = W.state wires.new link; quiets = (W.counts wires.new).quiets }) }
     ensures written { IsWritten result (O.state output.old).faults (O.state output.new).faults }
+
+    // What the log shows, where it is told: what was written is lawful, and why the session ended.
+    ensures lawful { WhereTold (IsLawfulOn (terms_by RoleValue.Listener settings.now))
+        (W.state wires.new link).log }
+    ensures told { WhereTold (Shows (terms_by RoleValue.Listener settings.now) result)
+        (W.state wires.new link).log }
 
     // What stays, and how often is read.
     ensures keeps { Keeps link
@@ -69,6 +78,9 @@ pub fn listen_end<W: Wires, O: Sink>(
 /// A listener that offers the profile RAW.
 fn begin(alloc: Global, settings: &Settings) -> Result<Listener, NoMemory>
     requires fit { AreFit settings.now }
+    ensures stands { IfOk result (λ listener. StandsOn listener.session []) }
+    ensures terms { IfOk result (λ listener.
+        terms_of listener.session ≡ terms_by RoleValue.Listener settings.now) }
 {
     let offers = one_offer(alloc, &settings.raw_uri)?;
     let session = Session::new(alloc, Role::Listener, offers, limits_of(settings))?;

@@ -1,8 +1,11 @@
 //! A sender over one link.
-ghost use Rattle.std.specs.Prelude.{◌≡◌, ◌≢◌, ◌≤◌, ◌+◌, ◌*◌};
-ghost use Rattle.beep_link.specs.Causes.{IsCaused, IsUnused, Keeps};
+ghost use Rattle.std.specs.Prelude.{◌≡◌, ◌≢◌, ◌≤◌, ◌+◌, ◌*◌, [], IfOk};
+ghost use Rattle.beep_journal.specs.declared.role.Role.{Role as RoleValue};
+ghost use Rattle.beep_session.specs.Lawfully.{terms_of};
+ghost use Rattle.beep_link.specs.Causes.{IsCaused, IsUnused, Keeps, WhereTold};
 ghost use Rattle.beep_link.specs.declared.ended.Ended.{Ended as EndedValue};
 ghost use Rattle.beep_ends.specs.Ends.{AreFit, reads_of};
+ghost use Rattle.beep_ends.specs.Logs.{IsLawfulOn, Shows, StandsOn, terms_by};
 
 use crate::fit::{limits_of, reads_of};
 use crate::sender::Sender;
@@ -30,6 +33,12 @@ pub fn send_end<W: Wires>(
         (record { link = W.state wires.old link; quiets = (W.counts wires.old).quiets })
         (record { link = W.state wires.new link; quiets = (W.counts wires.new).quiets }) }
     ensures unwritten { result ≢ EndedValue.WriteFault }
+
+    // What the log shows, where it is told: what was written is lawful, and why the session ended.
+    ensures lawful { WhereTold (IsLawfulOn (terms_by RoleValue.Initiator settings.now))
+        (W.state wires.new link).log }
+    ensures told { WhereTold (Shows (terms_by RoleValue.Initiator settings.now) result)
+        (W.state wires.new link).log }
 
     // What stays, and how often is read.
     ensures keeps { Keeps link
@@ -69,6 +78,9 @@ fn begin<'l>(
     lines: &'l Entries,
 ) -> Result<Sender<'l>, NoMemory>
     requires fit { AreFit settings.now }
+    ensures stands { IfOk result (λ sender. StandsOn sender.session []) }
+    ensures terms { IfOk result (λ sender.
+        terms_of sender.session ≡ terms_by RoleValue.Initiator settings.now) }
 {
     let offers = Offers::new(alloc);
     let session = Session::new(alloc, Role::Initiator, offers, limits_of(settings))?;

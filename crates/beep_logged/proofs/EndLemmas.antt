@@ -205,3 +205,9 @@ sound-puts terms (octet ∷ octets) log s = sound-before terms octet log (sound-
 
 pub sound-of : (terms : Terms) (rest : List ℕ) (journal : List Item) (log : List Moment) → IsLogged terms rest journal log → IsSound terms log
 sound-of terms rest journal log l = record { past = l.shown.past; shows = l.shown.shows; going = l.shown.going; lawful = l.lawful }
+
+-- ---- octets in pieces
+
+pub put-append : (one two : List ℕ) (log : List Moment) → put_all (one ++ two) log ≡ put_all two (put_all one log)
+put-append [] two log = refl
+put-append (octet ∷ one) two log = put-append one two (put octet ∷ log)

@@ -1,0 +1,41 @@
+-- What came is on the log, and what stops the session shows on it.
+use Rattle.std.proofs.Common.{refl, subst}
+use Rattle.beep_session.specs.declared.event.Event.{Event}
+use Rattle.beep_session.specs.Lawfully.{terms_of}
+use Rattle.beep_ends.proofs.OnLemmas.{Heard, hears-on}
+use Rattle.beep_ends.proofs.hearing.hear_next.Goals as goal
+
+pub returns-in-More-clause-heard : goal.returns-in-More-clause-heard
+returns-in-More-clause-heard c log s =
+    let old = c.args.session.now in
+    let f = c.feed-count in
+    subst (λ (e : Event). Heard e (terms_of old) f.new.self f.result.0 c.args.bytes.now log) c.in-More.is
+    (hears-on f.result.0 c.args.bytes.now old f.new.self log f.result.1 old.peer.released refl f.ensures.same f.ensures.kept.0 f.ensures.answers f.ensures.lawful f.ensures.released s)
+
+pub returns-in-Arrived-clause-heard : goal.returns-in-Arrived-clause-heard
+returns-in-Arrived-clause-heard c log s =
+    let old = c.args.session.now in
+    let f = c.feed-count in
+    subst (λ (e : Event). Heard e (terms_of old) f.new.self f.result.0 c.args.bytes.now log) c.in-Arrived.is
+    (hears-on f.result.0 c.args.bytes.now old f.new.self log f.result.1 old.peer.released refl f.ensures.same f.ensures.kept.0 f.ensures.answers f.ensures.lawful f.ensures.released s)
+
+pub returns-in-Zero-clause-heard : goal.returns-in-Zero-clause-heard
+returns-in-Zero-clause-heard c log s =
+    let old = c.args.session.now in
+    let f = c.feed-count in
+    subst (λ (e : Event). Heard e (terms_of old) f.new.self f.result.0 c.args.bytes.now log) c.in-Zero.is
+    (hears-on f.result.0 c.args.bytes.now old f.new.self log f.result.1 old.peer.released refl f.ensures.same f.ensures.kept.0 f.ensures.answers f.ensures.lawful f.ensures.released s)
+
+pub returns-in-Released-clause-stopped : goal.returns-in-Released-clause-stopped
+returns-in-Released-clause-stopped c log s =
+    let old = c.args.session.now in
+    let f = c.feed-count in
+    subst (λ (e : Event). Heard e (terms_of old) f.new.self f.result.0 c.args.bytes.now log) c.in-Released.is
+    (hears-on f.result.0 c.args.bytes.now old f.new.self log f.result.1 old.peer.released refl f.ensures.same f.ensures.kept.0 f.ensures.answers f.ensures.lawful f.ensures.released s)
+
+pub returns-in-Broken-clause-stopped : goal.returns-in-Broken-clause-stopped
+returns-in-Broken-clause-stopped c log s =
+    let old = c.args.session.now in
+    let f = c.feed-count in
+    subst (λ (e : Event). Heard e (terms_of old) f.new.self f.result.0 c.args.bytes.now log) c.in-Broken.is
+    (hears-on f.result.0 c.args.bytes.now old f.new.self log f.result.1 old.peer.released refl f.ensures.same f.ensures.kept.0 f.ensures.answers f.ensures.lawful f.ensures.released s)

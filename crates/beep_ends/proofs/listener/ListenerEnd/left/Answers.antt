@@ -1,0 +1,7 @@
+-- The octets that came of a frame are those that the log shows.
+use Rattle.beep_ends.specs.Logs.{moments}
+use Rattle.beep_ends.proofs.OnLemmas.{shows-cut}
+use Rattle.beep_ends.proofs.listener.ListenerEnd.left.Goals as goal
+
+pub returns : goal.returns
+returns c = record { cut = λ log s. shows-cut c.args.self.now.session (moments log) s c.left.result c.left.ensures.stands }

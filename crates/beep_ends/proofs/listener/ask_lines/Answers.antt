@@ -1,0 +1,34 @@
+-- A request that is given or refused leaves what the session stands for.
+use Rattle.std.proofs.Common.{◌≡◌, sym, subst, rules}
+use Rattle.beep_frame.specs.declared.kind.Kind.{Kind}
+use Rattle.beep_session.specs.Session.{Held}
+use Rattle.beep_ends.specs.Logs.{StaysOn}
+use Rattle.beep_ends.proofs.CallLemmas.{same-stays, given-stays}
+use Rattle.beep_ends.proofs.listener.ask_lines.Goals as goal
+
+pub returns-in-Ok : goal.returns-in-Ok
+returns-in-Ok c =
+    let old = c.args.session.now in
+    let h : StaysOn old c.ask.new.self.session.now =
+    same-stays old c.in-Some.channel.session.now c.ask.new.self.session.now c.in-Some.ensures.same.0
+    (given-stays c.ask.result c.in-Some.channel.session.now c.ask.new.self.session.now c.ask.ensures.upright c.in-Some.channel.at Kind.Msg _ c.ask.ensures.ok c.ask.ensures.err) in
+    let f : (x : Held) → x ≡ c.ask.new.self.session.now → StaysOn old x = λ x e. subst (StaysOn old) (sym e) h in
+    record { stays = f _ (search rules) }
+
+pub returns-in-Err-NoMemory : goal.returns-in-Err-NoMemory
+returns-in-Err-NoMemory c =
+    let old = c.args.session.now in
+    let h : StaysOn old c.ask.new.self.session.now =
+    same-stays old c.in-Some.channel.session.now c.ask.new.self.session.now c.in-Some.ensures.same.0
+    (given-stays c.ask.result c.in-Some.channel.session.now c.ask.new.self.session.now c.ask.ensures.upright c.in-Some.channel.at Kind.Msg _ c.ask.ensures.ok c.ask.ensures.err) in
+    let f : (x : Held) → x ≡ c.ask.new.self.session.now → StaysOn old x = λ x e. subst (StaysOn old) (sym e) h in
+    record { stays = f _ (search rules) }
+
+pub returns-in-Err-Closing : goal.returns-in-Err-Closing
+returns-in-Err-Closing c =
+    let old = c.args.session.now in
+    let h : StaysOn old c.ask.new.self.session.now =
+    same-stays old c.in-Some.channel.session.now c.ask.new.self.session.now c.in-Some.ensures.same.0
+    (given-stays c.ask.result c.in-Some.channel.session.now c.ask.new.self.session.now c.ask.ensures.upright c.in-Some.channel.at Kind.Msg _ c.ask.ensures.ok c.ask.ensures.err) in
+    let f : (x : Held) → x ≡ c.ask.new.self.session.now → StaysOn old x = λ x e. subst (StaysOn old) (sym e) h in
+    record { stays = f _ (search rules) }

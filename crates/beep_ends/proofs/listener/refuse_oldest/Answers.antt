@@ -1,0 +1,44 @@
+-- A refusal that is given, or finds no room, leaves what the session stands for.
+use Rattle.std.proofs.Common.{◌≡◌, ◌∙◌, sym, ap, subst, rules}
+use Rattle.std.specs.Prelude.{[]}
+use Rattle.beep_frame.specs.declared.kind.Kind.{Kind}
+use Rattle.beep_session.specs.declared.handles.Duty.{Duty}
+use Rattle.beep_session.specs.Lending.{duty_session}
+use Rattle.beep_session.specs.Session.{Held}
+use Rattle.beep_ends.specs.Logs.{StaysOn}
+use Rattle.beep_ends.proofs.CallLemmas.{same-stays, still-stays, gone-stays}
+use Rattle.beep_ends.proofs.listener.refuse_oldest.Goals as goal
+
+pub returns-in-Ok : goal.returns-in-Ok
+returns-in-Ok c =
+    let old = c.args.session.now in
+    let h : StaysOn old c.refuse.follows.lender-at-none =
+    gone-stays c.refuse.result c.in-Ok.field-0 c.in-Some-Fresh.owed.at Kind.Err c.args.refusal.now old c.in-Some-Fresh.owed.session.now c.refuse.follows.lender-at-none c.in-Ok.is (ap (λ (d : Duty). (duty_session d).now) (sym c.in-Some-Fresh.field-0-is) ∙ c.in-Some-Fresh.ensures.same.0) c.refuse.follows.holds-at-none in
+    let f : (x : Held) → x ≡ c.refuse.follows.lender-at-none → StaysOn old x = λ x e. subst (StaysOn old) (sym e) h in
+    record { stays = f _ (search rules) }
+
+pub returns-in-Err : goal.returns-in-Err
+returns-in-Err c =
+    let old = c.args.session.now in
+    let h : StaysOn old c.in-Err._owed.session.now =
+    same-stays old c.in-Some-Fresh.owed.session.now c.in-Err._owed.session.now (ap (λ (d : Duty). (duty_session d).now) (sym c.in-Some-Fresh.field-0-is) ∙ c.in-Some-Fresh.ensures.same.0)
+    (still-stays c.in-Some-Fresh.owed.session.now c.in-Err._owed.session.now c.in-Err.ensures.same.0 c.in-Err.ensures.upright) in
+    let f : (x : Held) → x ≡ c.in-Err._owed.session.now → StaysOn old x = λ x e. subst (StaysOn old) (sym e) h in
+    record { stays = f _ (search rules) }
+
+pub returns-in-Ok-done : goal.returns-in-Ok-done
+returns-in-Ok-done c =
+    let old = c.args.session.now in
+    let h : StaysOn old c.done.follows.lender-at-none =
+    gone-stays c.done.result c.in-Ok-done.field-0 c.in-Some-Begun.answering.at Kind.Nul [] old c.in-Some-Begun.answering.session.now c.done.follows.lender-at-none c.in-Ok-done.is (ap (λ (d : Duty). (duty_session d).now) (sym c.in-Some-Begun.field-0-is) ∙ c.in-Some-Begun.ensures.same.0) c.done.follows.holds-at-none in
+    let f : (x : Held) → x ≡ c.done.follows.lender-at-none → StaysOn old x = λ x e. subst (StaysOn old) (sym e) h in
+    record { stays = f _ (search rules) }
+
+pub returns-in-Err-done : goal.returns-in-Err-done
+returns-in-Err-done c =
+    let old = c.args.session.now in
+    let h : StaysOn old c.in-Err-done._answering.session.now =
+    same-stays old c.in-Some-Begun.answering.session.now c.in-Err-done._answering.session.now (ap (λ (d : Duty). (duty_session d).now) (sym c.in-Some-Begun.field-0-is) ∙ c.in-Some-Begun.ensures.same.0)
+    (still-stays c.in-Some-Begun.answering.session.now c.in-Err-done._answering.session.now c.in-Err-done.ensures.same.0 c.in-Err-done.ensures.upright) in
+    let f : (x : Held) → x ≡ c.in-Err-done._answering.session.now → StaysOn old x = λ x e. subst (StaysOn old) (sym e) h in
+    record { stays = f _ (search rules) }
