@@ -1,19 +1,18 @@
 -- The reports of `send` and `listen`, with their last lines.
-use Rattle.std.proofs.Common.{◌≡◌, ◌≢◌, ℕ, ◌+◌, ◌≤◌, List, [], ◌++◌, inl, inr, refl, ap, sym, ◌∙◌, subst, arith}
-use Rattle.std.specs.Io.KnownBytes.{Appends, Consumes}
+use Rattle.std.proofs.Common.{◌≡◌, ◌≢◌, ℕ, ◌≤◌, List, [], inl, inr, refl, sym, subst, arith}
+use Rattle.std.specs.Io.KnownBytes.{Consumes}
 use Rattle.std.proofs.KnownBytes.{Appends-nil, Consumes-nil}
 use Rattle.beep_wires.specs.Counts.{Rose}
 use Rattle.beep_wires.specs.States.{SourceState, SinkState}
 use Rattle.beep_link.specs.declared.ended.Ended.{Ended}
 use Rattle.beep_link.specs.Causes.{IsWritten, Seen}
 use Rattle.beep_settings.specs.declared.settings.Settings.{Settings}
-use Rattle.beep_input.specs.Whole.{HasEnded}
 use Rattle.beep_input.specs.Lines.{IsUnlisted}
 use Rattle.beep_input.specs.declared.lines.Unlisted.{Unlisted}
 use Rattle.beep_cmd.specs.Serving.{unlisted_line, unlisted_status}
 use Rattle.beep_cmd.specs.Texts.{bad_line, read_fault_line}
-use Rattle.beep_cmd.specs.Show.{Run, Saw, run_of}
-use Rattle.beep_cmd.specs.Ends.{ended_status, ended_line, ListenCause, SendCause, IsSendReport, BeginsSendReport, bad_input, unread_input, Sent, send_told, send_begun, send_starved, Listened, listen_told, listen_unwritten, listen_starved, Tells, whole_line, line_begun}
+use Rattle.beep_cmd.specs.Show.{Run, run_of}
+use Rattle.beep_cmd.specs.Ends.{ended_status, ended_line, ListenCause, IsSendReport, bad_input, unread_input, Sent, send_told, send_begun, send_starved, Listened, listen_told, listen_unwritten, listen_starved, Tells, whole_line, line_begun}
 
 -- ---- `send`
 

@@ -1,16 +1,18 @@
 -- What ended a session shows in its link, and still shows after further ones.
-use Rattle.std.proofs.Common.{◌≡◌, ℕ, ◌+◌, ◌<◌, ◌≤◌, ◌⊎◌, true, false, Option, Some, None, List, [], ◌∷◌, ◌++◌, length, inl, inr, refl, ap, sym, ◌∙◌, subst, arith, append_assoc, length-append}
+use Rattle.std.proofs.Common.{◌≡◌, ℕ, ◌+◌, ◌<◌, ◌≤◌, Bool, true, false, nat_le, Option, Some, None, List, [], ◌∷◌, ◌++◌, inl, inr, refl, ap, sym, ◌∙◌, subst, arith, append_assoc, length-append}
 use Rattle.std.specs.List.{AllByRecursion}
+use Rattle.std.proofs.lemmas.Bool.Decides.{nat_tests}
 use Rattle.std.specs.declared.result.Result.{Result}
 use Rattle.std.specs.declared.result.Result.TheVariants.{Ok, Err}
-use Rattle.beep_wires.specs.declared.count.TheConstants.{COUNT_MAX}
 use Rattle.beep_wires.specs.declared.links.WireError.{WireError}
 use Rattle.beep_wires.specs.Counts.{Rose}
-use Rattle.beep_wires.specs.Links.{Link, Ask, Asked, IsFresh, SameBeside, Asks, asked_by}
+use Rattle.beep_wires.specs.Links.{Link, Ask, Asked, IsFresh, Asks, asked_by}
 use Rattle.beep_link.specs.declared.ended.Ended.{Ended}
-use Rattle.beep_link.specs.Causes.{HasRead, IsCaused, IsQuiet, IsUnused, Seen}
+use Rattle.beep_link.specs.Causes.{HasRead, IsCaused, IsQuiet, IsUnused, Seen, WhereTold}
+use Rattle.beep_journal.specs.declared.role.Role.{Role}
+use Rattle.beep_ends.specs.Logs.{Shows, terms_by}
 use Rattle.beep_settings.specs.declared.settings.Settings.{Settings}
-use Rattle.beep_cmd.specs.Ends.{HasRisen, OneOf, SessionCause, AsksOnly}
+use Rattle.beep_cmd.specs.Ends.{HasRisen, OneOf, EachOf, ShowsIn, SessionCause, AsksOnly}
 use Rattle.beep_cmd.specs.Serving.{ends_run, first_of, GoesOn}
 
 -- ---- a link that was given
@@ -24,22 +26,36 @@ risen a b c k = elim [ inl w ↦ inl (omega (arith, k, w)) | inr w ↦ inr (omeg
 faulted : (a b : ℕ) → a ≡ 0 → Rose a b → 0 < b
 faulted a b e = elim [ inl w ↦ omega (arith, e, w) | inr w ↦ omega (arith, w) ]
 
-module _ (settings : Settings) (before after : Seen) (link : ℕ) (least : before.counts.given ≤ link) (less : link < after.counts.given) (fresh last : Link) (is_fresh : IsFresh fresh) (shut : after.state link ≡ record last { is_open = false }) (quiets : ℕ) (kept : before.counts.quiets ≤ quiets) where
+-- where no link was given nothing is said of any
+pub each_none : (P : Link → Type 0) (before after : Seen) → after.counts.given ≡ before.counts.given → EachOf before after P
+each_none P before after e link least less = absurd (omega (arith, e, least, less))
+
+-- one link was given
+pub each_one : (P : Link → Type 0) (before after : Seen) (link : ℕ) → link ≡ before.counts.given → after.counts.given ≡ before.counts.given + 1 → P (after.state link) → EachOf before after P
+each_one P before after link is one p other least less =
+    let same : other ≡ link = omega (arith, is, one, least, less) in
+    subst (λ (n : ℕ). P (after.state n)) (sym same) p
+
+module _ (role : Role) (settings : Settings) (before after : Seen) (link : ℕ) (is : link ≡ before.counts.given) (one : after.counts.given ≡ before.counts.given + 1) (fresh last : Link) (is_fresh : IsFresh fresh) (shut : after.state link ≡ record last { is_open = false }) (quiets : ℕ) (kept : before.counts.quiets ≤ quiets) where
   -- what holds of the link at its session's end holds of it when it is shut
   of_it : (P : Link → Type 0) → P (record last { is_open = false }) → OneOf before after P
-  of_it P p = (link, least, less, subst P (sym shut) p)
+  of_it P p = (link, omega (arith, is), omega (arith, is, one), subst P (sym shut) p)
 
-  pub session_cause : (cause : Ended) → IsCaused cause (record { octets = settings.octets; idle = settings.idle }) (record { link = fresh; quiets = quiets }) (record { link = last; quiets = after.counts.quiets }) → SessionCause cause settings before after
-  session_cause Ended.Released c = tt
-  session_cause (Ended.Broken rule place) c = tt
-  session_cause Ended.WriteFault c = tt
-  session_cause Ended.WireFault c = of_it (λ l. 0 < l.faults) (faulted fresh.faults last.faults is_fresh.no_faults c)
-  session_cause Ended.NoMemory c = tt
-  session_cause (Ended.Refused code) c = tt
-  session_cause (Ended.Cut left) c = of_it (λ l. l.has_ended ≡ true) c
-  session_cause (Ended.Idle reads) c =
-      (c.0, (λ some. risen before.counts.quiets quiets after.counts.quiets kept (c.2 some)), of_it (λ l. IsQuiet settings.idle l.log) c.1)
-  session_cause (Ended.Spent octets) c = (c.0, of_it (λ l. HasRead settings.octets l.log) c.1)
+  pub each_of_it : (P : Link → Type 0) → P (record last { is_open = false }) → EachOf before after P
+  each_of_it P p = each_one P before after link is one (subst P (sym shut) p)
+
+  pub session_cause : (cause : Ended) → IsCaused cause (record { octets = settings.octets; idle = settings.idle }) (record { link = fresh; quiets = quiets }) (record { link = last; quiets = after.counts.quiets })
+      → WhereTold (Shows (terms_by role settings) cause) last.log → SessionCause cause role settings before after
+  session_cause Ended.Released c s = each_of_it (ShowsIn role settings Ended.Released) s
+  session_cause (Ended.Broken rule place) c s = of_it (ShowsIn role settings (Ended.Broken rule place)) s
+  session_cause Ended.WriteFault c s = tt
+  session_cause Ended.WireFault c s = of_it (λ l. (0 < l.faults) × ShowsIn role settings Ended.WireFault l) (faulted fresh.faults last.faults is_fresh.no_faults c, s)
+  session_cause Ended.NoMemory c s = tt
+  session_cause (Ended.Refused code) c s = of_it (ShowsIn role settings (Ended.Refused code)) s
+  session_cause (Ended.Cut left) c s = of_it (λ l. (l.has_ended ≡ true) × ShowsIn role settings (Ended.Cut left) l) (c, s)
+  session_cause (Ended.Idle reads) c s =
+      (c.0, (λ some. risen before.counts.quiets quiets after.counts.quiets kept (c.2 some)), of_it (λ l. IsQuiet settings.idle l.log × ShowsIn role settings (Ended.Idle reads) l) (c.1, s))
+  session_cause (Ended.Spent octets) c s = (c.0, of_it (λ l. HasRead settings.octets l.log × ShowsIn role settings (Ended.Spent octets) l) (c.1, s))
 
 -- ---- several sessions
 
@@ -61,28 +77,47 @@ module _ (a b c d : Seen) (f : GoesOn a b) (g : GoesOn c d) where
   risen_wider : HasRisen b.counts.quiets c.counts.quiets → HasRisen a.counts.quiets d.counts.quiets
   risen_wider = elim [ inl w ↦ inl (omega (arith, f.quiets, g.quiets, w)) | inr w ↦ inr (omega (arith, g.quiets, w)) ]
 
-  pub cause_wider : (settings : Settings) (cause : Ended) → SessionCause cause settings b c → SessionCause cause settings a d
-  cause_wider settings Ended.Released o = tt
-  cause_wider settings (Ended.Broken rule place) o = tt
-  cause_wider settings Ended.WriteFault o = tt
-  cause_wider settings Ended.WireFault o = one_wider (λ l. 0 < l.faults) o
-  cause_wider settings Ended.NoMemory o = tt
-  cause_wider settings (Ended.Refused code) o = tt
-  cause_wider settings (Ended.Cut left) o = one_wider (λ l. l.has_ended ≡ true) o
-  cause_wider settings (Ended.Idle reads) o = (o.0, (λ some. risen_wider (o.1 some)), one_wider (λ l. IsQuiet settings.idle l.log) o.2)
-  cause_wider settings (Ended.Spent octets) o = (o.0, one_wider (λ l. HasRead settings.octets l.log) o.1)
+  pub cause_wider : (role : Role) (settings : Settings) (cause : Ended) → (cause ≡ Ended.Released → ⊥) → SessionCause cause role settings b c → SessionCause cause role settings a d
+  cause_wider role settings Ended.Released n o = absurd (n refl)
+  cause_wider role settings (Ended.Broken rule place) n o = one_wider (ShowsIn role settings (Ended.Broken rule place)) o
+  cause_wider role settings Ended.WriteFault n o = tt
+  cause_wider role settings Ended.WireFault n o = one_wider (λ l. (0 < l.faults) × ShowsIn role settings Ended.WireFault l) o
+  cause_wider role settings Ended.NoMemory n o = tt
+  cause_wider role settings (Ended.Refused code) n o = one_wider (ShowsIn role settings (Ended.Refused code)) o
+  cause_wider role settings (Ended.Cut left) n o = one_wider (λ l. (l.has_ended ≡ true) × ShowsIn role settings (Ended.Cut left) l) o
+  cause_wider role settings (Ended.Idle reads) n o =
+      (o.0, (λ some. risen_wider (o.1 some)), one_wider (λ l. IsQuiet settings.idle l.log × ShowsIn role settings (Ended.Idle reads) l) o.2)
+  cause_wider role settings (Ended.Spent octets) n o = (o.0, one_wider (λ l. HasRead settings.octets l.log × ShowsIn role settings (Ended.Spent octets) l) o.1)
 
--- the first of two causes that isn't a release holds as each does
-pub first_cause : (settings : Settings) (before after : Seen) (first ended : Ended) → SessionCause first settings before after → SessionCause ended settings before after → SessionCause (first_of first ended) settings before after
-first_cause settings before after Ended.Released ended p q = q
-first_cause settings before after (Ended.Broken rule place) ended p q = p
-first_cause settings before after Ended.WriteFault ended p q = p
-first_cause settings before after Ended.WireFault ended p q = p
-first_cause settings before after Ended.NoMemory ended p q = p
-first_cause settings before after (Ended.Refused code) ended p q = p
-first_cause settings before after (Ended.Cut left) ended p q = p
-first_cause settings before after (Ended.Idle reads) ended p q = p
-first_cause settings before after (Ended.Spent octets) ended p q = p
+module _ (before mid after : Seen) (f : GoesOn before mid) (g : GoesOn mid after) where
+  -- what holds of each link that was given first and of each that was given then
+  pub each_joined : (P : Link → Type 0) → EachOf before mid P → EachOf mid after P → EachOf before after P
+  each_joined P p q link least less = by (nat_le mid.counts.given link) refl
+    where
+      by : (b : Bool) → nat_le mid.counts.given link ≡ b → P (after.state link)
+      by true e = q link (grind (arith, nat_tests, e)) less
+      by false e = let sooner : link < mid.counts.given = grind (arith, nat_tests, e) in subst P (sym (g.same link sooner)) (p link least sooner)
+
+  -- the first of two causes that isn't a release holds as each does
+  pub joined_cause : (role : Role) (settings : Settings) (first ended : Ended) → SessionCause first role settings before mid → SessionCause ended role settings mid after
+      → SessionCause (first_of first ended) role settings before after
+  joined_cause role settings Ended.Released Ended.Released p q = each_joined (ShowsIn role settings Ended.Released) p q
+  joined_cause role settings Ended.Released (Ended.Broken rule place) p q = cause_wider before mid after after f (stays after) role settings (Ended.Broken rule place) (λ e. cc) q
+  joined_cause role settings Ended.Released Ended.WriteFault p q = tt
+  joined_cause role settings Ended.Released Ended.WireFault p q = cause_wider before mid after after f (stays after) role settings Ended.WireFault (λ e. cc) q
+  joined_cause role settings Ended.Released Ended.NoMemory p q = tt
+  joined_cause role settings Ended.Released (Ended.Refused code) p q = cause_wider before mid after after f (stays after) role settings (Ended.Refused code) (λ e. cc) q
+  joined_cause role settings Ended.Released (Ended.Cut left) p q = cause_wider before mid after after f (stays after) role settings (Ended.Cut left) (λ e. cc) q
+  joined_cause role settings Ended.Released (Ended.Idle reads) p q = cause_wider before mid after after f (stays after) role settings (Ended.Idle reads) (λ e. cc) q
+  joined_cause role settings Ended.Released (Ended.Spent octets) p q = cause_wider before mid after after f (stays after) role settings (Ended.Spent octets) (λ e. cc) q
+  joined_cause role settings (Ended.Broken rule place) ended p q = cause_wider before before mid after (stays before) g role settings (Ended.Broken rule place) (λ e. cc) p
+  joined_cause role settings Ended.WriteFault ended p q = tt
+  joined_cause role settings Ended.WireFault ended p q = cause_wider before before mid after (stays before) g role settings Ended.WireFault (λ e. cc) p
+  joined_cause role settings Ended.NoMemory ended p q = tt
+  joined_cause role settings (Ended.Refused code) ended p q = cause_wider before before mid after (stays before) g role settings (Ended.Refused code) (λ e. cc) p
+  joined_cause role settings (Ended.Cut left) ended p q = cause_wider before before mid after (stays before) g role settings (Ended.Cut left) (λ e. cc) p
+  joined_cause role settings (Ended.Idle reads) ended p q = cause_wider before before mid after (stays before) g role settings (Ended.Idle reads) (λ e. cc) p
+  joined_cause role settings (Ended.Spent octets) ended p q = cause_wider before before mid after (stays before) g role settings (Ended.Spent octets) (λ e. cc) p
 
 -- ---- what was asked for
 

@@ -1,6 +1,6 @@
 -- What `send` and `listen` end with, status by status (RFC 3195, section 3).
 -- Each cause is read off the links after the run; the code hands on what ended a session.
-use Rattle.std.specs.Prelude.{◌≡◌, ◌≢◌, ℕ, ◌+◌, ◌<◌, ◌≤◌, ◌⊎◌, true, Option, Some, None, List, [], ◌∷◌, ◌++◌, length, chars, codes}
+use Rattle.std.specs.Prelude.{◌≡◌, ◌≢◌, ℕ, ◌+◌, ◌<◌, ◌≤◌, ◌⊎◌, true, Option, Some, None, List, [], ◌++◌, length, chars}
 use Rattle.std.specs.List.{AllByRecursion}
 use Rattle.std.specs.Borrow.{GName}
 use Rattle.beep_wires.specs.declared.count.TheConstants.{COUNT_MAX}
@@ -10,7 +10,9 @@ use Rattle.beep_wires.specs.Transfer.{AppendsPrefix}
 use Rattle.std.specs.Io.KnownBytes.{Appends}
 use Rattle.beep_wires.specs.Links.{Link, Counts, Ask, accept, dial, Asked}
 use Rattle.beep_link.specs.declared.ended.Ended.{Ended}
-use Rattle.beep_link.specs.Causes.{HasRead, IsQuiet, Seen}
+use Rattle.beep_link.specs.Causes.{HasRead, IsQuiet, Seen, WhereTold}
+use Rattle.beep_journal.specs.declared.role.Role.{Role}
+use Rattle.beep_ends.specs.Logs.{IsLawfulOn, Shows, terms_by}
 use Rattle.beep_settings.specs.declared.settings.Settings.{Settings}
 use Rattle.beep_input.specs.Whole.{HasEnded}
 use Rattle.beep_input.specs.Lines.{AreLines, IsBad}
@@ -59,40 +61,62 @@ abbrev pub OneOf : Seen → Seen → (Link → Type 0) → Type 0
 OneOf before after P = (link : ℕ) × (before.counts.given ≤ link) × (link < after.counts.given)
     × P (after.state link)
 
--- what ended one of the sessions of a run shows in its link
-abbrev pub SessionCause : Ended → Settings → Seen → Seen → Type 0
-SessionCause Ended.Released settings before after = Unit {0}
-SessionCause (Ended.Broken rule place) settings before after = Unit {0}
-SessionCause Ended.WriteFault settings before after = Unit {0}
-SessionCause Ended.WireFault settings before after = OneOf before after (λ link. 0 < link.faults)
-SessionCause Ended.NoMemory settings before after = Unit {0}
-SessionCause (Ended.Refused code) settings before after = Unit {0}
-SessionCause (Ended.Cut left) settings before after =
-    OneOf before after (λ link. link.has_ended ≡ true)
-SessionCause (Ended.Idle reads) settings before after = (reads ≡ settings.idle)
+-- this holds of each of them
+abbrev pub EachOf : Seen → Seen → (Link → Type 0) → Type 0
+EachOf before after P = (link : ℕ) → before.counts.given ≤ link → link < after.counts.given
+    → P (after.state link)
+
+-- the log of a link, where it is told, shows that the session of an end of this role ended so
+abbrev pub ShowsIn : Role → Settings → Ended → Link → Type 0
+ShowsIn role settings cause link = WhereTold (Shows (terms_by role settings) cause) link.log
+
+-- what was written on each link that was given in the run is lawful, where its log is told
+abbrev pub WritesLawfully : Role → Settings → Seen → Seen → Type 0
+WritesLawfully role settings before after =
+    EachOf before after (λ link. WhereTold (IsLawfulOn (terms_by role settings)) link.log)
+
+-- what ended one of the sessions of a run shows in its link; where they were released, in each
+abbrev pub SessionCause : Ended → Role → Settings → Seen → Seen → Type 0
+SessionCause Ended.Released role settings before after =
+    EachOf before after (ShowsIn role settings Ended.Released)
+SessionCause (Ended.Broken rule place) role settings before after =
+    OneOf before after (ShowsIn role settings (Ended.Broken rule place))
+SessionCause Ended.WriteFault role settings before after = Unit {0}
+SessionCause Ended.WireFault role settings before after =
+    OneOf before after (λ link. (0 < link.faults) × ShowsIn role settings Ended.WireFault link)
+SessionCause Ended.NoMemory role settings before after = Unit {0}
+SessionCause (Ended.Refused code) role settings before after =
+    OneOf before after (ShowsIn role settings (Ended.Refused code))
+SessionCause (Ended.Cut left) role settings before after = OneOf before after
+    (λ link. (link.has_ended ≡ true) × ShowsIn role settings (Ended.Cut left) link)
+SessionCause (Ended.Idle reads) role settings before after = (reads ≡ settings.idle)
     × (0 < settings.idle → HasRisen before.counts.quiets after.counts.quiets)
-    × OneOf before after (λ link. IsQuiet settings.idle link.log)
-SessionCause (Ended.Spent octets) settings before after = (octets ≡ settings.octets)
-    × OneOf before after (λ link. HasRead settings.octets link.log)
+    × OneOf before after (λ link. IsQuiet settings.idle link.log
+    × ShowsIn role settings (Ended.Idle reads) link)
+SessionCause (Ended.Spent octets) role settings before after = (octets ≡ settings.octets)
+    × OneOf before after (λ link. HasRead settings.octets link.log
+    × ShowsIn role settings (Ended.Spent octets) link)
 
 -- what ended a run of so many sessions: no link was given, for this reason, or a session ended so
-pub data RunCause (asked : Type 0) (sessions : ℕ) (cause : Ended) (settings : Settings)
-    (before after : Seen) : Type 0 where
-  asking : cause ≡ Ended.WireFault → asked → RunCause asked sessions cause settings before after
-  session : SessionCause cause settings before after
+pub data RunCause (asked : Type 0) (sessions : ℕ) (cause : Ended) (role : Role)
+    (settings : Settings) (before after : Seen) : Type 0 where
+  asking : cause ≡ Ended.WireFault → asked
+      → RunCause asked sessions cause role settings before after
+  session : SessionCause cause role settings before after
       → (cause ≡ Ended.Released → after.counts.given ≡ before.counts.given + sessions)
-      → RunCause asked sessions cause settings before after
+      → RunCause asked sessions cause role settings before after
 
 -- the run dialled once, or a dial failed
 abbrev pub SendCause : Ended → Settings → Seen → Seen → Type 0
 SendCause cause settings before after =
-    RunCause (Rose before.counts.dials after.counts.dials) 1 cause settings before after
+    RunCause (Rose before.counts.dials after.counts.dials) 1 cause Role.Initiator settings before
+    after
 
 -- as many links were accepted as the settings say, or an accept failed
 abbrev pub ListenCause : Ended → Settings → Seen → Seen → Type 0
 ListenCause cause settings before after =
-    RunCause (Rose before.counts.accepts after.counts.accepts) settings.sessions cause settings
-    before after
+    RunCause (Rose before.counts.accepts after.counts.accepts) settings.sessions cause Role.Listener
+    settings before after
 
 -- where the accepts and dials are known, there were no more than so many, and of each this holds
 abbrev pub AsksOnly : (Ask → Type 0) → ℕ → Option (List Asked) → Option (List Asked) → Type 0

@@ -6,6 +6,7 @@ use Rattle.beep_link.specs.declared.ended.Ended.{Ended}
 use Rattle.beep_link.specs.Causes.{Seen}
 use Rattle.beep_settings.specs.declared.settings.Settings.{Settings}
 use Rattle.beep_input.specs.declared.lines.Unlisted.{Unlisted}
+use Rattle.beep_journal.specs.declared.role.Role.{Role}
 use Rattle.beep_cmd.specs.Texts.{bad_line, read_fault_line}
 use Rattle.beep_cmd.specs.Ends.{AsksOnly, IsAcceptOf, SessionCause}
 
@@ -55,7 +56,7 @@ pub record GoesOn (before after : Seen) : Type 0 where
 pub record Served (cause : Ended) (settings : Settings) (before after : Seen) : Type 0 where
   pub goes_on : GoesOn before after
   pub one : after.counts.given ≡ before.counts.given + 1
-  pub cause_is : SessionCause cause settings before after
+  pub cause_is : SessionCause cause Role.Listener settings before after
   pub asks : AsksOnly (IsAcceptOf settings) 1 before.asked after.asked
 
 -- no link was given

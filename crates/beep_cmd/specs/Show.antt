@@ -1,8 +1,8 @@
 -- What `show` says of the octets that it read, status by status (RFC 3080, section 2.2.1).
 -- Each report is over all octets that were read; the code knows one read at a time.
-use Rattle.std.specs.Prelude.{◌≡◌, ℕ, ◌<◌, ◌≤◌, true, false, List, [], ◌∷◌, ◌++◌, length}
+use Rattle.std.specs.Prelude.{◌≡◌, ℕ, ◌<◌, ◌≤◌, false, List, [], ◌∷◌, ◌++◌, length}
 use Rattle.std.specs.List.{AllByRecursion}
-use Rattle.std.specs.Io.KnownBytes.{Appends, Consumes, IsAtEnd}
+use Rattle.std.specs.Io.KnownBytes.{Appends, Consumes}
 use Rattle.beep_frame.specs.declared.rule.Rule.{Rule}
 use Rattle.beep_frame.specs.Frame.{Frame}
 use Rattle.beep_frame.specs.Stream.{Stream, IsWithin, BeginsWithin, BreaksBy}

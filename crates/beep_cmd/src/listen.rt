@@ -1,9 +1,10 @@
 //! The command `listen`: a collector of syslog over BEEP.
 ghost use Rattle.std.specs.Prelude.{◌≡◌, ◌≤◌, ℕ, IfOk, IfErr};
+ghost use Rattle.beep_journal.specs.declared.role.Role.{Role as RoleValue};
 ghost use Rattle.beep_ends.specs.Ends.{AreFit};
 ghost use Rattle.beep_link.specs.Causes.{IsWritten};
 ghost use Rattle.beep_wires.specs.States.{SourceState};
-ghost use Rattle.beep_cmd.specs.Ends.{AcceptsAtMost, ListenCause, Listened, seen_of};
+ghost use Rattle.beep_cmd.specs.Ends.{AcceptsAtMost, ListenCause, Listened, seen_of, WritesLawfully};
 ghost use Rattle.beep_cmd.specs.Serving.{ends_run, first_of, NotAccepted, Served};
 ghost use Rattle.beep_cmd.specs.Show.{run_of};
 
@@ -29,6 +30,11 @@ pub(crate) fn listen<O: Sink, W: Wires>(
         (seen_of (W.state wires.new) (W.counts wires.new)
         (W.asked wires.new) (W.lent wires.new))
         result (run_of source source (O.state output.old) (O.state output.new)) }
+    ensures lawful { WritesLawfully RoleValue.Listener settings.now
+        (seen_of (W.state wires.old) (W.counts wires.old)
+        (W.asked wires.old) (W.lent wires.old))
+        (seen_of (W.state wires.new) (W.counts wires.new)
+        (W.asked wires.new) (W.lent wires.new)) }
     ensures asks { AcceptsAtMost settings.now
         (seen_of (W.state wires.old) (W.counts wires.old)
         (W.asked wires.old) (W.lent wires.old))
@@ -52,6 +58,11 @@ fn listen_all<O: Sink, W: Wires>(
 ) -> Ended
     requires fit { AreFit settings.now }
     ensures caused { ListenCause result settings.now
+        (seen_of (W.state wires.old) (W.counts wires.old)
+        (W.asked wires.old) (W.lent wires.old))
+        (seen_of (W.state wires.new) (W.counts wires.new)
+        (W.asked wires.new) (W.lent wires.new)) }
+    ensures lawful { WritesLawfully RoleValue.Listener settings.now
         (seen_of (W.state wires.old) (W.counts wires.old)
         (W.asked wires.old) (W.lent wires.old))
         (seen_of (W.state wires.new) (W.counts wires.new)
@@ -97,6 +108,11 @@ fn listen_once<O: Sink, W: Wires>(
         (W.asked wires.old) (W.lent wires.old))
         (seen_of (W.state wires.new) (W.counts wires.new)
         (W.asked wires.new) (W.lent wires.new))) }
+    ensures lawful { WritesLawfully RoleValue.Listener settings.now
+        (seen_of (W.state wires.old) (W.counts wires.old)
+        (W.asked wires.old) (W.lent wires.old))
+        (seen_of (W.state wires.new) (W.counts wires.new)
+        (W.asked wires.new) (W.lent wires.new)) }
     ensures written { IfOk result (λ ended.
         IsWritten ended (O.state output.old).faults (O.state output.new).faults) }
     ensures kept { (O.state output.old).faults ≤ (O.state output.new).faults }

@@ -4,10 +4,11 @@ ghost use Rattle.beep_words.specs.CommandSet.{IsShow, IsReplay, IsSend, IsListen
 ghost use Rattle.beep_words.specs.declared.command.ShowSettings.{ShowSettings as settings_type};
 ghost use Rattle.beep_settings.specs.declared.settings.Settings.{Settings as end_settings};
 ghost use Rattle.beep_input.specs.declared.whole.TheConstants.{MAX_INPUT};
+ghost use Rattle.beep_journal.specs.declared.role.Role.{Role as RoleValue};
 ghost use Rattle.beep_wires.specs.States.{SourceState};
 ghost use Rattle.beep_cmd.specs.Show.{Shown, Refused, IsPlain, NoFault, run_of};
 ghost use Rattle.beep_cmd.specs.Replay.{Replayed, IsLawful};
-ghost use Rattle.beep_cmd.specs.Ends.{AcceptsAtMost, DialsOnce, Listened, seen_of, Sent};
+ghost use Rattle.beep_cmd.specs.Ends.{AcceptsAtMost, DialsOnce, Listened, seen_of, Sent, WritesLawfully};
 
 use crate::listen::listen;
 use crate::replay::replay;
@@ -59,6 +60,19 @@ pub fn beep_run<I: Source, O: Sink, W: Wires>(
         (W.asked wires.new) (W.lent wires.new)) result (run_of (I.state input.old)
         (I.state input.new) (O.state output.old) (O.state output.new)) }
     ensures usage { result ≡ 1 → IsNoCommand (map string_bytes words.now) }
+
+    // What is written on each link that was given is lawful, where its log is told.
+    ensures send_lawful { (settings : end_settings) → IsSend settings (map string_bytes words.now)
+        → WritesLawfully RoleValue.Initiator settings (seen_of (W.state wires.old)
+        (W.counts wires.old) (W.asked wires.old) (W.lent wires.old))
+        (seen_of (W.state wires.new) (W.counts wires.new) (W.asked wires.new)
+        (W.lent wires.new)) }
+    ensures listen_lawful { (settings : end_settings)
+        → IsListen settings (map string_bytes words.now)
+        → WritesLawfully RoleValue.Listener settings (seen_of (W.state wires.old)
+        (W.counts wires.old) (W.asked wires.old) (W.lent wires.old))
+        (seen_of (W.state wires.new) (W.counts wires.new) (W.asked wires.new)
+        (W.lent wires.new)) }
 
     // What is asked for.
     ensures dials { (settings : end_settings) → IsSend settings (map string_bytes words.now)

@@ -1,9 +1,10 @@
 //! The command `send`: the lines of an input go to a collector.
 ghost use Rattle.std.specs.Prelude.{◌≡◌, ◌+◌, ◌≤◌, ℕ, false, [], IfErr};
+ghost use Rattle.beep_journal.specs.declared.role.Role.{Role as RoleValue};
 ghost use Rattle.beep_ends.specs.Ends.{AreFit};
 ghost use Rattle.beep_input.specs.declared.whole.TheConstants.{MAX_INPUT};
 ghost use Rattle.beep_link.specs.declared.ended.Ended.{Ended as EndedValue};
-ghost use Rattle.beep_cmd.specs.Ends.{DialsOnce, seen_of, SendCause, Sent};
+ghost use Rattle.beep_cmd.specs.Ends.{DialsOnce, seen_of, SendCause, Sent, WritesLawfully};
 ghost use Rattle.beep_cmd.specs.Show.{run_of};
 
 use crate::closing::{finish, finish_unlisted};
@@ -33,6 +34,11 @@ pub(crate) fn send<I: Source, O: Sink, W: Wires>(
         (W.asked wires.new) (W.lent wires.new))
         result (run_of (I.state input.old) (I.state input.new)
         (O.state output.old) (O.state output.new)) }
+    ensures lawful { WritesLawfully RoleValue.Initiator settings.now
+        (seen_of (W.state wires.old) (W.counts wires.old)
+        (W.asked wires.old) (W.lent wires.old))
+        (seen_of (W.state wires.new) (W.counts wires.new)
+        (W.asked wires.new) (W.lent wires.new)) }
     ensures asks { DialsOnce settings.now
         (seen_of (W.state wires.old) (W.counts wires.old)
         (W.asked wires.old) (W.lent wires.old))
@@ -57,6 +63,11 @@ pub(crate) fn send<I: Source, O: Sink, W: Wires>(
 fn send_lines<W: Wires>(alloc: Global, settings: &Settings, lines: &Entries, wires: &mut W) -> Ended
     requires fit { AreFit settings.now }
     ensures caused { SendCause result settings.now
+        (seen_of (W.state wires.old) (W.counts wires.old)
+        (W.asked wires.old) (W.lent wires.old))
+        (seen_of (W.state wires.new) (W.counts wires.new)
+        (W.asked wires.new) (W.lent wires.new)) }
+    ensures lawful { WritesLawfully RoleValue.Initiator settings.now
         (seen_of (W.state wires.old) (W.counts wires.old)
         (W.asked wires.old) (W.lent wires.old))
         (seen_of (W.state wires.new) (W.counts wires.new)

@@ -36,7 +36,7 @@ module _ (session : Held) (log : List Entry) (s : StandsOn session (moments log)
 
   pub stopped-on : (octets : List ℕ) (stop : Stop) → StopsOn (terms_of session) stop (got_all octets (moments log)) → Shows (terms_of session) (ended_by stop) (read octets ∷ log)
   stopped-on octets Stop.Released h = h
-  stopped-on octets (Stop.Broken rule place) h = h
+  stopped-on octets (Stop.Broken rule place) h = (h, stops-in octets)
   stopped-on octets Stop.WriteFault h = stops-in octets
   stopped-on octets Stop.NoMemory h = inr (stops-in octets)
   stopped-on octets (Stop.Refused code) h = stops-in octets
@@ -188,7 +188,7 @@ none-shown terms = inl (sound-of terms [] [] [] (first-logged terms))
 -- whatever ended the session, what was written is lawful
 pub shows-lawful : (terms : Terms) (cause : Ended) (log : List Entry) → Shows terms cause log → IsLawfulOn terms log
 shows-lawful terms Ended.Released log h = h.sound.lawful
-shows-lawful terms (Ended.Broken rule place) log h = h.broken.lawful
+shows-lawful terms (Ended.Broken rule place) log h = h.0.broken.lawful
 shows-lawful terms Ended.WriteFault log h = stops-lawful terms log h
 shows-lawful terms Ended.WireFault log h = h.lawful
 shows-lawful terms Ended.NoMemory log (inl h) = h.lawful

@@ -63,7 +63,7 @@ pub record ShowsCut (terms : Terms) (left : ℕ) (log : List Moment) : Type 0 wh
   pub sound : IsSound terms log
   pub left_is : left ≡ modulo_2_64 (length (sound.past.rest Side.Received))
 
--- the session stopped within the latest read of the log, before which no rule was broken
+-- the latest entry of the log is a read, before which no rule was broken: nothing came after it
 abbrev pub StopsInRead : Terms → List Entry → Type 0
 StopsInRead terms [] = ⊥
 StopsInRead terms (read octets ∷ log) =
@@ -75,7 +75,8 @@ StopsInRead terms (ended ∷ log) = ⊥
 -- what the log of a link shows of a session that ended so
 abbrev pub Shows : Terms → Ended → List Entry → Type 0
 Shows terms Ended.Released log = ShowsRelease terms (moments log)
-Shows terms (Ended.Broken rule place) log = ShowsFault terms rule place (moments log)
+Shows terms (Ended.Broken rule place) log =
+    ShowsFault terms rule place (moments log) × StopsInRead terms log
 Shows terms Ended.WriteFault log = StopsInRead terms log
 Shows terms Ended.WireFault log = IsSound terms (moments log)
 Shows terms Ended.NoMemory log = IsSound terms (moments log) ⊎ StopsInRead terms log

@@ -93,7 +93,7 @@ pub lawful-frame : (terms : Terms) (journal : List Item) (head : Head) (payload 
 unfolding unlawful_frame
 lawful-frame terms journal head payload is_head is =
     let one = next-none (breaks_apart (began Side.Sent head ∷ journal) head payload) Breach.Apart _
-        (first-lawful terms (passed Side.Sent head payload) (began Side.Sent head ∷ journal) is) in
+    (first-lawful terms (passed Side.Sent head payload) (began Side.Sent head ∷ journal) is) in
     (is_head, eqb-true (length payload) head.size (both-two (same_head head head) (length payload == head.size) (not-false _ one.0)))
 
 -- ---- a log, seen from the sent side

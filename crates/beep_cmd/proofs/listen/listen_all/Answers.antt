@@ -1,9 +1,11 @@
-use Rattle.std.proofs.Common.{◌≡◌, ◌+◌, ◌≤◌, ℕ, true, false, sym, ap, ◌∙◌, subst, arith}
+use Rattle.std.proofs.Common.{◌≡◌, ◌+◌, false, sym, ap, ◌∙◌, subst, arith}
 use Rattle.beep_link.specs.declared.ended.Ended.{Ended}
-use Rattle.beep_link.specs.Causes.{Seen}
+use Rattle.beep_link.specs.Causes.{Seen, WhereTold}
+use Rattle.beep_journal.specs.declared.role.Role.{Role}
+use Rattle.beep_ends.specs.Logs.{IsLawfulOn, terms_by}
 use Rattle.beep_cmd.specs.Ends.{IsAcceptOf, SessionCause, seen_of}
-use Rattle.beep_cmd.specs.Serving.{ends_run, first_of}
-use Rattle.beep_cmd.proofs.ServingLemmas.{asks_fewer, asks_more, cause_wider, first_cause, first_goes, goes_further, stays}
+use Rattle.beep_cmd.specs.Serving.{ends_run}
+use Rattle.beep_cmd.proofs.ServingLemmas.{asks_fewer, asks_more, each_joined, joined_cause, first_goes, goes_further}
 use Rattle.beep_cmd.proofs.listen.listen_all.Goals as goal
 
 pub returns-then-ends_run-clause-asks : goal.returns-then-ends_run-clause-asks
@@ -29,8 +31,9 @@ loop-preserved g c =
     record {
       goes_on = goes_further before mid after i.goes_on s.goes_on;
       given = omega (arith, s.one, i.given);
-      cause = subst (λ (e : Ended). SessionCause e settings before after) (sym c.first_of-first.ensures)
-          (first_cause settings before after c.loop.first c.in-Ok.ended (cause_wider before before mid after (stays before) s.goes_on settings c.loop.first i.cause) (cause_wider before mid after after i.goes_on (stays after) settings c.in-Ok.ended s.cause_is));
+      cause = subst (λ (e : Ended). SessionCause e Role.Listener settings before after) (sym c.first_of-first.ensures)
+          (joined_cause before mid after i.goes_on s.goes_on Role.Listener settings c.loop.first c.in-Ok.ended i.cause s.cause_is);
+      lawful = each_joined before mid after i.goes_on s.goes_on (λ link. WhereTold (IsLawfulOn (terms_by Role.Listener settings)) link.log) i.lawful c.in-Ok.ensures.lawful;
       goes = ap ends_run c.first_of-first.ensures ∙ first_goes c.loop.first c.in-Ok.ended i.goes goes;
       asks = asks_more (IsAcceptOf settings) c.loop.counter 1 before.asked mid.asked after.asked i.asks s.asks;
       kept = omega (arith, i.kept, c.in-Ok.ensures.kept);

@@ -1,7 +1,8 @@
 -- As many links were accepted as there were turns, and what ended the first session that wasn't
 -- released shows in its link.
 use Rattle.std.proofs.Common.{◌≡◌, ◌+◌, ◌≤◌, false}
-use Rattle.beep_cmd.specs.Ends.{AsksOnly, IsAcceptOf, SessionCause, seen_of}
+use Rattle.beep_cmd.specs.Ends.{AsksOnly, IsAcceptOf, SessionCause, seen_of, WritesLawfully}
+use Rattle.beep_journal.specs.declared.role.Role.{Role}
 use Rattle.beep_cmd.specs.Serving.{ends_run, GoesOn}
 use Rattle.beep_cmd.proofs.listen.listen_all.Given as goal
 
@@ -13,7 +14,8 @@ invariant-loop g l =
     record {
       goes_on : GoesOn before now;
       given : now.counts.given ≡ before.counts.given + l.counter;
-      cause : SessionCause l.first l.settings before now;
+      cause : SessionCause l.first Role.Listener l.settings before now;
+      lawful : WritesLawfully Role.Listener l.settings before now;
       goes : ends_run l.first ≡ false;
       asks : AsksOnly (IsAcceptOf l.settings) l.counter before.asked now.asked;
       kept : (g.O.Sink.state l.fn.output).faults ≤ (g.O.Sink.state l.output).faults;

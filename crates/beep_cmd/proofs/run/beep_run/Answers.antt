@@ -1,4 +1,4 @@
-use Rattle.std.proofs.Common.{◌≡◌, ◌⊎◌, ◌+◌, ◌≤◌, ℕ, List, Some, None, map, refl, ap, sym, ◌∙◌, subst, arith}
+use Rattle.std.proofs.Common.{◌≡◌, Some, None, map, refl, ap, ◌∙◌, subst, arith}
 use Rattle.std.specs.String.{string_bytes}
 use Rattle.beep_words.specs.declared.command.ShowSettings.{ShowSettings as Settings}
 use Rattle.beep_settings.specs.declared.settings.Settings.{Settings as EndSettings}
@@ -8,14 +8,16 @@ use Rattle.beep_words.specs.Usable.{IsUsable}
 use Rattle.beep_words.proofs.UsableLemmas.{send_is_usable, listen_is_usable}
 use Rattle.beep_ends.specs.Ends.{AreFit}
 use Rattle.beep_ends.proofs.FitLemmas.{fit}
-use Rattle.beep_cmd.specs.Ends.{AcceptsAtMost, DialsOnce, IsAcceptOf, IsDialOf, Listened, listen_starved, seen_of, Sent}
-use Rattle.beep_link.specs.Causes.{Seen}
+use Rattle.beep_cmd.specs.Ends.{AcceptsAtMost, DialsOnce, IsAcceptOf, IsDialOf, Listened, listen_starved, seen_of, Sent, WritesLawfully}
+use Rattle.beep_link.specs.Causes.{Seen, WhereTold}
+use Rattle.beep_journal.specs.declared.role.Role.{Role}
+use Rattle.beep_ends.specs.Logs.{IsLawfulOn, terms_by}
 use Rattle.beep_cmd.specs.Show.{Run, run_of}
 use Rattle.beep_cmd.proofs.CommandLemmas.{listens, no_command, none_listen, none_replay, none_send, none_show, not_listen, not_replay, not_send, not_show, not_unlinked, same_listen, same_send, same_show, sends, some_command}
 use Rattle.beep_cmd.proofs.CompleteLemmas.{complete, shown_as}
 use Rattle.beep_cmd.proofs.EndsLemmas.{starved_at_once}
 use Rattle.beep_cmd.proofs.JudgeLemmas.{lawful}
-use Rattle.beep_cmd.proofs.ServingLemmas.{asks_none}
+use Rattle.beep_cmd.proofs.ServingLemmas.{asks_none, each_none}
 use Rattle.beep_cmd.proofs.StatusLemmas.{listened_not, replayed_not, sent_not, shown_not}
 use Rattle.beep_cmd.proofs.run.beep_run.Goals as goal
 
@@ -54,6 +56,8 @@ returns-in-Ok-Some-Show g c =
       sent = λ settings w. absurd (other_send settings w);
       listened = λ settings w. absurd (other_listen settings w);
       usage = λ one. absurd (shown_not a.settings c.show.result _ c.show.ensures.shown one);
+      send_lawful = λ settings w. absurd (other_send settings w);
+      listen_lawful = λ settings w. absurd (other_listen settings w);
       dials = λ settings w. absurd (other_send settings w);
       accepts = λ settings w. absurd (other_listen settings w);
       unread = λ none. absurd (some none);
@@ -84,6 +88,8 @@ returns-in-Ok-Some-Replay g c =
       sent = λ settings w. absurd (other_send settings w);
       listened = λ settings w. absurd (other_listen settings w);
       usage = λ one. absurd (replayed_not c.replay.result _ c.replay.ensures.replayed one);
+      send_lawful = λ settings w. absurd (other_send settings w);
+      listen_lawful = λ settings w. absurd (other_listen settings w);
       dials = λ settings w. absurd (other_send settings w);
       accepts = λ settings w. absurd (other_listen settings w);
       unread = λ none. absurd (some none);
@@ -116,6 +122,8 @@ returns-in-Ok-Some-Send g c =
       sent = λ settings w. subst (λ (s : EndSettings). Sent s before after c.send.result run) (same settings is w) c.send.ensures.sent;
       listened = λ settings w. absurd (other settings w);
       usage = λ one. absurd (sent_not a.settings before after c.send.result run c.send.ensures.sent one);
+      send_lawful = λ settings w. subst (λ (s : EndSettings). WritesLawfully Role.Initiator s before after) (same settings is w) c.send.ensures.lawful;
+      listen_lawful = λ settings w. absurd (other settings w);
       dials = λ settings w. subst (λ (s : EndSettings). DialsOnce s before after) (same settings is w) c.send.ensures.asks;
       accepts = λ settings w. absurd (other settings w);
       unread = λ none. absurd (of.some none);
@@ -148,6 +156,8 @@ returns-in-Ok-Some-Listen g c =
       sent = λ settings w. absurd (other settings w);
       listened = λ settings w. subst (λ (s : EndSettings). Listened s before after c.listen.result run) (same settings is w) (c.listen.ensures.listened (g.I.Source.state c.args.input.now));
       usage = λ one. absurd (listened_not a.settings before after c.listen.result run (c.listen.ensures.listened (g.I.Source.state c.args.input.now)) one);
+      send_lawful = λ settings w. absurd (other settings w);
+      listen_lawful = λ settings w. subst (λ (s : EndSettings). WritesLawfully Role.Listener s before after) (same settings is w) c.listen.ensures.lawful;
       dials = λ settings w. absurd (other settings w);
       accepts = λ settings w. subst (λ (s : EndSettings). AcceptsAtMost s before after) (same settings is w) c.listen.ensures.asks;
       unread = λ none. absurd (of.some none);
@@ -179,6 +189,8 @@ returns-in-Ok-None g c =
       sent = λ settings w. absurd (send settings w);
       listened = λ settings w. absurd (listen settings w);
       usage = λ one command w. none command w;
+      send_lawful = λ settings w. absurd (send settings w);
+      listen_lawful = λ settings w. absurd (listen settings w);
       dials = λ settings w. absurd (send settings w);
       accepts = λ settings w. absurd (listen settings w);
       unread = λ no_command. refl;
@@ -195,6 +207,7 @@ pub returns-in-Err : goal.returns-in-Err
 returns-in-Err g c =
     let words = map string_bytes c.args.words.now in
     let of : IsOfEnd words = c.in-Err.ensures.err in
+    let seen : Seen = seen_of (g.W.Wires.state c.args.wires.now) (g.W.Wires.counts c.args.wires.now) (g.W.Wires.asked c.args.wires.now) (g.W.Wires.lent c.args.wires.now) in
     record {
       shown = λ settings w. absurd (of.not_show settings w);
       replayed = λ w. absurd (of.not_replay w);
@@ -204,6 +217,8 @@ returns-in-Err g c =
       sent = λ settings w. starved_at_once settings _ _ _;
       listened = λ settings w. listen_starved refl;
       usage = λ one. absurd (omega (arith, one));
+      send_lawful = λ settings w. each_none (λ link. WhereTold (IsLawfulOn (terms_by Role.Initiator settings)) link.log) seen seen refl;
+      listen_lawful = λ settings w. each_none (λ link. WhereTold (IsLawfulOn (terms_by Role.Listener settings)) link.log) seen seen refl;
       dials = λ settings w. asks_none (IsDialOf settings) 1 (g.W.Wires.asked c.args.wires.now);
       accepts = λ settings w. asks_none (IsAcceptOf settings) settings.sessions (g.W.Wires.asked c.args.wires.now);
       unread = λ none. absurd (of.some none);
