@@ -288,7 +288,7 @@ impl End for Listener {
 
     ghost terms = { λ listener. terms_of listener.session };
 
-    ghost stands = { λ listener log octets. StandsOn listener.session (put_all octets (moments log)) };
+    ghost stands = { λ one log octets. StandsOn one.session (put_all octets (moments log)) };
 
     ghost tells = { λ terms ended log. Shows terms ended log };
 
@@ -298,7 +298,7 @@ impl End for Listener {
 
     ghost closes = { λ listener log s. closes_on listener.session log s };
 
-    ghost stops = { λ listener log octets ended is s. stops_on listener.session log octets ended is s };
+    ghost stops = { λ one log octets ended is s. stops_on one.session log octets ended is s };
 
     fn gather(&mut self, out: &mut Octets) -> Result<bool, NoMemory> {
         let is_given = self.refill()?;
