@@ -5,5 +5,5 @@ pub mod laws;
 mod lines;
 mod whole;
 
-pub use lines::{Unlisted, read_lines};
+pub use lines::{Unlisted, line_past, read_lines};
 pub use whole::{MAX_INPUT, Unread, read_input};

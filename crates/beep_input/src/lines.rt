@@ -101,7 +101,7 @@ fn without_cr(line: &[u8]) -> &[u8]
 }
 
 /// The number, from 1, of the line in which the first octet past `MAX_INPUT` stands.
-fn line_past(octets: &[u8]) -> u64
+pub fn line_past(octets: &[u8]) -> u64
     requires { MAX_INPUT ≤ length octets.now }
     ensures { result ≡ line_after (take MAX_INPUT octets.now) }
 {

@@ -10,10 +10,11 @@ use Rattle.beep_settings.specs.declared.settings.Settings.{Settings}
 use Rattle.beep_settings.specs.declared.settings.TheConstants.{HOST, RAW_URI, PORT, WINDOW, PIECE, IDLE, OCTETS, SESSIONS}
 use Rattle.beep_words.specs.declared.form.Form.{Form}
 use Rattle.beep_words.specs.declared.command.ShowSettings.{ShowSettings}
+use Rattle.beep_words.specs.declared.command.PairSettings.{PairSettings}
 use Rattle.beep_words.specs.declared.command.Command.{Command}
 use Rattle.beep_words.specs.declared.options.TheConstants.{MAX_HOST, MAX_URI, MIN_WINDOW, MAX_PORT, MAX_WINDOW, MAX_PIECE, MAX_IDLE, MAX_NUMBER, MAX_SESSIONS}
-use Rattle.beep_words.specs.CommandSet.{Value, choice, number, text, OptionRow, Chosen, words_of, form_in, IsOf, IsOfSome, IsTaken, value_in, AreWords, show_options, end_options, send_options, listen_options, IsShow, IsReplay, IsTextOf, IsEnd, IsCommand, IsOfEnd}
-use Rattle.beep_words.specs.Choosing.{are_options, show_of, settings_of, number_at, choice_at, text_at, command_in, command_at, makes_end}
+use Rattle.beep_words.specs.CommandSet.{Value, choice, number, text, OptionRow, Chosen, words_of, form_in, IsOf, IsOfSome, IsTaken, value_in, AreWords, show_options, send_options, listen_options, pair_options, IsShow, IsReplay, IsTextOf, IsEnd, IsPair, IsCommand, IsOfEnd}
+use Rattle.beep_words.specs.Choosing.{are_options, show_of, settings_of, pair_of, number_at, choice_at, command_in, command_at, makes_end}
 use Rattle.beep_words.proofs.ValueLemmas.{and_left, and_right, and_both, IsReadable, IsReadableSome}
 use Rattle.beep_words.proofs.OptionLemmas.{chosen_in, AreReadable, words_are_options, IsNumberTo, IsChoice, IsTextual, Takes, number_is, choice_is, text_is}
 
@@ -101,6 +102,38 @@ is_show settings name words s =
     let octets = number_same settings.octets (number_at (codes "--octets") OCTETS (flat_map words_of s.chosen)) _ s.octets
     (number_is show_options (codes "--octets") OCTETS MAX_NUMBER (omega arith) show_octets_taken s.chosen s.are_words.each) in
     (ap₂ (λ (a : Bool) (b : ℕ). record { elements = a; octets = b }) elements octets ∙ ap show_of (sym w), options_are (codes "show") show_options readable_show s.chosen name words s.are_words)
+
+-- ---- pair
+
+readable_pair : AreReadable pair_options
+readable_pair = readable pair_options (omega arith, (omega arith, tt))
+
+pair_window_taken : Takes pair_options (codes "--window") (IsNumberTo MAX_WINDOW)
+pair_window_taken value i = number_taken MIN_WINDOW MAX_WINDOW value i
+
+pair_piece_taken : Takes pair_options (codes "--piece") (IsNumberTo MAX_PIECE)
+pair_piece_taken value i = number_taken 1 MAX_PIECE value i
+
+pair_is : (words : List (List ℕ)) → are_options pair_options words ≡ true → IsPair (pair_of words) (codes "pair" ∷ words)
+pair_is words e =
+    let c = chosen_in pair_options words e in
+    record {
+      chosen = c.chosen;
+      are_words = record { each = c.each; distinct = c.distinct; words_are = ap (λ ws. codes "pair" ∷ ws) c.words_are };
+      window = subst (λ (ws : List (List ℕ)). number (number_at (codes "--window") WINDOW ws) ≡ value_in (codes "--window") (number WINDOW) c.chosen) (sym c.words_are)
+          (number_is pair_options (codes "--window") WINDOW MAX_WINDOW (omega arith) pair_window_taken c.chosen c.each);
+      piece = subst (λ (ws : List (List ℕ)). number (number_at (codes "--piece") PIECE ws) ≡ value_in (codes "--piece") (number PIECE) c.chosen) (sym c.words_are)
+          (number_is pair_options (codes "--piece") PIECE MAX_PIECE (omega arith) pair_piece_taken c.chosen c.each);
+    }
+
+is_pair : (settings : PairSettings) (name : List ℕ) (words : List (List ℕ)) → IsPair settings (name ∷ words) → (settings ≡ pair_of words) × ((bytes_eq name (codes "pair") && are_options pair_options words) ≡ true)
+is_pair settings name words s =
+    let w = tail_of name (codes "pair") words (flat_map words_of s.chosen) s.are_words.words_are in
+    let window = number_same settings.window (number_at (codes "--window") WINDOW (flat_map words_of s.chosen)) _ s.window
+    (number_is pair_options (codes "--window") WINDOW MAX_WINDOW (omega arith) pair_window_taken s.chosen s.are_words.each) in
+    let piece = number_same settings.piece (number_at (codes "--piece") PIECE (flat_map words_of s.chosen)) _ s.piece
+    (number_is pair_options (codes "--piece") PIECE MAX_PIECE (omega arith) pair_piece_taken s.chosen s.are_words.each) in
+    (ap₂ (λ (a : ℕ) (b : ℕ). record { window = a; piece = b }) window piece ∙ ap pair_of (sym w), options_are (codes "pair") pair_options readable_pair s.chosen name words s.are_words)
 
 -- ---- send and listen
 
@@ -228,9 +261,10 @@ named : (name command : List ℕ) (b : Bool) → (bytes_eq name command && b) �
 named name command b e = (bytes_eq-Decides name command).0 (and_left (bytes_eq name command) b e)
 
 -- what is made where these tests hold
-abbrev made : Bool → Bool → Bool → Bool → List (List ℕ) → Option Command
-made a b c d words = cond a (Some (Command.Show (show_of words))) (cond b (Some Command.Replay)
-    (cond c (Some (Command.Send (settings_of words))) (cond d (Some (Command.Listen (settings_of words))) None)))
+abbrev made : Bool → Bool → Bool → Bool → Bool → List (List ℕ) → Option Command
+made a b c d f words = cond a (Some (Command.Show (show_of words))) (cond b (Some Command.Replay)
+    (cond c (Some (Command.Send (settings_of words))) (cond d (Some (Command.Listen (settings_of words)))
+    (cond f (Some (Command.Pair (pair_of words))) None))))
 
 -- the command is the one that is made
 one_made : (a : Bool) (it command : Command) (rest : Option Command) → a ≡ true → cond a (Some it) rest ≡ Some command → it ≡ command
@@ -242,6 +276,7 @@ no_words (Command.Show settings) i = let e = i.are_words.words_are in cc
 no_words Command.Replay i = let e = i.are_words.words_are in cc
 no_words (Command.Send settings) i = let e = i.are_words.words_are in cc
 no_words (Command.Listen settings) i = let e = i.are_words.words_are in cc
+no_words (Command.Pair settings) i = let e = i.are_words.words_are in cc
 
 module _ (name : List ℕ) (words : List (List ℕ)) where
   abbrev shows : Bool
@@ -256,62 +291,77 @@ module _ (name : List ℕ) (words : List (List ℕ)) where
   abbrev listens : Bool
   listens = bytes_eq name (codes "listen") && are_options listen_options words
 
+  abbrev pairs : Bool
+  pairs = bytes_eq name (codes "pair") && are_options pair_options words
+
   replay_is : are_options [] words ≡ true → IsReplay (codes "replay" ∷ words)
   replay_is e =
       let c = chosen_in [] words e in
       record { chosen = c.chosen; are_words = record { each = c.each; distinct = c.distinct; words_are = ap (λ ws. codes "replay" ∷ ws) c.words_are } }
 
   -- a command that is made is that of the words
-  is_made : (a b c d : Bool) → shows ≡ a → replays ≡ b → sends ≡ c → listens ≡ d → (command : Command) → made a b c d words ≡ Some command → IsCommand command (name ∷ words)
-  is_made true b c d fa fb fc fd command e =
+  is_made : (a b c d f : Bool) → shows ≡ a → replays ≡ b → sends ≡ c → listens ≡ d → pairs ≡ f → (command : Command) → made a b c d f words ≡ Some command → IsCommand command (name ∷ words)
+  is_made true b c d f fa fb fc fd ff command e =
       let it : Command.Show (show_of words) ≡ command = cc in
       subst (λ (n : List ℕ). IsCommand command (n ∷ words)) (sym (named name (codes "show") (are_options show_options words) fa))
       (subst (λ (x : Command). IsCommand x (codes "show" ∷ words)) it (show_is words (and_right (bytes_eq name (codes "show")) (are_options show_options words) fa)))
-  is_made false true c d fa fb fc fd command e =
+  is_made false true c d f fa fb fc fd ff command e =
       let it : Command.Replay ≡ command = cc in
       subst (λ (n : List ℕ). IsCommand command (n ∷ words)) (sym (named name (codes "replay") (are_options [] words) fb))
       (subst (λ (x : Command). IsCommand x (codes "replay" ∷ words)) it (replay_is (and_right (bytes_eq name (codes "replay")) (are_options [] words) fb)))
-  is_made false false true d fa fb fc fd command e =
+  is_made false false true d f fa fb fc fd ff command e =
       let it : Command.Send (settings_of words) ≡ command = cc in
       subst (λ (n : List ℕ). IsCommand command (n ∷ words)) (sym (named name (codes "send") (are_options send_options words) fc))
       (subst (λ (x : Command). IsCommand x (codes "send" ∷ words)) it (end_is (codes "send") send_options takes_send words (and_right (bytes_eq name (codes "send")) (are_options send_options words) fc)))
-  is_made false false false true fa fb fc fd command e =
+  is_made false false false true f fa fb fc fd ff command e =
       let it : Command.Listen (settings_of words) ≡ command = cc in
       subst (λ (n : List ℕ). IsCommand command (n ∷ words)) (sym (named name (codes "listen") (are_options listen_options words) fd))
       (subst (λ (x : Command). IsCommand x (codes "listen" ∷ words)) it (end_is (codes "listen") listen_options takes_listen words (and_right (bytes_eq name (codes "listen")) (are_options listen_options words) fd)))
-  is_made false false false false fa fb fc fd command e = cc
+  is_made false false false false true fa fb fc fd ff command e =
+      let it : Command.Pair (pair_of words) ≡ command = cc in
+      subst (λ (n : List ℕ). IsCommand command (n ∷ words)) (sym (named name (codes "pair") (are_options pair_options words) ff))
+      (subst (λ (x : Command). IsCommand x (codes "pair" ∷ words)) it (pair_is words (and_right (bytes_eq name (codes "pair")) (are_options pair_options words) ff)))
+  is_made false false false false false fa fb fc fd ff command e = cc
 
   -- which tests hold, by the name
-  tests : (a b c d : Bool) → shows ≡ a → replays ≡ b → sends ≡ c → listens ≡ d → command_in name words ≡ made a b c d words
-  tests a b c d fa fb fc fd =
-      ap (λ (x : Bool). made x replays sends listens words) fa ∙ ap (λ (x : Bool). made a x sends listens words) fb
-      ∙ ap (λ (x : Bool). made a b x listens words) fc ∙ ap (λ (x : Bool). made a b c x words) fd
+  tests : (a b c d f : Bool) → shows ≡ a → replays ≡ b → sends ≡ c → listens ≡ d → pairs ≡ f → command_in name words ≡ made a b c d f words
+  tests a b c d f fa fb fc fd ff =
+      ap (λ (x : Bool). made x replays sends listens pairs words) fa ∙ ap (λ (x : Bool). made a x sends listens pairs words) fb
+      ∙ ap (λ (x : Bool). made a b x listens pairs words) fc ∙ ap (λ (x : Bool). made a b c x pairs words) fd
+      ∙ ap (λ (x : Bool). made a b c d x words) ff
 
   -- the command of the words is made
   made_is : (command : Command) → IsCommand command (name ∷ words) → command_in name words ≡ Some command
   made_is (Command.Show settings) i =
       let s = is_show settings name words i in
-      tests true replays sends listens s.1 refl refl refl ∙ ap (λ (x : ShowSettings). Some (Command.Show x)) (sym s.0)
+      tests true replays sends listens pairs s.1 refl refl refl refl ∙ ap (λ (x : ShowSettings). Some (Command.Show x)) (sym s.0)
   made_is Command.Replay i =
       let t = options_are (codes "replay") [] (readable [] tt) i.chosen name words i.are_words in
       let n = named name (codes "replay") (are_options [] words) t in
-      tests false true sends listens (other_name name (codes "replay") (codes "show") n refl (are_options show_options words)) t refl refl
+      tests false true sends listens pairs (other_name name (codes "replay") (codes "show") n refl (are_options show_options words)) t refl refl refl
   made_is (Command.Send settings) i =
       let s = is_end (codes "send") send_options takes_send settings name words i in
       let n = named name (codes "send") (are_options send_options words) s.1 in
-      tests false false true listens (other_name name (codes "send") (codes "show") n refl (are_options show_options words))
-      (other_name name (codes "send") (codes "replay") n refl (are_options [] words)) s.1 refl ∙ ap (λ (x : Settings). Some (Command.Send x)) (sym s.0)
+      tests false false true listens pairs (other_name name (codes "send") (codes "show") n refl (are_options show_options words))
+      (other_name name (codes "send") (codes "replay") n refl (are_options [] words)) s.1 refl refl ∙ ap (λ (x : Settings). Some (Command.Send x)) (sym s.0)
   made_is (Command.Listen settings) i =
       let s = is_end (codes "listen") listen_options takes_listen settings name words i in
       let n = named name (codes "listen") (are_options listen_options words) s.1 in
-      tests false false false true (other_name name (codes "listen") (codes "show") n refl (are_options show_options words))
+      tests false false false true pairs (other_name name (codes "listen") (codes "show") n refl (are_options show_options words))
       (other_name name (codes "listen") (codes "replay") n refl (are_options [] words))
-      (other_name name (codes "listen") (codes "send") n refl (are_options send_options words)) s.1 ∙ ap (λ (x : Settings). Some (Command.Listen x)) (sym s.0)
+      (other_name name (codes "listen") (codes "send") n refl (are_options send_options words)) s.1 refl ∙ ap (λ (x : Settings). Some (Command.Listen x)) (sym s.0)
+  made_is (Command.Pair settings) i =
+      let s = is_pair settings name words i in
+      let n = named name (codes "pair") (are_options pair_options words) s.1 in
+      tests false false false false true (other_name name (codes "pair") (codes "show") n refl (are_options show_options words))
+      (other_name name (codes "pair") (codes "replay") n refl (are_options [] words))
+      (other_name name (codes "pair") (codes "send") n refl (are_options send_options words))
+      (other_name name (codes "pair") (codes "listen") n refl (are_options listen_options words)) s.1 ∙ ap (λ (x : PairSettings). Some (Command.Pair x)) (sym s.0)
 
 command_is : (words : List (List ℕ)) (command : Command) → (command_at words ≡ Some command) ↔ IsCommand command words
 command_is [] command = (λ e. cc, λ i. absurd (no_words command i))
 command_is (name ∷ words) command =
-    (λ e. is_made name words (shows name words) (replays name words) (sends name words) (listens name words) refl refl refl refl command e, λ i. made_is name words command i)
+    (λ e. is_made name words (shows name words) (replays name words) (sends name words) (listens name words) (pairs name words) refl refl refl refl refl command e, λ i. made_is name words command i)
 
 -- the same of what was found by going over the words
 pub is_command : {E : Type 0} (words : List (List ℕ)) (r : Result (Option Command) E) → IfOk r (λ one. one ≡ command_at words)
@@ -327,12 +377,15 @@ end_words words (Some (Command.Send settings)) e m = record {
   some = λ none. none (Command.Send settings) ((command_is words (Command.Send settings)).0 e);
   not_show = λ other w. let two : Some (Command.Send settings) ≡ Some (Command.Show other) = sym e ∙ (command_is words (Command.Show other)).1 w in cc;
   not_replay = λ w. let two : Some (Command.Send settings) ≡ Some Command.Replay = sym e ∙ (command_is words Command.Replay).1 w in cc;
+  not_pair = λ other w. let two : Some (Command.Send settings) ≡ Some (Command.Pair other) = sym e ∙ (command_is words (Command.Pair other)).1 w in cc;
 }
 end_words words (Some (Command.Listen settings)) e m = record {
   some = λ none. none (Command.Listen settings) ((command_is words (Command.Listen settings)).0 e);
   not_show = λ other w. let two : Some (Command.Listen settings) ≡ Some (Command.Show other) = sym e ∙ (command_is words (Command.Show other)).1 w in cc;
   not_replay = λ w. let two : Some (Command.Listen settings) ≡ Some Command.Replay = sym e ∙ (command_is words Command.Replay).1 w in cc;
+  not_pair = λ other w. let two : Some (Command.Listen settings) ≡ Some (Command.Pair other) = sym e ∙ (command_is words (Command.Pair other)).1 w in cc;
 }
+end_words words (Some (Command.Pair settings)) e m = absurd m
 
 pub is_of_end : {A E : Type 0} (words : List (List ℕ)) (r : Result A E) → OnErr r (makes_end (command_at words)) → OnErr r (IsOfEnd words)
 is_of_end words (Ok one) m = tt

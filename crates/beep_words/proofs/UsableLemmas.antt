@@ -1,5 +1,5 @@
 -- What words say is in its range.
-use Rattle.std.proofs.Common.{◌≡◌, ℕ, ◌≤◌, Bool, true, false, ◌&&◌, ◌||◌, nat_le, cond, List, [], ◌∷◌, length, codes, chars, IsAscii, suc, zero, nat_lt, Option, Some, None, refl, ap, ap₂, sym, ◌∙◌, subst, arith}
+use Rattle.std.proofs.Common.{◌≡◌, ℕ, ◌≤◌, Bool, true, false, ◌&&◌, nat_le, cond, List, [], ◌∷◌, length, codes, chars, IsAscii, suc, zero, refl, ap, ap₂, sym, ◌∙◌, subst, arith}
 use Rattle.std.specs.List.{list_all, AllByRecursion}
 use Rattle.std.specs.Str.{bytes_eq}
 use Rattle.std.proofs.lemmas.Slice.Eq.{bytes_eq-Decides}
@@ -7,11 +7,12 @@ use Rattle.std.proofs.lemmas.Bool.Decides.{nat_tests}
 use Rattle.std.proofs.lemmas.Str.{chars-IsAscii}
 use Rattle.beep_chars.specs.Characters.{is_allowed}
 use Rattle.beep_settings.specs.declared.settings.Settings.{Settings}
-use Rattle.beep_settings.specs.declared.settings.TheConstants.{HOST, RAW_URI, PORT, WINDOW, PIECE, IDLE, OCTETS, SESSIONS}
+use Rattle.beep_settings.specs.declared.settings.TheConstants.{RAW_URI, PORT, WINDOW, PIECE, IDLE, OCTETS, SESSIONS}
 use Rattle.beep_words.specs.declared.form.Form.{Form}
 use Rattle.beep_words.specs.declared.options.TheConstants.{MAX_URI, MAX_PORT, MIN_WINDOW, MAX_WINDOW, MAX_PIECE, MAX_IDLE, MAX_NUMBER, MAX_SESSIONS}
-use Rattle.beep_words.specs.CommandSet.{Value, choice, number, text, is_printable, OptionRow, Chosen, form_in, IsText, IsOf, IsOfSome, IsTaken, value_in, IsTextOf, IsEnd, IsSend, IsListen, send_options, listen_options}
-use Rattle.beep_words.specs.Usable.{AreRanged, IsUsable}
+use Rattle.beep_words.specs.CommandSet.{Value, choice, number, text, is_printable, OptionRow, Chosen, form_in, IsText, IsOf, IsOfSome, IsTaken, value_in, IsTextOf, IsEnd, IsSend, IsListen, IsPair, send_options, listen_options, pair_options}
+use Rattle.beep_words.specs.declared.command.PairSettings.{PairSettings}
+use Rattle.beep_words.specs.Usable.{IsUsable, IsPairUsable}
 use Rattle.beep_words.proofs.ValueLemmas.{and_left, and_right}
 use Rattle.beep_words.proofs.OptionLemmas.{Takes}
 
@@ -132,3 +133,13 @@ send_is_usable = usable (codes "send") send_options send_takes
 
 pub listen_is_usable : (settings : Settings) (words : List (List ℕ)) → IsListen settings words → IsUsable settings
 listen_is_usable = usable (codes "listen") listen_options listen_takes
+
+pub pair_is_usable : (settings : PairSettings) (words : List (List ℕ)) → IsPair settings words → IsPairUsable settings
+pair_is_usable settings words s =
+    let each = s.are_words.each in
+    let window : Takes pair_options (codes "--window") (IsOf (Form.Number MIN_WINDOW MAX_WINDOW)) = λ v i. i in
+    let piece : Takes pair_options (codes "--piece") (IsOf (Form.Number 1 MAX_PIECE)) = λ v i. i in
+    record {
+      window = number_of MIN_WINDOW MAX_WINDOW settings.window _ s.window (of_form pair_options (codes "--window") (Form.Number MIN_WINDOW MAX_WINDOW) window (number WINDOW) (omega arith, omega arith) s.chosen each);
+      piece = number_of 1 MAX_PIECE settings.piece _ s.piece (of_form pair_options (codes "--piece") (Form.Number 1 MAX_PIECE) piece (number PIECE) (omega arith, omega arith) s.chosen each);
+    }

@@ -8,9 +8,10 @@ use Rattle.beep_settings.specs.declared.settings.Settings.{Settings}
 use Rattle.beep_settings.specs.declared.settings.TheConstants.{HOST, RAW_URI, PORT, WINDOW, PIECE, IDLE, OCTETS, SESSIONS}
 use Rattle.beep_words.specs.declared.form.Form.{Form}
 use Rattle.beep_words.specs.declared.command.ShowSettings.{ShowSettings}
+use Rattle.beep_words.specs.declared.command.PairSettings.{PairSettings}
 use Rattle.beep_words.specs.declared.command.Command.{Command}
 use Rattle.beep_words.specs.declared.options.TheConstants.{MAX_NUMBER, MAX_PORT}
-use Rattle.beep_words.specs.CommandSet.{Value, choice, number, text, begins_with_dash, is_printable, OptionRow, form_in, show_options, send_options, listen_options}
+use Rattle.beep_words.specs.CommandSet.{Value, choice, number, text, begins_with_dash, is_printable, OptionRow, form_in, show_options, send_options, listen_options, pair_options}
 
 -- ---- values
 
@@ -112,6 +113,13 @@ settings_of words = record {
   sessions = number_at (codes "--sessions") SESSIONS words;
 }
 
+-- what the options of `pair` say
+abbrev pub pair_of : List (List ℕ) → PairSettings
+pair_of words = record {
+  window = number_at (codes "--window") WINDOW words;
+  piece = number_at (codes "--piece") PIECE words;
+}
+
 -- ---- commands
 
 -- the command of this name with these words, where it is one
@@ -124,6 +132,8 @@ command_in name words =
     then Some (Command.Send (settings_of words))
     else if bytes_eq name (codes "listen") && are_options listen_options words
     then Some (Command.Listen (settings_of words))
+    else if bytes_eq name (codes "pair") && are_options pair_options words
+    then Some (Command.Pair (pair_of words))
     else None
 
 abbrev pub command_at : List (List ℕ) → Option Command
@@ -137,3 +147,4 @@ makes_end (Some (Command.Show settings)) = ⊥
 makes_end (Some Command.Replay) = ⊥
 makes_end (Some (Command.Send settings)) = Unit {0}
 makes_end (Some (Command.Listen settings)) = Unit {0}
+makes_end (Some (Command.Pair settings)) = ⊥

@@ -9,6 +9,7 @@ use Rattle.beep_settings.specs.declared.settings.TheConstants.{HOST, RAW_URI, PO
 use Rattle.beep_words.specs.declared.form.Form.{Form}
 use Rattle.beep_words.specs.declared.command.Command.{Command}
 use Rattle.beep_words.specs.declared.command.ShowSettings.{ShowSettings}
+use Rattle.beep_words.specs.declared.command.PairSettings.{PairSettings}
 use Rattle.beep_words.specs.declared.options.TheConstants.{MAX_HOST, MAX_URI, MAX_PORT, MIN_WINDOW, MAX_WINDOW, MAX_PIECE, MAX_IDLE, MAX_NUMBER, MAX_SESSIONS}
 
 -- ---- values
@@ -144,6 +145,11 @@ listen_options = option (codes "--offer") Form.Raw
     ∷ option (codes "--sessions") (Form.Number 1 MAX_SESSIONS)
     ∷ end_options
 
+abbrev pub pair_options : List OptionRow
+pair_options = option (codes "--window") (Form.Number MIN_WINDOW MAX_WINDOW)
+    ∷ option (codes "--piece") (Form.Number 1 MAX_PIECE)
+    ∷ []
+
 -- ---- commands
 
 -- the words are `show` with these settings
@@ -188,19 +194,28 @@ IsSend settings words = IsEnd (codes "send") send_options settings words
 abbrev pub IsListen : Settings → List (List ℕ) → Type 0
 IsListen settings words = IsEnd (codes "listen") listen_options settings words
 
+-- the words are `pair` with these settings
+pub record IsPair (settings : PairSettings) (words : List (List ℕ)) : Type 0 where
+  pub chosen : List Chosen
+  pub are_words : AreWords (codes "pair") pair_options chosen words
+  pub window : number settings.window ≡ value_in (codes "--window") (number WINDOW) chosen
+  pub piece : number settings.piece ≡ value_in (codes "--piece") (number PIECE) chosen
+
 -- the words are this command
 abbrev pub IsCommand : Command → List (List ℕ) → Type 0
 IsCommand (Command.Show settings) words = IsShow settings words
 IsCommand Command.Replay words = IsReplay words
 IsCommand (Command.Send settings) words = IsSend settings words
 IsCommand (Command.Listen settings) words = IsListen settings words
+IsCommand (Command.Pair settings) words = IsPair settings words
 
 -- the words are no command
 abbrev pub IsNoCommand : List (List ℕ) → Type 0
 IsNoCommand words = (command : Command) → IsCommand command words → ⊥
 
--- the words are `send` or `listen`, and neither of the others
+-- the words are `send` or `listen`, and none of the others
 pub record IsOfEnd (words : List (List ℕ)) : Type 0 where
   pub some : IsNoCommand words → ⊥
   pub not_show : (settings : ShowSettings) → IsShow settings words → ⊥
   pub not_replay : IsReplay words → ⊥
+  pub not_pair : (settings : PairSettings) → IsPair settings words → ⊥

@@ -1,9 +1,10 @@
--- What holds of all settings of `send` and `listen` that words say.
+-- What holds of all settings of `send`, `listen` and `pair` that words say.
 -- The code tests each word as it reads it; here it is said of the settings.
 use Rattle.std.specs.Prelude.{◌≡◌, ◌≤◌, true, length}
 use Rattle.std.specs.List.{list_all}
 use Rattle.beep_chars.specs.Characters.{is_allowed}
 use Rattle.beep_settings.specs.declared.settings.Settings.{Settings}
+use Rattle.beep_words.specs.declared.command.PairSettings.{PairSettings}
 use Rattle.beep_words.specs.declared.options.TheConstants.{MAX_URI, MAX_PORT, MIN_WINDOW, MAX_WINDOW, MAX_PIECE, MAX_IDLE, MAX_NUMBER, MAX_SESSIONS}
 
 -- each number is in its range
@@ -21,3 +22,8 @@ pub record IsUsable (settings : Settings) : Type 0 where
   pub some : 1 ≤ length settings.raw_uri
   pub few : length settings.raw_uri ≤ MAX_URI
   pub allowed : list_all is_allowed settings.raw_uri ≡ true
+
+-- the window and the piece of both ends of `pair` are in their ranges
+pub record IsPairUsable (settings : PairSettings) : Type 0 where
+  pub window : (MIN_WINDOW ≤ settings.window) × (settings.window ≤ MAX_WINDOW)
+  pub piece : (1 ≤ settings.piece) × (settings.piece ≤ MAX_PIECE)

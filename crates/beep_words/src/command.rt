@@ -5,7 +5,7 @@ ghost use Rattle.beep_words.specs.Choosing.{command_at, command_in, makes_end};
 ghost use Rattle.beep_words.specs.declared.command.Command.{Command as CommandValue};
 
 use crate::options::Options;
-use crate::reading::{are_options, settings_in, show_in};
+use crate::reading::{are_options, pair_in, settings_in, show_in};
 use beep_octets::NoMemory;
 use beep_settings::Settings;
 use std::alloc::Global;
@@ -19,6 +19,15 @@ pub struct ShowSettings {
     pub octets: u32,
 }
 
+/// What the options of `pair` say.
+#[derive(Clone, Copy, Debug, PartialEq, Eq)]
+pub struct PairSettings {
+    /// The own window of each channel at both ends, in octets, 4,096 to 65,536.
+    pub window: u32,
+    /// The most octets of payload in one frame that is sent, 1 to 4,096.
+    pub piece: u32,
+}
+
 /// A command, with what its options say.
 #[derive(Debug, Drop)]
 pub enum Command {
@@ -30,6 +39,8 @@ pub enum Command {
     Send(Settings),
     /// Collects lines.
     Listen(Settings),
+    /// Runs a schedule between two ends in memory.
+    Pair(PairSettings),
 }
 
 /// The command that the words are, where they are one. Only `send` and `listen` take memory.
@@ -66,6 +77,7 @@ fn command_in(alloc: Global, name: &str, words: &[String]) -> Result<Option<Comm
         "listen" if are_options(Options::Listen, words) => {
             Ok(Some(Command::Listen(settings_in(alloc, words)?)))
         }
+        "pair" if are_options(Options::Pair, words) => Ok(Some(Command::Pair(pair_in(words)))),
         _ => Ok(None),
     }
 }

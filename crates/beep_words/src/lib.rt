@@ -7,4 +7,4 @@ pub mod laws;
 mod options;
 mod reading;
 
-pub use command::{Command, ShowSettings, command_of};
+pub use command::{Command, PairSettings, ShowSettings, command_of};

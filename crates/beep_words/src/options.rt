@@ -1,6 +1,6 @@
 //! The options of each command.
 ghost use Rattle.std.specs.Prelude.{◌≡◌};
-ghost use Rattle.beep_words.specs.CommandSet.{form_in, show_options, send_options, listen_options, end_options};
+ghost use Rattle.beep_words.specs.CommandSet.{form_in, show_options, send_options, listen_options, end_options, pair_options};
 
 use crate::form::Form;
 
@@ -42,6 +42,8 @@ pub(crate) enum Options {
     Send,
     /// Those of `listen`.
     Listen,
+    /// Those of `pair`.
+    Pair,
 }
 
 impl Options {
@@ -56,6 +58,7 @@ impl Options {
             Options::Replay => None,
             Options::Send => send_form(name),
             Options::Listen => listen_form(name),
+            Options::Pair => pair_form(name),
         }
     }
 }
@@ -100,6 +103,16 @@ fn end_form(name: &str) -> Option<Form>
         "--piece" => Some(Form::Number(1, MAX_PIECE)),
         "--idle" => Some(Form::Number(1, MAX_IDLE)),
         "--octets" => Some(Form::Number(1, MAX_NUMBER)),
+        _ => None,
+    }
+}
+
+fn pair_form(name: &str) -> Option<Form>
+    ensures { result ≡ form_in pair_options name.now }
+{
+    match name {
+        "--window" => Some(Form::Number(MIN_WINDOW, MAX_WINDOW)),
+        "--piece" => Some(Form::Number(1, MAX_PIECE)),
         _ => None,
     }
 }

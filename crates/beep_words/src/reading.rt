@@ -1,11 +1,11 @@
 //! Going over the words of options.
 ghost use Rattle.std.specs.Prelude.{◌≡◌, ◌&&◌, not, map, string_bytes, chars, IfOk, OnOk, bytes_eq};
 ghost use Rattle.std.specs.Option.{option_copied};
-ghost use Rattle.beep_words.specs.Choosing.{is_of_some, is_among, are_options, word_in, number_at, number_or, choice_at, choice_or, text_at, show_of, settings_of};
+ghost use Rattle.beep_words.specs.Choosing.{is_of_some, is_among, are_options, word_in, number_at, number_or, choice_at, choice_or, text_at, show_of, settings_of, pair_of};
 ghost use Rattle.beep_words.specs.CommandSet.{form_in};
 ghost use Rattle.beep_words.specs.Rows.{rows_of};
 
-use crate::command::ShowSettings;
+use crate::command::{PairSettings, ShowSettings};
 use crate::form::{is_of, number_in};
 use crate::options::{MAX_PORT, Options};
 use beep_chars::Text;
@@ -127,4 +127,13 @@ pub(crate) fn settings_in(alloc: Global, words: &[String]) -> Result<Settings, N
         octets: number_at("--octets", OCTETS, words),
         sessions: number_at("--sessions", SESSIONS, words),
     })
+}
+
+/// What the options of `pair` say.
+pub(crate) fn pair_in(words: &[String]) -> PairSettings
+    ensures { result ≡ pair_of (map string_bytes words.now) }
+{
+    let window = number_at("--window", WINDOW, words);
+    let piece = number_at("--piece", PIECE, words);
+    PairSettings { window, piece }
 }
