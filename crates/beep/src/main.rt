@@ -54,9 +54,9 @@ fn ended(rt: &HostRuntime, status: u8) -> ExitCode {
 fn meaning_of(status: u8) -> &'static str {
     match status {
         1 => "the words are no command; there are: show [--elements yes|no] [--octets \
-              1..4294967295]; replay; send and listen with the options of docs/COMMANDS.md",
-        2 => "the input is no record, or what was written breaks a rule, or a line of the input is \
-              too long, at the place in the last line",
+              1..4294967295]; replay; send, listen and pair with the options of docs/COMMANDS.md",
+        2 => "the input is no record or schedule, or what was written breaks a rule, or a line of \
+              it is too long, at the place in the last line",
         3 => "what was read breaks a rule of BEEP, at the octet that the last line names",
         4 => "the input couldn't be read",
         5 => "the output couldn't be written",

@@ -1,9 +1,10 @@
 -- The words are one command, or none.
 use Rattle.std.proofs.Common.{◌≡◌, ◌↔◌, ◌⊎◌, ℕ, List, Option, Some, None, inl, inr, sym, ◌∙◌}
 use Rattle.beep_words.specs.declared.command.ShowSettings.{ShowSettings as Settings}
+use Rattle.beep_words.specs.declared.command.PairSettings.{PairSettings}
 use Rattle.beep_settings.specs.declared.settings.Settings.{Settings as EndSettings}
 use Rattle.beep_words.specs.declared.command.Command.{Command}
-use Rattle.beep_words.specs.CommandSet.{IsShow, IsReplay, IsSend, IsListen, IsCommand, IsNoCommand, IsOfEnd}
+use Rattle.beep_words.specs.CommandSet.{IsShow, IsReplay, IsSend, IsListen, IsPair, IsCommand, IsNoCommand, IsOfEnd}
 
 module _ (words : List (List ℕ)) (result : Option Command) (reads : (command : Command) → ((result ≡ Some command) ↔ IsCommand command words)) where
   -- the words say one command
@@ -50,6 +51,7 @@ module _ (words : List (List ℕ)) (result : Option Command) (reads : (command :
     some = some_command (Command.Send taken) e;
     not_show = λ settings w. let same : Command.Send taken ≡ Command.Show settings = same_command (Command.Send taken) (Command.Show settings) e w in cc;
     not_replay = λ w. let same : Command.Send taken ≡ Command.Replay = same_command (Command.Send taken) Command.Replay e w in cc;
+    not_pair = λ settings w. let same : Command.Send taken ≡ Command.Pair settings = same_command (Command.Send taken) (Command.Pair settings) e w in cc;
   }
 
   pub listens : (taken : EndSettings) → result ≡ Some (Command.Listen taken) → IsOfEnd words
@@ -57,6 +59,7 @@ module _ (words : List (List ℕ)) (result : Option Command) (reads : (command :
     some = some_command (Command.Listen taken) e;
     not_show = λ settings w. let same : Command.Listen taken ≡ Command.Show settings = same_command (Command.Listen taken) (Command.Show settings) e w in cc;
     not_replay = λ w. let same : Command.Listen taken ≡ Command.Replay = same_command (Command.Listen taken) Command.Replay e w in cc;
+    not_pair = λ settings w. let same : Command.Listen taken ≡ Command.Pair settings = same_command (Command.Listen taken) (Command.Pair settings) e w in cc;
   }
 
   -- words of the other commands aren't `send`, nor `listen`
@@ -65,6 +68,24 @@ module _ (words : List (List ℕ)) (result : Option Command) (reads : (command :
 
   pub not_listen : (taken : Command) → result ≡ Some taken → ((settings : EndSettings) → taken ≡ Command.Listen settings → ⊥) → (settings : EndSettings) → IsListen settings words → ⊥
   not_listen taken e other settings w = other settings (same_command taken (Command.Listen settings) e w)
+
+  -- nor those of others `show`, `replay` or `pair`
+  pub other_show : (taken : Command) → result ≡ Some taken → ((settings : Settings) → taken ≡ Command.Show settings → ⊥) → (settings : Settings) → IsShow settings words → ⊥
+  other_show taken e other settings w = other settings (same_command taken (Command.Show settings) e w)
+
+  pub other_replay : (taken : Command) → result ≡ Some taken → (taken ≡ Command.Replay → ⊥) → IsReplay words → ⊥
+  other_replay taken e other w = other (same_command taken Command.Replay e w)
+
+  pub not_pair : (taken : Command) → result ≡ Some taken → ((settings : PairSettings) → taken ≡ Command.Pair settings → ⊥) → (settings : PairSettings) → IsPair settings words → ⊥
+  not_pair taken e other settings w = other settings (same_command taken (Command.Pair settings) e w)
+
+  pub none_pair : result ≡ None → (settings : PairSettings) → IsPair settings words → ⊥
+  none_pair e settings w = no_command e (Command.Pair settings) w
+
+  pub same_pair : (taken settings : PairSettings) → result ≡ Some (Command.Pair taken) → IsPair settings words → taken ≡ settings
+  same_pair taken settings e w =
+      let same : Command.Pair taken ≡ Command.Pair settings = same_command (Command.Pair taken) (Command.Pair settings) e w in
+      cc
 
   pub none_send : result ≡ None → (settings : EndSettings) → IsSend settings words → ⊥
   none_send e settings w = no_command e (Command.Send settings) w

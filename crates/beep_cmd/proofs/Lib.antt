@@ -12,3 +12,4 @@ mod ExcludedLemmas
 mod ServingLemmas
 mod EndsLemmas
 mod StatusLemmas
+mod PairLemmas

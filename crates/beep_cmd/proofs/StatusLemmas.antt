@@ -4,11 +4,14 @@ use Rattle.beep_link.specs.declared.ended.Ended.{Ended}
 use Rattle.beep_link.specs.Causes.{Seen}
 use Rattle.beep_wires.specs.States.{SourceState}
 use Rattle.beep_words.specs.declared.command.ShowSettings.{ShowSettings}
+use Rattle.beep_words.specs.declared.command.PairSettings.{PairSettings}
 use Rattle.beep_settings.specs.declared.settings.Settings.{Settings}
 use Rattle.beep_cmd.specs.Show as show
 use Rattle.beep_cmd.specs.Show.{Run, Shown, IsReport}
 use Rattle.beep_cmd.specs.Replay as replay
 use Rattle.beep_cmd.specs.Replay.{Replayed, IsReplayReport, IsJudgement}
+use Rattle.beep_cmd.specs.Pair as pair
+use Rattle.beep_cmd.specs.Pair.{IsPairing, IsPairReport, Paired}
 use Rattle.beep_cmd.specs.Ends as ends
 use Rattle.beep_cmd.specs.Ends.{ended_status, IsSendReport, Sent, Listened}
 
@@ -65,3 +68,18 @@ pub listened_not : (settings : Settings) (before after : Seen) (status : ℕ) (r
 listened_not settings before after status run (ends.listen_told cause n m c e) f = ended_not cause (omega (arith, e, f))
 listened_not settings before after status run (ends.listen_unwritten e r) f = absurd (omega (arith, e, f))
 listened_not settings before after status run (ends.listen_starved e) f = absurd (omega (arith, e, f))
+
+-- nor is 1 a status of `pair`
+pairing_not : (settings : PairSettings) (octets text : List ℕ) (status : ℕ) → IsPairing settings octets text status → status ≡ 1 → ⊥
+pairing_not settings octets text status (pair.runs e r) f = absurd (omega (arith, e, f))
+pairing_not settings octets text status (pair.bad_schedule e b) f = absurd (omega (arith, e, f))
+
+pair_not : (settings : PairSettings) (old new : SourceState) (octets text : List ℕ) (status : ℕ) → IsPairReport settings old new octets text status → status ≡ 1 → ⊥
+pair_not settings old new octets text status (pair.whole h w p) f = pairing_not settings octets text status p f
+pair_not settings old new octets text status (pair.long e l) f = absurd (omega (arith, e, f))
+pair_not settings old new octets text status (pair.unread e r w t) f = absurd (omega (arith, e, f))
+
+pub paired_not : (settings : PairSettings) (status : ℕ) (run : Run) → Paired settings status run → status ≡ 1 → ⊥
+paired_not settings status run (pair.told s) f = pair_not settings run.source run.source_after s.octets s.text status s.holds f
+paired_not settings status run (pair.cut_short e r s) f = absurd (omega (arith, e, f))
+paired_not settings status run (pair.starved e s) f = absurd (omega (arith, e, f))

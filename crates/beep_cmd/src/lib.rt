@@ -5,6 +5,7 @@ mod closing;
 mod ending;
 mod listen;
 mod listing;
+mod pair;
 mod replay;
 mod run;
 mod send;

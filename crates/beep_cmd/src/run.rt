@@ -1,16 +1,19 @@
 //! The one call of the program.
 ghost use Rattle.std.specs.Prelude.{◌≡◌, ◌⊎◌, ◌+◌, ◌≤◌, ℕ, List, Some, false, map, string_bytes};
-ghost use Rattle.beep_words.specs.CommandSet.{IsShow, IsReplay, IsSend, IsListen, IsNoCommand};
+ghost use Rattle.beep_words.specs.CommandSet.{IsShow, IsReplay, IsSend, IsListen, IsPair, IsNoCommand};
 ghost use Rattle.beep_words.specs.declared.command.ShowSettings.{ShowSettings as settings_type};
+ghost use Rattle.beep_words.specs.declared.command.PairSettings.{PairSettings as pair_settings};
 ghost use Rattle.beep_settings.specs.declared.settings.Settings.{Settings as end_settings};
 ghost use Rattle.beep_input.specs.declared.whole.TheConstants.{MAX_INPUT};
 ghost use Rattle.beep_journal.specs.declared.role.Role.{Role as RoleValue};
 ghost use Rattle.beep_wires.specs.States.{SourceState};
 ghost use Rattle.beep_cmd.specs.Show.{Shown, Refused, IsPlain, NoFault, run_of};
 ghost use Rattle.beep_cmd.specs.Replay.{Replayed, IsLawful};
+ghost use Rattle.beep_cmd.specs.Pair.{Paired, IsSchedule};
 ghost use Rattle.beep_cmd.specs.Ends.{AcceptsAtMost, DialsOnce, Listened, seen_of, Sent, WritesLawfully};
 
 use crate::listen::listen;
+use crate::pair::pair;
 use crate::replay::replay;
 use crate::send::send;
 use crate::show::show;
@@ -59,6 +62,14 @@ pub fn beep_run<I: Source, O: Sink, W: Wires>(
         (W.asked wires.old) (W.lent wires.old)) (seen_of (W.state wires.new) (W.counts wires.new)
         (W.asked wires.new) (W.lent wires.new)) result (run_of (I.state input.old)
         (I.state input.new) (O.state output.old) (O.state output.new)) }
+    ensures paired { (settings : pair_settings) → IsPair settings (map string_bytes words.now)
+        → Paired settings result (run_of (I.state input.old) (I.state input.new)
+        (O.state output.old) (O.state output.new)) }
+    ensures pair_complete { (settings : pair_settings) (octets : List ℕ)
+        → IsPair settings (map string_bytes words.now)
+        → (I.state input.old).left ≡ Some octets → IsSchedule octets
+        → NoFault (run_of (I.state input.old) (I.state input.new)
+        (O.state output.old) (O.state output.new)) → (result ≡ 0) ⊎ (result ≡ 7) }
     ensures usage { result ≡ 1 → IsNoCommand (map string_bytes words.now) }
 
     // What is written on each link that was given is lawful, where its log is told.
@@ -102,12 +113,19 @@ pub fn beep_run<I: Source, O: Sink, W: Wires>(
         → (I.state input.new).reads ≤ (I.state input.old).reads + (MAX_INPUT + 1) }
     ensures replay_reads { IsReplay (map string_bytes words.now)
         → (I.state input.new).reads ≤ (I.state input.old).reads + (MAX_INPUT + 1) }
+    ensures pair_unlinked { (settings : pair_settings)
+        → IsPair settings (map string_bytes words.now) → wires.new ≡ wires.old }
+    ensures pair_no_memory { (settings : pair_settings)
+        → IsPair settings (map string_bytes words.now) → result ≡ 7 → output.new ≡ output.old }
+    ensures pair_reads { (settings : pair_settings) → IsPair settings (map string_bytes words.now)
+        → (I.state input.new).reads ≤ (I.state input.old).reads + (MAX_INPUT + 1) }
 {
     match command_of(alloc, words) {
         Ok(Some(Command::Show(settings))) => show(alloc, settings, input, output),
         Ok(Some(Command::Replay)) => replay(alloc, input, output),
         Ok(Some(Command::Send(settings))) => send(alloc, &settings, input, output, wires),
         Ok(Some(Command::Listen(settings))) => listen(alloc, &settings, output, wires),
+        Ok(Some(Command::Pair(settings))) => pair(alloc, settings, input, output),
         Ok(None) => refuse(output),
         Err(NoMemory) => 7,
     }

@@ -1,24 +1,27 @@
 use Rattle.std.proofs.Common.{◌≡◌, Some, None, map, refl, ap, ◌∙◌, subst, arith}
 use Rattle.std.specs.String.{string_bytes}
 use Rattle.beep_words.specs.declared.command.ShowSettings.{ShowSettings as Settings}
+use Rattle.beep_words.specs.declared.command.PairSettings.{PairSettings}
 use Rattle.beep_settings.specs.declared.settings.Settings.{Settings as EndSettings}
 use Rattle.beep_words.specs.declared.command.Command.{Command}
-use Rattle.beep_words.specs.CommandSet.{IsShow, IsReplay, IsSend, IsListen, IsOfEnd}
+use Rattle.beep_words.specs.CommandSet.{IsShow, IsReplay, IsSend, IsListen, IsPair, IsOfEnd}
 use Rattle.beep_words.specs.Usable.{IsUsable}
-use Rattle.beep_words.proofs.UsableLemmas.{send_is_usable, listen_is_usable}
+use Rattle.beep_words.proofs.UsableLemmas.{send_is_usable, listen_is_usable, pair_is_usable}
 use Rattle.beep_ends.specs.Ends.{AreFit}
 use Rattle.beep_ends.proofs.FitLemmas.{fit}
 use Rattle.beep_cmd.specs.Ends.{AcceptsAtMost, DialsOnce, IsAcceptOf, IsDialOf, Listened, listen_starved, seen_of, Sent, WritesLawfully}
+use Rattle.beep_cmd.specs.Pair.{Paired}
 use Rattle.beep_link.specs.Causes.{Seen, WhereTold}
 use Rattle.beep_journal.specs.declared.role.Role.{Role}
 use Rattle.beep_ends.specs.Logs.{IsLawfulOn, terms_by}
 use Rattle.beep_cmd.specs.Show.{Run, run_of}
-use Rattle.beep_cmd.proofs.CommandLemmas.{listens, no_command, none_listen, none_replay, none_send, none_show, not_listen, not_replay, not_send, not_show, not_unlinked, same_listen, same_send, same_show, sends, some_command}
+use Rattle.beep_cmd.proofs.CommandLemmas.{listens, no_command, none_listen, none_pair, none_replay, none_send, none_show, not_listen, not_pair, not_replay, not_send, not_show, not_unlinked, other_replay, other_show, same_listen, same_pair, same_send, same_show, sends, some_command}
 use Rattle.beep_cmd.proofs.CompleteLemmas.{complete, shown_as}
 use Rattle.beep_cmd.proofs.EndsLemmas.{starved_at_once}
 use Rattle.beep_cmd.proofs.JudgeLemmas.{lawful}
+use Rattle.beep_cmd.proofs.PairLemmas.{schedule_complete, usable_limits}
 use Rattle.beep_cmd.proofs.ServingLemmas.{asks_none, each_none}
-use Rattle.beep_cmd.proofs.StatusLemmas.{listened_not, replayed_not, sent_not, shown_not}
+use Rattle.beep_cmd.proofs.StatusLemmas.{listened_not, paired_not, replayed_not, sent_not, shown_not}
 use Rattle.beep_cmd.proofs.run.beep_run.Goals as goal
 
 -- settings that words say are fit for a session
@@ -37,6 +40,12 @@ listen-requires g c =
     let w : IsListen a.settings (map string_bytes c.args.words.now) = (a.ensures.ok (Command.Listen a.settings)).0 (a.field-0-is ∙ ap Some a.field-0-0-is) in
     record { fit = usable_fit a.settings (listen_is_usable a.settings _ w) }
 
+pub pair-requires-clause-fit : goal.pair-requires-clause-fit
+pair-requires-clause-fit g c =
+    let a = c.in-Ok-Some-Pair in
+    let w : IsPair a.settings (map string_bytes c.args.words.now) = (a.ensures.ok (Command.Pair a.settings)).0 (a.field-0-is ∙ ap Some a.field-0-0-is) in
+    usable_limits a.settings (pair_is_usable a.settings _ w)
+
 pub returns-in-Ok-Some-Show : goal.returns-in-Ok-Some-Show
 returns-in-Ok-Some-Show g c =
     let words = map string_bytes c.args.words.now in
@@ -46,6 +55,7 @@ returns-in-Ok-Some-Show g c =
     let other : IsReplay words → ⊥ = not_replay words a.field-0 a.ensures.ok _ is in
     let other_send : (settings : EndSettings) → IsSend settings words → ⊥ = not_send words a.field-0 a.ensures.ok _ is (λ settings e. cc) in
     let other_listen : (settings : EndSettings) → IsListen settings words → ⊥ = not_listen words a.field-0 a.ensures.ok _ is (λ settings e. cc) in
+    let other_pair : (settings : PairSettings) → IsPair settings words → ⊥ = not_pair words a.field-0 a.ensures.ok _ is (λ settings e. cc) in
     let some = some_command words a.field-0 a.ensures.ok _ is in
     record {
       shown = λ settings w. shown_as _ settings _ _ (same settings is w) c.show.ensures.shown;
@@ -55,6 +65,8 @@ returns-in-Ok-Some-Show g c =
       replay_complete = λ octets w left is_lawful no_fault. absurd (other w);
       sent = λ settings w. absurd (other_send settings w);
       listened = λ settings w. absurd (other_listen settings w);
+      paired = λ settings w. absurd (other_pair settings w);
+      pair_complete = λ settings octets w left is_schedule no_fault. absurd (other_pair settings w);
       usage = λ one. absurd (shown_not a.settings c.show.result _ c.show.ensures.shown one);
       send_lawful = λ settings w. absurd (other_send settings w);
       listen_lawful = λ settings w. absurd (other_listen settings w);
@@ -68,6 +80,9 @@ returns-in-Ok-Some-Show g c =
       replay_no_memory = λ w. absurd (other w);
       send_reads = λ settings w. absurd (other_send settings w);
       replay_reads = λ w. absurd (other w);
+      pair_unlinked = λ settings w. absurd (other_pair settings w);
+      pair_no_memory = λ settings w. absurd (other_pair settings w);
+      pair_reads = λ settings w. absurd (other_pair settings w);
     }
 
 pub returns-in-Ok-Some-Replay : goal.returns-in-Ok-Some-Replay
@@ -78,6 +93,7 @@ returns-in-Ok-Some-Replay g c =
     let other : (settings : Settings) → IsShow settings words → ⊥ = λ settings. not_show words a.field-0 a.ensures.ok settings is in
     let other_send : (settings : EndSettings) → IsSend settings words → ⊥ = not_send words a.field-0 a.ensures.ok _ is (λ settings e. cc) in
     let other_listen : (settings : EndSettings) → IsListen settings words → ⊥ = not_listen words a.field-0 a.ensures.ok _ is (λ settings e. cc) in
+    let other_pair : (settings : PairSettings) → IsPair settings words → ⊥ = not_pair words a.field-0 a.ensures.ok _ is (λ settings e. cc) in
     let some = some_command words a.field-0 a.ensures.ok _ is in
     record {
       shown = λ settings w. absurd (other settings w);
@@ -87,6 +103,8 @@ returns-in-Ok-Some-Replay g c =
       replay_complete = λ octets w left is_lawful no_fault. lawful octets _ c.replay.result left is_lawful no_fault c.replay.ensures.replayed;
       sent = λ settings w. absurd (other_send settings w);
       listened = λ settings w. absurd (other_listen settings w);
+      paired = λ settings w. absurd (other_pair settings w);
+      pair_complete = λ settings octets w left is_schedule no_fault. absurd (other_pair settings w);
       usage = λ one. absurd (replayed_not c.replay.result _ c.replay.ensures.replayed one);
       send_lawful = λ settings w. absurd (other_send settings w);
       listen_lawful = λ settings w. absurd (other_listen settings w);
@@ -100,6 +118,9 @@ returns-in-Ok-Some-Replay g c =
       replay_no_memory = λ w. c.replay.ensures.unwritten;
       send_reads = λ settings w. absurd (other_send settings w);
       replay_reads = λ w. c.replay.ensures.reads;
+      pair_unlinked = λ settings w. absurd (other_pair settings w);
+      pair_no_memory = λ settings w. absurd (other_pair settings w);
+      pair_reads = λ settings w. absurd (other_pair settings w);
     }
 
 pub returns-in-Ok-Some-Send : goal.returns-in-Ok-Some-Send
@@ -121,6 +142,8 @@ returns-in-Ok-Some-Send g c =
       replay_complete = λ octets w left is_lawful no_fault. absurd (of.not_replay w);
       sent = λ settings w. subst (λ (s : EndSettings). Sent s before after c.send.result run) (same settings is w) c.send.ensures.sent;
       listened = λ settings w. absurd (other settings w);
+      paired = λ settings w. absurd (of.not_pair settings w);
+      pair_complete = λ settings octets w left is_schedule no_fault. absurd (of.not_pair settings w);
       usage = λ one. absurd (sent_not a.settings before after c.send.result run c.send.ensures.sent one);
       send_lawful = λ settings w. subst (λ (s : EndSettings). WritesLawfully Role.Initiator s before after) (same settings is w) c.send.ensures.lawful;
       listen_lawful = λ settings w. absurd (other settings w);
@@ -134,6 +157,9 @@ returns-in-Ok-Some-Send g c =
       replay_no_memory = λ w. absurd (of.not_replay w);
       send_reads = λ settings w. c.send.ensures.reads;
       replay_reads = λ w. absurd (of.not_replay w);
+      pair_unlinked = λ settings w. absurd (of.not_pair settings w);
+      pair_no_memory = λ settings w. absurd (of.not_pair settings w);
+      pair_reads = λ settings w. absurd (of.not_pair settings w);
     }
 
 pub returns-in-Ok-Some-Listen : goal.returns-in-Ok-Some-Listen
@@ -155,6 +181,8 @@ returns-in-Ok-Some-Listen g c =
       replay_complete = λ octets w left is_lawful no_fault. absurd (of.not_replay w);
       sent = λ settings w. absurd (other settings w);
       listened = λ settings w. subst (λ (s : EndSettings). Listened s before after c.listen.result run) (same settings is w) (c.listen.ensures.listened (g.I.Source.state c.args.input.now));
+      paired = λ settings w. absurd (of.not_pair settings w);
+      pair_complete = λ settings octets w left is_schedule no_fault. absurd (of.not_pair settings w);
       usage = λ one. absurd (listened_not a.settings before after c.listen.result run (c.listen.ensures.listened (g.I.Source.state c.args.input.now)) one);
       send_lawful = λ settings w. absurd (other settings w);
       listen_lawful = λ settings w. subst (λ (s : EndSettings). WritesLawfully Role.Listener s before after) (same settings is w) c.listen.ensures.lawful;
@@ -168,6 +196,50 @@ returns-in-Ok-Some-Listen g c =
       replay_no_memory = λ w. absurd (of.not_replay w);
       send_reads = λ settings w. absurd (other settings w);
       replay_reads = λ w. absurd (of.not_replay w);
+      pair_unlinked = λ settings w. absurd (of.not_pair settings w);
+      pair_no_memory = λ settings w. absurd (of.not_pair settings w);
+      pair_reads = λ settings w. absurd (of.not_pair settings w);
+    }
+
+pub returns-in-Ok-Some-Pair : goal.returns-in-Ok-Some-Pair
+returns-in-Ok-Some-Pair g c =
+    let words = map string_bytes c.args.words.now in
+    let a = c.in-Ok-Some-Pair in
+    let is : a.field-0 ≡ Some (Command.Pair a.settings) = a.field-0-is ∙ ap Some a.field-0-0-is in
+    let same = same_pair words a.field-0 a.ensures.ok a.settings in
+    let show : (settings : Settings) → IsShow settings words → ⊥ = other_show words a.field-0 a.ensures.ok _ is (λ settings e. cc) in
+    let replay : IsReplay words → ⊥ = other_replay words a.field-0 a.ensures.ok _ is (λ e. cc) in
+    let send : (settings : EndSettings) → IsSend settings words → ⊥ = not_send words a.field-0 a.ensures.ok _ is (λ settings e. cc) in
+    let listen : (settings : EndSettings) → IsListen settings words → ⊥ = not_listen words a.field-0 a.ensures.ok _ is (λ settings e. cc) in
+    let some = some_command words a.field-0 a.ensures.ok _ is in
+    let run : Run = run_of (g.I.Source.state c.args.input.now) (g.I.Source.state c.pair.new.input) (g.O.Sink.state c.args.output.now) (g.O.Sink.state c.pair.new.output) in
+    let by : (settings : PairSettings) → IsPair settings words → Paired settings c.pair.result run = λ settings w. subst (λ (s : PairSettings). Paired s c.pair.result run) (same settings is w) c.pair.ensures.paired in
+    record {
+      shown = λ settings w. absurd (show settings w);
+      replayed = λ w. absurd (replay w);
+      refused = λ none. absurd (some none);
+      complete = λ settings octets w left plain no_fault. absurd (show settings w);
+      replay_complete = λ octets w left is_lawful no_fault. absurd (replay w);
+      sent = λ settings w. absurd (send settings w);
+      listened = λ settings w. absurd (listen settings w);
+      paired = by;
+      pair_complete = λ settings octets w left is_schedule no_fault. schedule_complete settings octets run c.pair.result left is_schedule no_fault (by settings w);
+      usage = λ one. absurd (paired_not a.settings c.pair.result run c.pair.ensures.paired one);
+      send_lawful = λ settings w. absurd (send settings w);
+      listen_lawful = λ settings w. absurd (listen settings w);
+      dials = λ settings w. absurd (send settings w);
+      accepts = λ settings w. absurd (listen settings w);
+      unread = λ none. absurd (some none);
+      unlinked = λ settings w. refl;
+      listen_unread = λ settings w. absurd (listen settings w);
+      no_memory = λ settings w e no_elements. absurd (show settings w);
+      reads = λ settings w. absurd (show settings w);
+      replay_no_memory = λ w. absurd (replay w);
+      send_reads = λ settings w. absurd (send settings w);
+      replay_reads = λ w. absurd (replay w);
+      pair_unlinked = λ settings w. refl;
+      pair_no_memory = λ settings w. c.pair.ensures.unwritten;
+      pair_reads = λ settings w. c.pair.ensures.reads;
     }
 
 pub returns-in-Ok-None : goal.returns-in-Ok-None
@@ -179,6 +251,7 @@ returns-in-Ok-None g c =
     let replay : IsReplay words → ⊥ = none_replay words a.field-0 a.ensures.ok is in
     let send : (settings : EndSettings) → IsSend settings words → ⊥ = none_send words a.field-0 a.ensures.ok is in
     let listen : (settings : EndSettings) → IsListen settings words → ⊥ = none_listen words a.field-0 a.ensures.ok is in
+    let pair : (settings : PairSettings) → IsPair settings words → ⊥ = none_pair words a.field-0 a.ensures.ok is in
     let none = no_command words a.field-0 a.ensures.ok is in
     record {
       shown = λ settings w. absurd (show settings w);
@@ -188,6 +261,8 @@ returns-in-Ok-None g c =
       replay_complete = λ octets w left is_lawful no_fault. absurd (replay w);
       sent = λ settings w. absurd (send settings w);
       listened = λ settings w. absurd (listen settings w);
+      paired = λ settings w. absurd (pair settings w);
+      pair_complete = λ settings octets w left is_schedule no_fault. absurd (pair settings w);
       usage = λ one command w. none command w;
       send_lawful = λ settings w. absurd (send settings w);
       listen_lawful = λ settings w. absurd (listen settings w);
@@ -201,6 +276,9 @@ returns-in-Ok-None g c =
       replay_no_memory = λ w. absurd (replay w);
       send_reads = λ settings w. absurd (send settings w);
       replay_reads = λ w. absurd (replay w);
+      pair_unlinked = λ settings w. absurd (pair settings w);
+      pair_no_memory = λ settings w. absurd (pair settings w);
+      pair_reads = λ settings w. absurd (pair settings w);
     }
 
 pub returns-in-Err : goal.returns-in-Err
@@ -216,6 +294,8 @@ returns-in-Err g c =
       replay_complete = λ octets w left is_lawful no_fault. absurd (of.not_replay w);
       sent = λ settings w. starved_at_once settings _ _ _;
       listened = λ settings w. listen_starved refl;
+      paired = λ settings w. absurd (of.not_pair settings w);
+      pair_complete = λ settings octets w left is_schedule no_fault. absurd (of.not_pair settings w);
       usage = λ one. absurd (omega (arith, one));
       send_lawful = λ settings w. each_none (λ link. WhereTold (IsLawfulOn (terms_by Role.Initiator settings)) link.log) seen seen refl;
       listen_lawful = λ settings w. each_none (λ link. WhereTold (IsLawfulOn (terms_by Role.Listener settings)) link.log) seen seen refl;
@@ -229,4 +309,7 @@ returns-in-Err g c =
       replay_no_memory = λ w. absurd (of.not_replay w);
       send_reads = λ settings w. omega arith;
       replay_reads = λ w. absurd (of.not_replay w);
+      pair_unlinked = λ settings w. absurd (of.not_pair settings w);
+      pair_no_memory = λ settings w. absurd (of.not_pair settings w);
+      pair_reads = λ settings w. absurd (of.not_pair settings w);
     }

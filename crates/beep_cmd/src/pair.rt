@@ -1,0 +1,121 @@
+//! The command `pair`: a schedule, run between two ends in memory.
+ghost use Rattle.std.specs.Prelude.{◌≡◌, ◌+◌, ◌≤◌, false, [], length, IfOk, OnErr};
+ghost use Rattle.beep_wires.specs.States.{SourceState};
+ghost use Rattle.beep_input.specs.Whole.{ReadsFew};
+ghost use Rattle.beep_input.specs.declared.whole.TheConstants.{MAX_INPUT};
+ghost use Rattle.beep_session.specs.Session.{AreLimits};
+ghost use Rattle.beep_words.specs.declared.command.PairSettings.{PairSettings as settings_type};
+ghost use Rattle.beep_cmd.specs.Pair.{limits_of, Paired, IsPairing};
+ghost use Rattle.beep_cmd.specs.Pairing.{TellsPair};
+ghost use Rattle.beep_cmd.specs.Show.{run_of};
+
+use crate::text::{LAST_ROOM, append_numbered};
+use beep_input::{MAX_INPUT, Unread, line_past, read_input};
+use beep_octets::{NoMemory, Octets};
+use beep_pair::{Limits, Outcome, report};
+use beep_schedule::laws::a_schedule_has_no_bad_line;
+use beep_wires::{Failed, Sink, Source, write_all};
+use beep_words::PairSettings;
+use std::alloc::Global;
+
+/// Runs `pair`. It writes nothing before the whole report is made.
+pub(crate) fn pair<I: Source, O: Sink>(
+    alloc: Global,
+    settings: PairSettings,
+    input: &mut I,
+    output: &mut O,
+) -> u8
+    requires going { (I.state input.old).ended ≡ false }
+    requires fit { AreLimits (limits_of settings) }
+    ensures paired { Paired settings result (run_of (I.state input.old) (I.state input.new)
+        (O.state output.old) (O.state output.new)) }
+    ensures unwritten { result ≡ 7 → output.new ≡ output.old }
+    ensures reads { (I.state input.new).reads ≤ (I.state input.old).reads + (MAX_INPUT + 1) }
+{
+    let mut out = Octets::new(alloc);
+    match tell_input(alloc, settings, input, &mut out) {
+        Ok(status) => write_report(&out, status, output),
+        Err(NoMemory) => 7,
+    }
+}
+
+/// Writes a report, and answers its status.
+fn write_report<O: Sink>(out: &Octets, status: u8, output: &mut O) -> u8
+    ensures wrote { (settings : settings_type) (from to : SourceState)
+        → TellsPair settings status out.now.octets from to
+        → Paired settings result (run_of from to (O.state output.old) (O.state output.new)) }
+    ensures memory { (settings : settings_type) (from to : SourceState)
+        → TellsPair settings status out.now.octets from to → result ≡ 7
+        → output.new ≡ output.old }
+{
+    match write_all(output, out.as_slice()) {
+        Ok(()) => status,
+        Err(Failed) => 5,
+    }
+}
+
+/// What both ends set for themselves.
+fn limits_in(settings: PairSettings) -> Limits
+    ensures { result ≡ limits_of settings }
+{
+    Limits {
+        window: settings.window,
+        piece: settings.piece,
+    }
+}
+
+/// Makes the report of an input, and answers its status.
+fn tell_input<I: Source>(
+    alloc: Global,
+    settings: PairSettings,
+    input: &mut I,
+    out: &mut Octets,
+) -> Result<u8, NoMemory>
+    requires going { (I.state input.old).ended ≡ false }
+    requires fit { AreLimits (limits_of settings) }
+    requires empty { out.old.octets ≡ [] }
+    ensures ok { IfOk result (λ status. TellsPair settings status out.new.octets
+        (I.state input.old) (I.state input.new)) }
+    ensures err { OnErr result (ReadsFew (I.state input.old) (I.state input.new)) }
+    ensures reads { (I.state input.new).reads ≤ (I.state input.old).reads + (MAX_INPUT + 1) }
+{
+    out.reserve(LAST_ROOM)?;
+    match read_input(alloc, input) {
+        Ok(octets) if octets.len() > MAX_INPUT => {
+            append_numbered(out, b"! bad ", line_past(octets.as_slice()));
+            Ok(2)
+        }
+        Ok(octets) => tell_schedule(alloc, settings, octets.as_slice(), out),
+        Err(Unread::Fault) => {
+            out.extend_within(b"! read fault\n");
+            Ok(4)
+        }
+        Err(Unread::NoMemory) => Err(NoMemory),
+    }
+}
+
+/// Makes the report of a whole input, and answers its status.
+fn tell_schedule(
+    alloc: Global,
+    settings: PairSettings,
+    octets: &[u8],
+    out: &mut Octets,
+) -> Result<u8, NoMemory>
+    requires fit { AreLimits (limits_of settings) }
+    requires within { length octets.now ≤ MAX_INPUT }
+    requires empty { out.old.octets ≡ [] }
+    requires room { LAST_ROOM ≤ out.old.spare }
+    ensures { IfOk result (λ status. IsPairing settings octets.now out.new.octets status) }
+{
+    a_schedule_has_no_bad_line();
+    match report(alloc, limits_in(settings), octets)? {
+        Outcome::Report(report) => {
+            *out = report;
+            Ok(0)
+        }
+        Outcome::Bad(number) => {
+            append_numbered(out, b"! bad ", u64::from(number));
+            Ok(2)
+        }
+    }
+}
