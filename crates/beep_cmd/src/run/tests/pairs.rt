@@ -118,17 +118,21 @@ fn no_more_requests_wait_than_there_may(rt: HostRuntime) -> Result<(), Fail> {
     Ok(())
 }
 
-// A window above 4,096 octets makes a SEQ due at once, and a window's value is tested.
+// A window above 4,096 octets makes a SEQ due at once, and a greeting of 103 octets is cut by a
+// smaller piece; values out of their ranges are no command.
 #[test]
-fn both_ends_have_the_window_of_the_words(rt: HostRuntime) -> Result<(), Fail> {
+fn both_ends_have_the_window_and_the_piece_of_the_words(rt: HostRuntime) -> Result<(), Fail> {
     let lines = b"beep-schedule 1\nA send 4096\nA send 4096\nB send 4096\nB send 4096\n";
     let wide = "A send RPY 0 0 . 0 103\nA send SEQ 0 0 8192\nB send RPY 0 0 . 0 103\n\
          B send SEQ 0 0 8192\nstill no\n";
     let small = "A send RPY 0 0 . 0 103\nA send nothing\nB send RPY 0 0 . 0 103\n\
          B send nothing\nstill no\n";
+    let cut = "A send RPY 0 0 * 0 102\nA send RPY 0 0 . 102 1\nB send RPY 0 0 * 0 102\n\
+         B send RPY 0 0 . 102 1\nstill no\n";
     let rows = [
         ("pair --window 8192", wide, 0),
-        ("pair --window 4096 --piece 1", small, 0),
+        ("pair --window 4096", small, 0),
+        ("pair --piece 102 --window 4096", cut, 0),
         ("pair", small, 0),
         ("pair --window 4095", "! usage\n", 1),
         ("pair --window 65537", "! usage\n", 1),
@@ -170,7 +174,7 @@ fn a_schedule_above_the_limit_is_bad(rt: HostRuntime) -> Result<(), Fail> {
     input.extend(b"\n")?;
     let (status, sink) = told(rt.alloc(), "pair", input.as_slice(), 65536)?;
     assert_eq!(rt; status, 2);
-    assert_eq!(rt; sink.written(), b"! bad 3\n");
+    assert_eq!(rt; sink.written(), b"! bad 3\n".as_slice());
     Ok(())
 }
 
