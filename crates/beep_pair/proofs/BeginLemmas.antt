@@ -7,11 +7,12 @@ use Rattle.beep_session.specs.Session.{Held}
 use Rattle.beep_schedule.specs.declared.event.End.{End}
 use Rattle.beep_two_sessions.specs.End.{goes, end_of_new}
 use Rattle.beep_pair.specs.World.{World, end_of, IsWorld}
-use Rattle.beep_pair.specs.Command.{HasBegun, IsFresh, AreFresh}
+use Rattle.beep_pair.specs.Command.{HasBegun, IsFresh, AreFresh, pair_offers}
 
 pub two-begin : (limits : Limits) (a b : Held) (s : HasBegun a) (t : HasBegun b) → a.role ≡ Role.Initiator → b.role ≡ Role.Listener → a.limits ≡ limits → b.limits ≡ limits
+    → a.offers ≡ pair_offers → b.offers ≡ pair_offers
     → AreFresh limits (record { a = a; b = b; to_a = []; to_b = []; accounts = [] })
-two-begin limits a b s t ra rb la lb = record {
+two-begin limits a b s t ra rb la lb oa ob = record {
   world = record { two = record { a = end_of_new a s.given; b = end_of_new b t.given; to_a = []; to_b = [] }; accounts = [] };
   fresh = record {
     begun = record {
@@ -24,6 +25,9 @@ two-begin limits a b s t ra rb la lb = record {
     limits_a = la;
     limits_b = lb;
     none = refl;
+    role_a = ra;
+    offers_a = oa;
+    offers_b = ob;
   };
   kept = refl;
 }

@@ -1,6 +1,8 @@
 -- Two ends before a schedule is run, and the whole work of the command: the text of a schedule, and
 -- its report.
-use Rattle.std.specs.Prelude.{◌≡◌, ℕ, List, []}
+use Rattle.std.specs.Prelude.{◌≡◌, ℕ, false, List, [], ◌∷◌}
+use Rattle.beep_journal.specs.declared.role.Role.{Role}
+use Rattle.beep_decide.specs.Decide.{PlainOffer}
 use Rattle.beep_standing.specs.Standing.{Marks, no_marks}
 use Rattle.beep_hearing.specs.Hears.{SameAbove}
 use Rattle.beep_session.specs.declared.limits.Limits.{Limits}
@@ -11,9 +13,14 @@ use Rattle.beep_schedule.specs.Schedule.{Says}
 use Rattle.beep_schedule.specs.Refused.{IsBadAt}
 use Rattle.beep_two_sessions.specs.World.{IsBegun}
 use Rattle.beep_pair.specs.declared.command.Outcome.{Outcome}
+use Rattle.beep_pair.specs.Acts.{pair_uri}
 use Rattle.beep_pair.specs.Sessions.{Sessions}
 use Rattle.beep_pair.specs.World.{World, kept_of}
 use Rattle.beep_pair.specs.Report.{Reported}
+
+-- what both ends offer
+abbrev pub pair_offers : List PlainOffer
+pair_offers = record { uri = pair_uri; tuning = false } ∷ []
 
 -- a session that begins: nothing was given but its greeting
 pub record HasBegun (session : Held) : Type 0 where
@@ -22,12 +29,16 @@ pub record HasBegun (session : Held) : Type 0 where
   pub limits : AreLimits session.limits
   pub stands : IsLawfulSession session [] [] [] given no_marks
 
--- two sessions with these limits that begin, nothing between them, and no life
+-- two sessions with these limits that begin, A the initiator, which both offer the one profile;
+-- nothing between them, and no life
 pub record IsFresh (limits : Limits) (world : World) : Type 0 where
   pub begun : IsBegun world.two
   pub limits_a : world.two.a.session.limits ≡ limits
   pub limits_b : world.two.b.session.limits ≡ limits
   pub none : world.accounts ≡ []
+  pub role_a : world.two.a.session.role ≡ Role.Initiator
+  pub offers_a : world.two.a.session.offers ≡ pair_offers
+  pub offers_b : world.two.b.session.offers ≡ pair_offers
 
 -- they are what is kept of such a world
 pub record AreFresh (limits : Limits) (both : Sessions) : Type 0 where

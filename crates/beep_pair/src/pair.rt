@@ -7,7 +7,7 @@ ghost use Rattle.beep_session.specs.Session.{AreLimits};
 ghost use Rattle.beep_schedule.specs.declared.limits.TheConstants.{MAX_COUNT, MAX_FRAME};
 ghost use Rattle.beep_schedule.specs.Events.{is_event, is_act, AreEvents, is_from_to};
 ghost use Rattle.beep_pair.specs.Sessions.{IsReady, Gets};
-ghost use Rattle.beep_pair.specs.Command.{HasBegun};
+ghost use Rattle.beep_pair.specs.Command.{HasBegun, pair_offers};
 
 use crate::answer::Answer;
 use crate::deed::{Deed, act_counted};
@@ -66,6 +66,7 @@ fn new_end(alloc: Global, role: Role, limits: Limits) -> Result<Session, NoMemor
     ensures begun { IfOk result (λ session. HasBegun session) }
     ensures terms { IfOk result (λ session. (session.role ≡ role)
         × (session.limits ≡ limits)) }
+    ensures offers { IfOk result (λ session. session.offers ≡ pair_offers) }
 {
     let uri = pair_text(alloc)?;
     let mut offers = Offers::new(alloc);

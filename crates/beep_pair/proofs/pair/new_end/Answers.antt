@@ -1,6 +1,7 @@
-use Rattle.std.proofs.Common.{◌∙◌, false, [], ◌∷◌, ◌++◌, ap, sym, subst}
+use Rattle.std.proofs.Common.{◌∙◌, false, [], ◌∷◌, ◌++◌, refl, ap, sym, subst}
+use Rattle.beep_decide.specs.declared.decision.Offer.{Offer}
 use Rattle.beep_session.specs.Session.{AreLimits}
-use Rattle.beep_pair.proofs.UriLemmas.{offer_fits}
+use Rattle.beep_pair.proofs.UriLemmas.{offer_fits, offer_is}
 use Rattle.beep_pair.proofs.ReadyLemmas.{begun_with}
 use Rattle.beep_pair.proofs.pair.new_end.Goals as goal
 
@@ -19,3 +20,9 @@ returns-clause-begun c =
       limits = subst (λ limits. AreLimits limits) (sym e.terms.2) c.requires.limits;
       stands = e.lawful e.stands;
     }
+
+pub returns-clause-offers : goal.returns-clause-offers
+returns-clause-offers c =
+    let offer : Offer = record { uri = c.in_ok-uri.uri; tuning = false } in
+    c.in_ok-session.ensures.terms.1
+    ∙ offer_is c.push.new.self offer (c.in_ok-push.ensures.ok ∙ ap (λ xs. xs ++ offer ∷ []) c.new-offers.ensures) c.in_ok-uri.ensures.uri refl
