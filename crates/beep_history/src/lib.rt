@@ -5,11 +5,10 @@
 //!
 //! Each word is stated in specs/ over the whole history, the latest item first. Beside the
 //! definitions stands
-//! a plain, slow program whose contract they are, and a table of short histories on which it is
-//! run.
+//! a plain, slow program whose contract they are. `history_examples` has a table of short histories
+//! on which it is run.
 #![tactic(auto)]
 
-mod examples;
 mod history;
 mod journal;
 pub mod laws;
@@ -17,10 +16,6 @@ mod limits;
 mod verdict;
 mod windows;
 
-pub use examples::{
-    EXAMPLES, Example, ExampleStep, LIMIT_EXAMPLES, LimitExample, WINDOW_EXAMPLES, WindowExample,
-    request, step_of, unfinished_answer,
-};
 pub use history::{
     has_answer, has_passed_whole, is_new_request, last_frame, latest_request, request_count,
 };

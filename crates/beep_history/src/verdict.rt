@@ -346,6 +346,3 @@ fn begins_answer(side: Side, past: &[JournalItem], head: &Head) -> bool
             Some(position) => !has_unfinished(side.other(), position, head.ansno, past),
         }
 }
-
-#[cfg(test)]
-mod tests;

@@ -7,6 +7,7 @@
 #![tactic(auto)]
 
 mod event;
+#[cfg(test)]
 mod examples;
 mod form;
 mod item;
@@ -18,9 +19,6 @@ mod verdict;
 mod zero;
 
 pub use event::LifeEvent;
-pub use examples::{
-    ANSWERS, CHANNELS, FIRST_FRAMES, LIVES, OCTETS, REQUESTS, SEQS, SessionExample,
-};
 pub use form::has_form;
 pub use of_life::{history, is_released, is_there, life, life_now};
 pub use of_lives::{has_ended, is_live, life_named, lives};

@@ -2,11 +2,11 @@ ghost use Rattle.std.specs.Prelude.{◌≡◌};
 
 use super::Exchange;
 use beep_frame::{Head, Kind, Rule, Tag};
-use beep_history::{
-    EXAMPLES, ExampleStep, JournalItem, LIMIT_EXAMPLES, Side, exchange_rule, request, step_of,
-    unfinished_answer,
-};
+use beep_history::{JournalItem, Side, exchange_rule};
 use beep_octets::Octets;
+use history_examples::{
+    EXAMPLES, ExampleStep, LIMIT_EXAMPLES, request, step_of, unfinished_answer,
+};
 use std::alloc::Global;
 use std::process::Abort;
 use std::test::Fail;

@@ -6,8 +6,8 @@
 //! number; a SEQ as its side, keyword, ackno and window. Frames have the channel 1 and the sequence
 //! number that comes next.
 
-use crate::journal::Side;
 use beep_frame::{Head, Kind, Rule, Seq};
+use beep_history::Side;
 
 /// One thing that happens in an example.
 #[derive(Clone, Copy, Debug)]

@@ -1,9 +1,8 @@
-use super::{broken_rule, broken_within};
 use crate::examples::{
     EXAMPLES, ExampleStep, LIMIT_EXAMPLES, WINDOW_EXAMPLES, request, step_of, unfinished_answer,
 };
-use crate::journal::{JournalItem, Side};
 use beep_frame::{Head, Rule};
+use beep_history::{JournalItem, Side, broken_rule, broken_within};
 use beep_octets::Octets;
 use std::alloc::Global;
 use std::test::Fail;
