@@ -1,2 +1,3 @@
 pub mod PlaceLemmas
 pub mod OrderLemmas
+pub mod SearchLemmas

@@ -11,7 +11,7 @@ IsPlace p i [] = ⊥
 IsPlace p zero (x ∷ xs) = p x ≡ true
 IsPlace p (suc i) (x ∷ xs) = (p x ≡ false) × IsPlace p i xs
 
-place-of : {X : Type 0} (p : X → Bool) (xs : List X) (i : ℕ) (d : X) → i < length xs → p (get_or xs i d) ≡ true
+pub place-of : {X : Type 0} (p : X → Bool) (xs : List X) (i : ℕ) (d : X) → i < length xs → p (get_or xs i d) ≡ true
     → ((k : ℕ) → k < i → p (get_or xs k d) ≡ false) → IsPlace p i xs
 place-of p [] i d within passes before = absurd (omega arith)
 place-of p (x ∷ xs) zero d within passes before = passes

@@ -59,7 +59,10 @@ impl Turns {
     pub fn find(&self, channel: u32) -> Option<usize>
         ensures { result ≡ position (λ n. n == channel) self.now }
     {
-        self.channels.iter().position(|n| *n == channel)
+        match self.channels.binary_search(&channel) {
+            Ok(place) => Some(place),
+            Err(_) => None,
+        }
     }
 
     /// Adds a channel at its ascending place. It takes no memory.
