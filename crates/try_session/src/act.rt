@@ -1,12 +1,12 @@
 //! The acts of a schedule, and how they are drawn.
 
-use crate::book::Who;
 use crate::dice::Dice;
 use crate::end::NUMBERS;
 use crate::world::kind_of;
 use beep_frame::Kind;
 use beep_seq::{MAX_WINDOW, MIN_WINDOW};
 use beep_session::{Limits, MAX_PIECE};
+use try_book::Who;
 
 /// What an end does in one step.
 #[derive(Clone, Copy, Debug)]

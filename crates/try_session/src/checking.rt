@@ -1,9 +1,8 @@
 //! Schedules that are drawn, run and checked.
 
-use crate::counts::Counts;
-use crate::stop::{Fault, Stop};
 use crate::world::World;
 use std::alloc::Global;
+use try_book::{Counts, Fault, Stop};
 
 /// Where a run stopped, and why.
 #[derive(Clone, Copy, Debug)]

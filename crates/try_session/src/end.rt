@@ -1,8 +1,5 @@
 //! One end of a run: its session, the octets that it sent, and what it does.
 
-use crate::book::{Book, Who, octet_of};
-use crate::log::Log;
-use crate::stop::{Fault, Stop};
 use beep_channel::AskError;
 use beep_chars::Text;
 use beep_decide::Offer;
@@ -18,6 +15,7 @@ use beep_session::{
 };
 use beep_speaking::Emit;
 use std::alloc::Global;
+use try_book::{Book, Fault, Log, Stop, Who, octet_of};
 
 /// The numbers of channels are below this.
 pub(crate) const NUMBERS: u32 = 8;

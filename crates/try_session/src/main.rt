@@ -2,23 +2,18 @@
 #![tactic(auto)]
 
 mod act;
-mod book;
 mod checking;
-mod counts;
 mod dice;
 mod end;
-mod log;
-mod stop;
 mod world;
 
 use crate::checking::{Place, check_all, finish};
-use crate::counts::Counts;
-use crate::stop::{Fault, Stop};
 use crate::world::World;
 use std::alloc::Global;
 use std::env::{self, Env};
 use std::io;
 use std::process::ExitCode;
+use try_book::{Counts, Fault, Stop};
 
 /// The schedules that are checked without words.
 const SEED: u64 = 1;

@@ -1,13 +1,12 @@
 //! One schedule: two sessions, the wires between them, and the acts that are drawn.
 
 use crate::act::{Act, Mood, draw, drawn_mood};
-use crate::book::{Book, Who};
 use crate::dice::Dice;
 use crate::end::{End, MOST_TAKEN, NUMBERS};
-use crate::stop::{Fault, Stop};
 use beep_frame::Kind;
 use beep_session::MAX_PIECE;
 use std::alloc::Global;
+use try_book::{Book, Fault, Stop, Who};
 
 /// Each schedule of so many is short, and its journals are kept and judged.
 const EACH: u64 = 8;

@@ -2,25 +2,25 @@
 
 /// What happened in schedules, at both ends.
 #[derive(Clone, Copy, Debug)]
-pub(crate) struct Counts {
+pub struct Counts {
     /// Schedules, and their acts.
-    pub(crate) schedules: u64,
-    pub(crate) acts: u64,
+    pub schedules: u64,
+    pub acts: u64,
     /// Messages that were given and wholly taken.
-    pub(crate) given: u64,
-    pub(crate) taken: u64,
+    pub given: u64,
+    pub taken: u64,
     /// Lives that began and ended, at each end.
-    pub(crate) begun: u64,
-    pub(crate) ended: u64,
+    pub begun: u64,
+    pub ended: u64,
     /// Replies to own closes whose life had ended, and releases.
-    pub(crate) stale: u64,
-    pub(crate) released: u64,
+    pub stale: u64,
+    pub released: u64,
     /// Items of journals that were judged.
-    pub(crate) items: u64,
+    pub items: u64,
 }
 
 impl Counts {
-    pub(crate) fn new() -> Counts {
+    pub fn new() -> Counts {
         Counts {
             schedules: 0,
             acts: 0,
@@ -35,7 +35,7 @@ impl Counts {
     }
 
     /// Whether each of these happened.
-    pub(crate) fn has_each(&self) -> bool {
+    pub fn has_each(&self) -> bool {
         self.given > 0
             && self.taken > 0
             && self.begun > 0
@@ -46,7 +46,7 @@ impl Counts {
     }
 
     /// These and others join.
-    pub(crate) fn add(&mut self, more: &Counts) {
+    pub fn add(&mut self, more: &Counts) {
         self.schedules = self.schedules.saturating_add(more.schedules);
         self.acts = self.acts.saturating_add(more.acts);
         self.given = self.given.saturating_add(more.given);

@@ -7,7 +7,7 @@ use std::io;
 
 /// Why a run stops early.
 #[derive(Clone, Copy, Debug)]
-pub(crate) enum Stop {
+pub enum Stop {
     /// The words are no run.
     Words,
     /// A call was refused that is never refused here.
@@ -22,7 +22,7 @@ pub(crate) enum Stop {
 
 /// What a session must not do.
 #[derive(Clone, Copy, Debug)]
-pub(crate) enum Fault {
+pub enum Fault {
     /// An end heard a broken rule, at this octet.
     Broken(Rule, u64),
     /// A message of channel zero that waits wasn't settled.

@@ -8,14 +8,14 @@ use std::alloc::Global;
 
 /// One of the two ends: A is the initiator.
 #[derive(Clone, Copy, Debug, PartialEq, Eq)]
-pub(crate) enum Who {
+pub enum Who {
     A,
     B,
 }
 
 impl Who {
     /// The other end.
-    pub(crate) fn other(self) -> Who {
+    pub fn other(self) -> Who {
         match self {
             Who::A => Who::B,
             Who::B => Who::A,
@@ -139,7 +139,7 @@ fn says(message: &Message, at: u32, octets: &[u8]) -> bool {
 }
 
 /// The octet of a message at a place.
-pub(crate) fn octet_of(id: u32, place: u32) -> u8 {
+pub fn octet_of(id: u32, place: u32) -> u8 {
     let mixed = id
         .wrapping_mul(31)
         .wrapping_add(place.wrapping_mul(7))
@@ -173,14 +173,14 @@ impl Life {
 
 /// All lives of a schedule.
 #[derive(Drop)]
-pub(crate) struct Book {
+pub struct Book {
     alloc: Global,
     lives: Vec<Life>,
-    pub(crate) counts: Counts,
+    pub counts: Counts,
 }
 
 impl Book {
-    pub(crate) fn new(alloc: Global) -> Book {
+    pub fn new(alloc: Global) -> Book {
         Book {
             alloc,
             lives: Vec::new(alloc),
@@ -189,7 +189,7 @@ impl Book {
     }
 
     /// What tells the message that is given next from all others.
-    pub(crate) fn next_id(&self) -> u32 {
+    pub fn next_id(&self) -> u32 {
         (self.counts.given % 4294967296) as u32
     }
 
@@ -204,12 +204,12 @@ impl Book {
     }
 
     /// Whether a number lives at an end.
-    pub(crate) fn lives(&mut self, who: Who, number: u32) -> bool {
+    pub fn lives(&mut self, who: Who, number: u32) -> bool {
         self.current(who, number).is_some()
     }
 
     /// A life of a number begins at an end.
-    pub(crate) fn begin(&mut self, who: Who, number: u32) -> Result<(), Stop> {
+    pub fn begin(&mut self, who: Who, number: u32) -> Result<(), Stop> {
         self.counts.begun = self.counts.begun.saturating_add(1);
         for life in self.lives.iter_mut() {
             if life.number == number && !life.half(who).begun {
@@ -230,7 +230,7 @@ impl Book {
     }
 
     /// The life of a number ends at an end: it has taken all that the other gave.
-    pub(crate) fn end(&mut self, who: Who, number: u32) -> Result<(), Stop> {
+    pub fn end(&mut self, who: Who, number: u32) -> Result<(), Stop> {
         self.counts.ended = self.counts.ended.saturating_add(1);
         let Some(life) = self.current(who, number) else {
             return Err(Stop::Found(Fault::NoLife));
@@ -244,7 +244,7 @@ impl Book {
     }
 
     /// An end gives a message.
-    pub(crate) fn give(&mut self, who: Who, number: u32, kind: Kind, len: u32) -> Result<(), Stop> {
+    pub fn give(&mut self, who: Who, number: u32, kind: Kind, len: u32) -> Result<(), Stop> {
         let id = self.next_id();
         let Some(life) = self.current(who, number) else {
             return Err(Stop::Found(Fault::NoLife));
@@ -255,13 +255,7 @@ impl Book {
     }
 
     /// An end takes a part.
-    pub(crate) fn take(
-        &mut self,
-        who: Who,
-        number: u32,
-        part: &Part,
-        octets: &[u8],
-    ) -> Result<(), Stop> {
+    pub fn take(&mut self, who: Who, number: u32, part: &Part, octets: &[u8]) -> Result<(), Stop> {
         let Some(life) = self.current(who, number) else {
             return Err(Stop::Found(Fault::NoLife));
         };
@@ -273,7 +267,7 @@ impl Book {
     }
 
     /// The position of the request that an end asks next.
-    pub(crate) fn position(&mut self, who: Who, number: u32) -> Option<u64> {
+    pub fn position(&mut self, who: Who, number: u32) -> Option<u64> {
         match self.current(who, number) {
             Some(life) => Some(life.half(who).asked),
             None => None,
@@ -281,7 +275,7 @@ impl Book {
     }
 
     /// The answers that an end has given to the request that it owes a reply, where it owes one.
-    pub(crate) fn owed(&mut self, who: Who, number: u32) -> Option<u32> {
+    pub fn owed(&mut self, who: Who, number: u32) -> Option<u32> {
         let life = self.current(who, number)?;
         if life.half(who).replied < life.half(who.other()).taken_requests {
             Some(life.half(who).answers)
@@ -291,7 +285,7 @@ impl Book {
     }
 
     /// Whether all that was given is taken.
-    pub(crate) fn is_all_taken(&self) -> bool {
+    pub fn is_all_taken(&self) -> bool {
         for life in self.lives.iter() {
             if !life.a.is_all_taken() || !life.b.is_all_taken() {
                 return false;

@@ -14,7 +14,7 @@ const MOST_JUDGED: usize = 60;
 
 /// The journal of an end, the latest item last.
 #[derive(Drop)]
-pub(crate) struct Log {
+pub struct Log {
     alloc: Global,
     sent: Decoder,
     received: Decoder,
@@ -22,7 +22,7 @@ pub(crate) struct Log {
 }
 
 impl Log {
-    pub(crate) fn new(alloc: Global) -> Result<Log, Stop> {
+    pub fn new(alloc: Global) -> Result<Log, Stop> {
         Ok(Log {
             alloc,
             sent: Decoder::new(alloc, MAX_PAYLOAD)?,
@@ -32,7 +32,7 @@ impl Log {
     }
 
     /// These octets were sent or received.
-    pub(crate) fn add(&mut self, side: Side, octets: &[u8]) -> Result<(), Stop> {
+    pub fn add(&mut self, side: Side, octets: &[u8]) -> Result<(), Stop> {
         let mut rest = octets;
         for _ in 0..=octets.len() {
             let (used, item) = match side {
@@ -55,7 +55,7 @@ impl Log {
 
     /// Runs the plain programs over its first items, once, and answers over how many: no item that
     /// arrived breaks a rule, and none that was sent breaks what `is_lawful` asks of it.
-    pub(crate) fn judge(&mut self, terms: &Terms) -> Result<usize, Stop> {
+    pub fn judge(&mut self, terms: &Terms) -> Result<usize, Stop> {
         self.items.truncate(MOST_JUDGED);
         self.items.reverse();
         let journal = self.items.as_slice();
