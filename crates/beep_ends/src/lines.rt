@@ -2,6 +2,7 @@
 ghost use Rattle.std.specs.Prelude.{◌≡◌, ◌≤◌, IfErr};
 ghost use Rattle.beep_wires.specs.Counts.{Rose};
 ghost use Rattle.beep_link.specs.declared.ended.Stop.{Stop as StopValue};
+ghost use Rattle.beep_link.specs.Causes.{WithText};
 ghost use Rattle.beep_ends.specs.Logs.{SaysNothing};
 
 use beep_link::{BUFFER, Stop};
@@ -31,6 +32,8 @@ impl Lines {
         ensures failed { IfErr result (λ stop. stop ≡ StopValue.WriteFault
             → Rose (O.state output.old).faults (O.state output.new).faults) }
         ensures stopped { IfErr result (λ stop. SaysNothing stop) }
+        ensures wrote { WithText (O.state output.old).written (O.state output.new).written
+            (λ _. Unit {0}) }
         ensures kept { (O.state output.old).faults ≤ (O.state output.new).faults }
     {
         let body = body(message);
@@ -47,6 +50,8 @@ impl Lines {
         ensures failed { IfErr result (λ stop. stop ≡ StopValue.WriteFault
             → Rose (O.state output.old).faults (O.state output.new).faults) }
         ensures stopped { IfErr result (λ stop. SaysNothing stop) }
+        ensures wrote { WithText (O.state output.old).written (O.state output.new).written
+            (λ _. Unit {0}) }
         ensures kept { (O.state output.old).faults ≤ (O.state output.new).faults }
     {
         let room = line_room(entry.len());
@@ -66,6 +71,8 @@ impl Lines {
         ensures failed { IfErr result (λ stop. stop ≡ StopValue.WriteFault
             → Rose (O.state output.old).faults (O.state output.new).faults) }
         ensures stopped { IfErr result (λ stop. SaysNothing stop) }
+        ensures wrote { WithText (O.state output.old).written (O.state output.new).written
+            (λ _. Unit {0}) }
         ensures kept { (O.state output.old).faults ≤ (O.state output.new).faults }
     {
         let written = write_all(output, self.octets.as_slice());

@@ -6,7 +6,7 @@ ghost use Rattle.beep_wires.specs.Log.{Entry, read as came};
 ghost use Rattle.beep_journal.specs.Log.{Moment, got_all, put_all};
 ghost use Rattle.beep_lawful.specs.declared.terms.Terms.{Terms as TermsValue};
 ghost use Rattle.beep_session.specs.Lawfully.{terms_of};
-ghost use Rattle.beep_link.specs.Causes.{ended_by};
+ghost use Rattle.beep_link.specs.Causes.{ended_by, WithText};
 ghost use Rattle.beep_link.specs.declared.end.TheConstants.{FRAME_ROOM};
 ghost use Rattle.beep_link.specs.declared.ended.Stop.{Stop as StopValue};
 ghost use Rattle.beep_ends.specs.declared.listener.TheConstants.{TAKEN};
@@ -136,6 +136,8 @@ impl Listener {
         ensures terms { terms_of self.new.session ≡ terms_of self.old.session }
         ensures failed { IfErr result (λ stop. stop ≡ StopValue.WriteFault
             → Rose (O.state output.old).faults (O.state output.new).faults) }
+        ensures wrote { WithText (O.state output.old).written (O.state output.new).written
+            (λ _. Unit {0}) }
         ensures kept { (O.state output.old).faults ≤ (O.state output.new).faults }
     {
         let mut at = 0;
@@ -164,6 +166,8 @@ impl Listener {
         ensures terms { terms_of self.new.session ≡ terms_of self.old.session }
         ensures failed { IfErr result (λ stop. stop ≡ StopValue.WriteFault
             → Rose (O.state output.old).faults (O.state output.new).faults) }
+        ensures wrote { WithText (O.state output.old).written (O.state output.new).written
+            (λ _. Unit {0}) }
         ensures kept { (O.state output.old).faults ≤ (O.state output.new).faults }
     {
         let (count, came) = hear_next(&mut self.session, bytes)?;
@@ -217,6 +221,8 @@ impl Listener {
         ensures stopped { IfErr result (λ stop. SaysNothing stop) }
         ensures failed { IfErr result (λ stop. stop ≡ StopValue.WriteFault
             → Rose (O.state output.old).faults (O.state output.new).faults) }
+        ensures wrote { WithText (O.state output.old).written (O.state output.new).written
+            (λ _. Unit {0}) }
         ensures kept { (O.state output.old).faults ≤ (O.state output.new).faults }
     {
         let Some(part) = take_part(&mut self.session, number, self.taken.as_mut_slice()) else {
@@ -238,6 +244,8 @@ impl Listener {
         ensures stopped { IfErr result (λ stop. SaysNothing stop) }
         ensures failed { IfErr result (λ stop. stop ≡ StopValue.WriteFault
             → Rose (O.state output.old).faults (O.state output.new).faults) }
+        ensures wrote { WithText (O.state output.old).written (O.state output.new).written
+            (λ _. Unit {0}) }
         ensures kept { (O.state output.old).faults ≤ (O.state output.new).faults }
     {
         let count = TAKEN.min(part.len as usize);
@@ -267,6 +275,8 @@ impl Listener {
         ensures stopped { IfErr result (λ stop. SaysNothing stop) }
         ensures failed { IfErr result (λ stop. stop ≡ StopValue.WriteFault
             → Rose (O.state output.old).faults (O.state output.new).faults) }
+        ensures wrote { WithText (O.state output.old).written (O.state output.new).written
+            (λ _. Unit {0}) }
         ensures kept { (O.state output.old).faults ≤ (O.state output.new).faults }
     {
         let Ok(()) = self.bodies.extend(i, &self.taken[..count]) else {
@@ -288,17 +298,17 @@ impl End for Listener {
 
     ghost terms = { λ listener. terms_of listener.session };
 
-    ghost stands = { λ one log octets. StandsOn one.session (put_all octets (moments log)) };
+    ghost stands = { λ one log octets _. StandsOn one.session (put_all octets (moments log)) };
 
-    ghost tells = { λ terms ended log. Shows terms ended log };
+    ghost tells = { λ terms ended log _. Shows terms ended log };
 
-    ghost writes = { λ listener log front octets s. writes_on listener.session log front octets s };
+    ghost writes = { λ one log front octets _ s. writes_on one.session log front octets s };
 
-    ghost quiets = { λ listener log s. quiets_on listener.session log s };
+    ghost quiets = { λ listener log _ s. quiets_on listener.session log s };
 
-    ghost closes = { λ listener log s. closes_on listener.session log s };
+    ghost closes = { λ listener log _ s. closes_on listener.session log s };
 
-    ghost stops = { λ one log octets ended is s. stops_on one.session log octets ended is s };
+    ghost stops = { λ one log octets _ ended is s. stops_on one.session log octets ended is s };
 
     fn gather(&mut self, out: &mut Octets) -> Result<bool, NoMemory> {
         let is_given = self.refill()?;
@@ -315,11 +325,14 @@ impl End for Listener {
     }
 
     fn hear<O: Sink>(&mut self, bytes: &[u8], output: &mut O) -> Result<(), Stop>
-        ensures heard { (log : List Entry) → StandsOn self.old.session (moments log)
-            → OnOk result (StandsOn self.new.session (moments (came bytes.now ∷ log))) }
-        ensures stopped { (log : List Entry) → StandsOn self.old.session (moments log)
-            → IfErr result (λ stop.
-            Shows (terms_of self.old.session) (ended_by stop) (came bytes.now ∷ log)) }
+        ensures heard { (log : List Entry) (text : List ℕ)
+            → StandsOn self.old.session (moments log) → OnOk result
+            (WithText (O.state output.old).written (O.state output.new).written
+            (λ _. StandsOn self.new.session (moments (came bytes.now ∷ log)))) }
+        ensures stopped { (log : List Entry) (text : List ℕ)
+            → StandsOn self.old.session (moments log) → IfErr result (λ stop.
+            WithText (O.state output.old).written (O.state output.new).written
+            (λ _. Shows (terms_of self.old.session) (ended_by stop) (came bytes.now ∷ log))) }
         ensures failed { IfErr result (λ stop. stop ≡ StopValue.WriteFault
             → Rose (O.state output.old).faults (O.state output.new).faults) }
         ensures terms { terms_of self.new.session ≡ terms_of self.old.session }
