@@ -261,7 +261,7 @@ impl End for Sender<'_> {
 
     ghost terms = { λ sender. terms_of sender.session };
 
-    ghost stands = { λ sender log octets _. StandsOn sender.session (put_all octets (moments log)) };
+    ghost stands = { λ one log octets _. StandsOn one.session (put_all octets (moments log)) };
 
     ghost tells = { λ terms ended log _. Shows terms ended log };
 
