@@ -9,3 +9,4 @@ mod GatherLemmas
 mod TakenLemmas
 mod GoLemmas
 mod PruneLemmas
+mod ListenLemmas

@@ -10,7 +10,7 @@ ghost use Rattle.beep_link.specs.Causes.{ended_by, WithText};
 ghost use Rattle.beep_link.specs.declared.end.TheConstants.{FRAME_ROOM};
 ghost use Rattle.beep_link.specs.declared.ended.Stop.{Stop as StopValue};
 ghost use Rattle.beep_ends.specs.declared.listener.TheConstants.{TAKEN};
-ghost use Rattle.beep_ends.specs.Listening.{plan_of};
+ghost use Rattle.beep_ends.specs.Listening.{Listens, plan_of};
 ghost use Rattle.beep_ends.specs.Logs.{moments, Shows, StandsOn, StaysOn};
 
 mod hearing;
@@ -68,6 +68,11 @@ impl Listener {
         requires room { FRAME_ROOM ≤ out.old.spare }
         ensures said { (log : List Moment) → StandsOn self.old.session (put_all out.old.octets log)
             → StandsOn self.new.session (put_all out.new.octets log) }
+        ensures listens { (log : List Moment) (text : List ℕ)
+            → Listens self.old.session self.old.bodies self.old.lines.octets.octets
+            (put_all out.old.octets log) text
+            → Listens self.new.session self.new.bodies self.new.lines.octets.octets
+            (put_all out.new.octets log) text }
         ensures plan { plan_of self.new.session ≡ plan_of self.old.session }
         ensures lines { self.new.lines ≡ self.old.lines }
     {
