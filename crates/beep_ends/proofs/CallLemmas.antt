@@ -37,15 +37,22 @@ use Rattle.beep_logged.specs.Logged.{IsLogged, IsLoggedWaiting}
 use Rattle.beep_logged.proofs.ReadLemmas.{read-joins, read-waits, read-breaks, settled, broken-settled}
 use Rattle.beep_logged.proofs.EndLemmas.{put-append}
 use Rattle.beep_logged.proofs.WriteLemmas.{frame-written, seq-written, lawful-frame}
+use Rattle.beep_inbox.specs.Laws.{part_marks}
 use Rattle.beep_ends.specs.Logs.{StandsOn, WaitsOn, StaysOn, ShowsFault}
+use Rattle.beep_ends.proofs.TakenLemmas.{TakesMore, from-more, same-more, to-all, with-more}
 
 -- ---- what stays
 
 pub stays : (session : Held) → StaysOn session session
-stays session = record { terms = refl; stands = λ log s. s }
+stays session = record { terms = refl; offers = refl; taken = λ log s a. a; stands = λ log s. s }
 
 pub stays-trans : (a b c : Held) → StaysOn a b → StaysOn b c → StaysOn a c
-stays-trans a b c p q = record { terms = q.terms ∙ p.terms; stands = λ log s. q.stands log (p.stands log s) }
+stays-trans a b c p q = record {
+  terms = q.terms ∙ p.terms;
+  offers = q.offers ∙ p.offers;
+  taken = λ log s a. q.taken log (p.stands log s) (p.taken log s a);
+  stands = λ log s. q.stands log (p.stands log s);
+}
 
 module _ (old new : Held) (same : IsOfPeer old new) where
   terms-stay : terms_of new ≡ terms_of old
@@ -70,19 +77,25 @@ module _ (old new : Held) (same : IsOfPeer old new) where
 
   -- a call that brings nothing and sends nothing
   peer-stays : ((fed rest : List ℕ) (journal : List Item) (given taken : Marks) → IsPeer old.limits.window fed rest journal given taken old.peer
-      → (now : Marks) × (later : Marks) × IsPeer old.limits.window fed rest journal now later new.peer) → KeepsUpright old new → StaysOn old new
+      → (now : Marks) × (later : Marks) × TakesMore taken later × IsPeer old.limits.window fed rest journal now later new.peer) → KeepsUpright old new → StaysOn old new
   peer-stays f u = record {
     terms = terms-stay;
+    offers = ap (λ (s : Held). s.offers) same;
+    taken = λ log s a.
+        let m = f s.fed s.rest s.journal s.given s.taken s.stands.stands in
+        from-more old.limits.window s.journal m.0 m.1 new.peer.lives m.3.holds.live s.taken m.2
+        (to-all old.limits.window s.journal s.given s.taken old.peer.lives s.stands.stands.holds.live a);
     stands = λ log s.
         let m = f s.fed s.rest s.journal s.given s.taken s.stands.stands in
         on-so s.fed s.rest s.journal m.0 m.1 log
-        (record { stands = m.2; upright = u s.fed s.rest s.journal s.given s.taken s.stands.stands s.stands.upright; lawful = s.stands.lawful }) s.framed s.logged;
+        (record { stands = m.3; upright = u s.fed s.rest s.journal s.given s.taken s.stands.stands s.stands.upright; lawful = s.stands.lawful }) s.framed s.logged;
   }
 
   pub unchanged-stays : IsUnchanged old.peer new.peer → KeepsUpright old new → StaysOn old new
   unchanged-stays g u = peer-stays (λ fed rest journal given taken p. (
     given,
     taken,
+    same-more taken,
     record {
       hears = subst (λ (x : Ear). Hears fed rest journal x) (sym g.ear) p.hears;
       holds = g.holds old.limits.window journal given taken p.holds;
@@ -92,22 +105,22 @@ module _ (old new : Held) (same : IsOfPeer old new) where
 
   pub asks-stays : (octets : List ℕ) → ((fed rest : List ℕ) (journal : List Item) (given taken : Marks) → IsPeer old.limits.window fed rest journal given taken old.peer
       → AsksZero old.limits.window fed rest journal given taken octets new.peer) → KeepsUpright old new → StaysOn old new
-  asks-stays octets f u = peer-stays (λ fed rest journal given taken p. (_, taken, (f fed rest journal given taken p).stands)) u
+  asks-stays octets f u = peer-stays (λ fed rest journal given taken p. (_, taken, same-more taken, (f fed rest journal given taken p).stands)) u
 
 pub still-stays : (old new : Held) → IsStill old new → KeepsUpright old new → StaysOn old new
 still-stays old new s u = unchanged-stays old new s.same s.peer u
 
 pub gives-stays : (number : ℕ) (kind : Kind) (octets : List ℕ) (old new : Held) → Gives number kind octets old new → KeepsUpright old new → StaysOn old new
 gives-stays number kind octets old new g u =
-    peer-stays old new g.same (λ fed rest journal given taken p. (_, taken, (g.gives fed rest journal given taken p).stands)) u
+    peer-stays old new g.same (λ fed rest journal given taken p. (_, taken, same-more taken, (g.gives fed rest journal given taken p).stands)) u
 
 pub closes-stays : (number : ℕ) (old new : Held) → Closes number old new → KeepsUpright old new → StaysOn old new
 closes-stays number old new g u =
-    peer-stays old new g.same (λ fed rest journal given taken p. (_, taken, (g.closes fed rest journal given taken p).stands)) u
+    peer-stays old new g.same (λ fed rest journal given taken p. (_, taken, same-more taken, (g.closes fed rest journal given taken p).stands)) u
 
 pub takes-stays : (number : ℕ) (part : Part) (octets : List ℕ) (old new : Held) → Takes number part octets old new → KeepsUpright old new → StaysOn old new
 takes-stays number part octets old new g u =
-    peer-stays old new g.same (λ fed rest journal given taken p. let m = g.takes fed rest journal given taken p in (m.given_now, _, m.stands)) u
+    peer-stays old new g.same (λ fed rest journal given taken p. let m = g.takes fed rest journal given taken p in (m.given_now, _, with-more number (part_marks part octets) taken, m.stands)) u
 
 -- ---- what comes
 
@@ -217,6 +230,13 @@ one-less fed before text rest octet is spelled =
     let whole : length fed ≡ length (before ++ rest) + 1 =
     ap length (is ∙ ap (λ (x : List ℕ). before ++ x) (sym spelled) ∙ sym (append_assoc before rest (octet ∷ []))) ∙ length-append (before ++ rest) (octet ∷ []) in
     omega (arith, whole)
+
+-- the log shows it then
+pub settles-logged : (old : Held) (log : List Moment) (w : WaitsOn old log) → (is_msg w.head.kind ≡ false → completes_form Side.Received w.head w.payload (zero_history w.journal) ≡ true)
+    → IsLogged (terms_of old) [] (passed Side.Received w.head w.payload ∷ w.journal) log
+settles-logged old log w fits =
+    settled (terms_of old) w.head w.payload w.journal log w.logged w.waits.waits.is_frame (sym w.waits.released ∙ left-false old.peer.released (is_some old.peer.ear.broken) w.going)
+    (content-none w.journal w.head w.payload fits)
 
 module _ (old new : Held) (same : IsOfPeer old new) (log : List Moment) (w : WaitsOn old log) where
   unreleased-waiting : is_released w.journal ≡ false

@@ -17,6 +17,7 @@ use Rattle.beep_standing.specs.Standing.{Marks}
 use Rattle.beep_upright.specs.Frames.{AreFrames}
 use Rattle.beep_upright.specs.Upright.{IsUpright}
 use Rattle.beep_peer.specs.Peering.{WaitsIn, is_over}
+use Rattle.beep_session.specs.Looks.{IsTakenAt}
 use Rattle.beep_session.specs.Session.{Held}
 use Rattle.beep_session.specs.Lawfully.{terms_of, IsLawfulSession}
 use Rattle.beep_logged.specs.Logged.{IsLogged, IsLoggedWaiting, IsLoggedBroken, IsSound}
@@ -114,9 +115,16 @@ pub record WaitsOn (session : Held) (log : List Moment) : Type 0 where
   pub going : is_over session.peer ≡ false
   pub logged : IsLoggedWaiting (terms_of session) head payload journal log
 
--- what a session stood for it stands for still, and its terms stay
+-- nothing above channel zero is untaken
+abbrev pub AreTaken : Held → Type 0
+AreTaken session = (number : ℕ) → IsTakenAt number session.peer.lives
+
+-- what a session stood for it stands for still, its terms and its offers stay, and what was taken
+-- stays so
 pub record StaysOn (old new : Held) : Type 0 where
   pub terms : terms_of new ≡ terms_of old
+  pub offers : new.offers ≡ old.offers
+  pub taken : (log : List Moment) → StandsOn old log → AreTaken old → AreTaken new
   pub stands : (log : List Moment) → StandsOn old log → StandsOn new log
 
 -- what a log shows of a session that is stopped so as it uses octets

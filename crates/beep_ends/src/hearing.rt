@@ -6,6 +6,7 @@ ghost use Rattle.beep_session.specs.Channels.{IsOpen};
 ghost use Rattle.beep_session.specs.Lawfully.{terms_of};
 ghost use Rattle.beep_link.specs.declared.end.TheConstants.{FRAME_ROOM};
 ghost use Rattle.beep_link.specs.declared.ended.Stop.{Stop as StopValue};
+ghost use Rattle.beep_ends.specs.Listening.{ComesSo, SettledOn, Spoke};
 ghost use Rattle.beep_ends.specs.Logs.{ComesOn, StandsOn, StaysOn, StopsOn, WaitsOn};
 
 use beep_inbox::Part;
@@ -30,7 +31,10 @@ pub(crate) fn say_next(session: &mut Session, out: &mut Octets) -> Emit
     requires room { FRAME_ROOM ≤ out.old.spare }
     ensures said { (log : List Moment) → StandsOn session.old (put_all out.old.octets log)
         → StandsOn session.new (put_all out.new.octets log) }
+    ensures spoke { (log : List Moment) (s : StandsOn session.old (put_all out.old.octets log))
+        → Spoke result session.old session.new s.journal (put_all out.new.octets log) }
     ensures terms { terms_of session.new ≡ terms_of session.old }
+    ensures offers { session.new.offers ≡ session.old.offers }
 {
     if session.zero_waits() {
         return Emit::Nothing;
@@ -47,8 +51,12 @@ pub(crate) fn hear_next(session: &mut Session, bytes: &[u8]) -> Result<(usize, C
         StopsOn (terms_of session.old) stop (got_all bytes.now log)) }
     ensures more { (log : List Moment) → StandsOn session.old log → 0 < length bytes.now
         → IfOk result (λ heard. 0 < heard.0) }
+    ensures came { (log : List Moment) (s : StandsOn session.old log) → IfOk result (λ heard.
+        ComesSo heard.1 session.old session.new s.journal
+        (got_all (take heard.0 bytes.now) log)) }
     ensures failed { IfErr result (λ stop. stop ≡ StopValue.WriteFault → ⊥) }
     ensures terms { terms_of session.new ≡ terms_of session.old }
+    ensures offers { session.new.offers ≡ session.old.offers }
 {
     let (count, event) = session.feed(bytes);
     match event {
@@ -87,8 +95,11 @@ pub(crate) fn settle_message(session: &mut Session) -> Result<Settled, Stop>
         → OnOk result (StandsOn session.new log) }
     ensures stopped { (log : List Moment) (octets : List ℕ) → WaitsOn session.old log
         → IfErr result (λ stop. StopsOn (terms_of session.old) stop (got_all octets log)) }
+    ensures done { (log : List Moment) (w : WaitsOn session.old log) → OnOk result
+        (SettledOn session.old session.new w.head w.payload w.journal log) }
     ensures failed { IfErr result (λ stop. stop ≡ StopValue.WriteFault → ⊥) }
     ensures terms { terms_of session.new ≡ terms_of session.old }
+    ensures offers { session.new.offers ≡ session.old.offers }
 {
     match session.settle() {
         Ok(settled) => Ok(settled),

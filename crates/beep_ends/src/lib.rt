@@ -2,12 +2,12 @@
 //! gives them, by the profile RAW (RFC 3195, section 3).
 #![tactic(auto)]
 
-mod bodies;
+mod asking;
 mod fit;
 mod hearing;
-mod lines;
 mod listener;
 mod listening;
+mod pruning;
 #[cfg(test)]
 mod samples;
 mod sender;

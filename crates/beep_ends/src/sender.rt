@@ -7,7 +7,7 @@ ghost use Rattle.beep_journal.specs.Log.{Moment, got_all, put_all};
 ghost use Rattle.beep_lawful.specs.declared.terms.Terms.{Terms as TermsValue};
 ghost use Rattle.beep_session.specs.Lawfully.{terms_of};
 ghost use Rattle.beep_session.specs.Lending.{answering_session, duty_session, IsSameReference};
-ghost use Rattle.beep_link.specs.Causes.{ended_by};
+ghost use Rattle.beep_link.specs.Causes.{ended_by, WithText};
 ghost use Rattle.beep_answering.specs.Sent.{is_uri as is_uri_text};
 ghost use Rattle.beep_link.specs.declared.end.TheConstants.{FRAME_ROOM};
 ghost use Rattle.beep_link.specs.declared.ended.Stop.{Stop as StopValue};
@@ -261,17 +261,17 @@ impl End for Sender<'_> {
 
     ghost terms = { λ sender. terms_of sender.session };
 
-    ghost stands = { λ sender log octets. StandsOn sender.session (put_all octets (moments log)) };
+    ghost stands = { λ one log octets _. StandsOn one.session (put_all octets (moments log)) };
 
-    ghost tells = { λ terms ended log. Shows terms ended log };
+    ghost tells = { λ terms ended log _. Shows terms ended log };
 
-    ghost writes = { λ sender log front octets s. writes_on sender.session log front octets s };
+    ghost writes = { λ one log front octets _ s. writes_on one.session log front octets s };
 
-    ghost quiets = { λ sender log s. quiets_on sender.session log s };
+    ghost quiets = { λ sender log _ s. quiets_on sender.session log s };
 
-    ghost closes = { λ sender log s. closes_on sender.session log s };
+    ghost closes = { λ sender log _ s. closes_on sender.session log s };
 
-    ghost stops = { λ sender log octets ended is s. stops_on sender.session log octets ended is s };
+    ghost stops = { λ one log octets _ ended is s. stops_on one.session log octets ended is s };
 
     fn gather(&mut self, out: &mut Octets) -> Result<bool, NoMemory> {
         let is_given = self.refill()?;
@@ -288,11 +288,14 @@ impl End for Sender<'_> {
     }
 
     fn hear<O: Sink>(&mut self, bytes: &[u8], _output: &mut O) -> Result<(), Stop>
-        ensures heard { (log : List Entry) → StandsOn self.old.session (moments log)
-            → OnOk result (StandsOn self.new.session (moments (came bytes.now ∷ log))) }
-        ensures stopped { (log : List Entry) → StandsOn self.old.session (moments log)
-            → IfErr result (λ stop.
-            Shows (terms_of self.old.session) (ended_by stop) (came bytes.now ∷ log)) }
+        ensures heard { (log : List Entry) (text : List ℕ)
+            → StandsOn self.old.session (moments log) → OnOk result
+            (WithText (O.state _output.old).written (O.state _output.new).written
+            (λ _. StandsOn self.new.session (moments (came bytes.now ∷ log)))) }
+        ensures stopped { (log : List Entry) (text : List ℕ)
+            → StandsOn self.old.session (moments log) → IfErr result (λ stop.
+            WithText (O.state _output.old).written (O.state _output.new).written
+            (λ _. Shows (terms_of self.old.session) (ended_by stop) (came bytes.now ∷ log))) }
         ensures failed { IfErr result (λ stop. stop ≡ StopValue.WriteFault
             → Rose (O.state _output.old).faults (O.state _output.new).faults) }
         ensures terms { terms_of self.new.session ≡ terms_of self.old.session }

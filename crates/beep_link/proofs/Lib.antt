@@ -1,3 +1,3 @@
 -- Proofs.
 mod KeepLemmas
-mod StandLemmas
+pub mod StandLemmas

@@ -1,8 +1,14 @@
 -- What an end stands for, as its link is read and written.
-use Rattle.std.proofs.Common.{◌≡◌, ◌⊎◌, inl, inr, ◌∙◌, sym, ap, subst, ℕ, Option, Some, None, List, [], ◌∷◌, ◌++◌, append-nil, append_assoc}
+use Rattle.std.proofs.Common.{◌≡◌, ◌⊎◌, inl, inr, ◌∙◌, sym, ap, subst, ℕ, Option, Some, None, List, [], ◌∷◌, ◌++◌, length, take, append-nil, append_assoc}
+use lib.Seq.{take-append_seam}
 use Rattle.beep_wires.specs.Log.{Entry, read, wrote, quiet, ended, Logs}
 use Rattle.beep_wires.specs.Writing.{AreWrites}
-use Rattle.beep_link.specs.Causes.{WhereTold}
+use Rattle.std.specs.Io.KnownBytes.{Appends}
+use Rattle.std.proofs.KnownBytes.{Appends-nil, Appends-trans}
+use Rattle.beep_link.specs.Causes.{IsOfTurns, IsSpent, WhereTold, WithText}
+use Rattle.beep_link.specs.declared.ended.Ended.{Ended}
+use Rattle.beep_link.specs.declared.left.Reads.{Reads}
+use Rattle.beep_link.specs.declared.left.Left.{Left}
 
 -- what stands for octets that are to be written stands for the log of those that were, and for the rest
 pub stands-writes : (S : List Entry → List ℕ → Type 0) → ((log : List Entry) (front octets : List ℕ) → S log (front ++ octets) → S (wrote front ∷ log) octets)
@@ -39,7 +45,51 @@ pub told-map : (P Q : List Entry → Type 0) → ((log : List Entry) → P log �
 told-map P Q f None s = tt
 told-map P Q f (Some log) s = f log s
 
+-- one entry more is on the log
+pub entered : (P Q : List Entry → Type 0) (entry : Entry) → ((log : List Entry) → P log → Q (entry ∷ log)) → (old new : Option (List Entry)) → Logs old new (entry ∷ []) → WhereTold P old → WhereTold Q new
+entered P Q entry f None None l s = tt
+entered P Q entry f None (Some new) l s = absurd l
+entered P Q entry f (Some old) None l s = absurd l
+entered P Q entry f (Some old) (Some new) l s = subst Q (sym l) (f old s)
+
+-- none is
+pub kept : (P : List Entry → Type 0) (old new : Option (List Entry)) → Logs old new [] → WhereTold P old → WhereTold P new
+kept P None None l s = tt
+kept P None (Some new) l s = absurd l
+kept P (Some old) None l s = absurd l
+kept P (Some old) (Some new) l s = subst P (sym l) s
+
 -- an empty log stands as such
 pub told-empty : (P : List Entry → Type 0) (log : Option (List Entry)) → P [] → (log ≡ None) ⊎ (log ≡ Some []) → WhereTold P log
 told-empty P log p (inl e) = subst (WhereTold P) (sym e) tt
 told-empty P log p (inr e) = subst (WhereTold P) (sym e) p
+
+-- ---- what was written to the output
+
+-- what holds of one text holds of the other
+pub text-map : (before now : Option (List ℕ)) (P Q : List ℕ → Type 0) → ((text : List ℕ) → P text → Q text) → WithText before now P → WithText before now Q
+text-map before now P Q f (text, grew, p) = (text, grew, f text p)
+
+-- nothing was written
+pub text-none : (now : Option (List ℕ)) (P : List ℕ → Type 0) → P [] → WithText now now P
+text-none now P p = ([], Appends-nil now, p)
+
+-- what was written once, and then again
+pub text-more : (before mid now : Option (List ℕ)) (P Q : List ℕ → Type 0) → ((text : List ℕ) → P text → WithText mid now (λ more. Q (text ++ more))) → WithText before mid P → WithText before now Q
+text-more before mid now P Q f (text, grew, p) = let next = f text p in (text ++ next.0, Appends-trans before mid now text next.0 grew next.1, next.2)
+
+-- where nothing more is read the turns end
+pub spent-is : (ended : Ended) (reads : Reads) (left : Left) → IsSpent ended reads left → IsOfTurns ended
+spent-is Ended.Released reads left s = absurd s
+spent-is (Ended.Broken rule place) reads left s = absurd s
+spent-is Ended.WriteFault reads left s = absurd s
+spent-is Ended.WireFault reads left s = absurd s
+spent-is Ended.NoMemory reads left s = absurd s
+spent-is (Ended.Refused code) reads left s = absurd s
+spent-is (Ended.Cut octets) reads left s = absurd s
+spent-is (Ended.Idle count) reads left s = tt
+spent-is (Ended.Spent count) reads left s = tt
+
+-- the front of two lists is the first
+pub take-front : (front rest : List ℕ) (n : ℕ) → length front ≡ n → take n (front ++ rest) ≡ front
+take-front front rest n is = ap (λ (k : ℕ). take k (front ++ rest)) (sym is) ∙ take-append_seam front rest

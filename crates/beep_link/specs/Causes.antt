@@ -2,6 +2,7 @@
 -- The code counts as it reads; here the log is gone over, whole.
 use Rattle.std.specs.Prelude.{◌≡◌, ◌⊎◌, ℕ, ◌+◌, ◌-◌, ◌*◌, ◌≤◌, ◌<◌, true, false, Option, Some, None, List, [], ◌∷◌, length}
 use Rattle.std.specs.Borrow.{GName}
+use Rattle.std.specs.Io.KnownBytes.{Appends}
 use Rattle.beep_wires.specs.Log.{Entry, read, wrote, quiet, ended}
 use Rattle.beep_wires.specs.Links.{Link, Counts, Asked, SameBeside}
 use Rattle.beep_wires.specs.declared.links.Got.{Got}
@@ -97,6 +98,11 @@ IsWritten cause old new = cause ≡ Ended.WriteFault → Rose old new
 abbrev pub WhereTold : (List Entry → Type 0) → Option (List Entry) → Type 0
 WhereTold P None = Unit {0}
 WhereTold P (Some log) = P log
+
+-- from what an output held before to what it holds now it grew by some octets, of which this holds;
+-- an output that doesn't tell what it holds may have grown by any
+abbrev pub WithText : Option (List ℕ) → Option (List ℕ) → (List ℕ → Type 0) → Type 0
+WithText before now P = (text : List ℕ) × Appends before now text × P text
 
 -- ---- what may still be read
 

@@ -2,7 +2,7 @@
 ghost use Rattle.std.specs.Prelude.{◌≡◌, ◌≤◌, ◌++◌, ◌∷◌, [], ℕ, List, true, IfErr, OnOk};
 ghost use Rattle.beep_wires.specs.Counts.{Rose};
 ghost use Rattle.beep_wires.specs.Log.{Entry, read as came, wrote, quiet, ended as over};
-ghost use Rattle.beep_link.specs.Causes.{ended_by, IsOfTurns};
+ghost use Rattle.beep_link.specs.Causes.{ended_by, IsOfTurns, WithText};
 ghost use Rattle.beep_link.specs.declared.ended.Ended.{Ended as EndedValue};
 ghost use Rattle.beep_link.specs.declared.ended.Stop.{Stop as StopValue};
 ghost use Rattle.beep_link.specs.declared.end.TheConstants.{FRAME_ROOM};
@@ -22,26 +22,31 @@ pub trait End {
 
     ghost terms: { Self → Self.Terms };
 
-    /// It stands for the log of its link, the latest first, once these octets are written too.
-    ghost stands: { Self → List Entry → List ℕ → Type 0 };
+    /// It stands for the log of its link, the latest first, once these octets are written too, and
+    /// for the text that it wrote to its output.
+    ghost stands: { Self → List Entry → List ℕ → List ℕ → Type 0 };
 
-    /// What a log shows where the session of an end with these terms has ended so.
-    ghost tells: { Self.Terms → EndedValue → List Entry → Type 0 };
+    /// What a log shows where the session of an end with these terms has ended so, and what the
+    /// text is then that was written to the output.
+    ghost tells: { Self.Terms → EndedValue → List Entry → List ℕ → Type 0 };
 
     /// Appends what is due now, as far as there is room, and answers whether more may be.
     fn gather(&mut self, out: &mut Octets) -> Result<bool, NoMemory>
         requires room { FRAME_ROOM ≤ out.old.spare }
-        ensures said { (log : List Entry) → Self.stands self.old log out.old.octets
-            → Self.stands self.new log out.new.octets }
+        ensures said { (log : List Entry) (text : List ℕ)
+            → Self.stands self.old log out.old.octets text
+            → Self.stands self.new log out.new.octets text }
         ensures terms { Self.terms self.new ≡ Self.terms self.old };
 
     /// Uses all of these octets, unless it is stopped, and writes what it has to tell.
     fn hear<O: Sink>(&mut self, bytes: &[u8], output: &mut O) -> Result<(), Stop>
-        ensures heard { (log : List Entry) → Self.stands self.old log []
-            → OnOk result (Self.stands self.new (came bytes.now ∷ log) []) }
-        ensures stopped { (log : List Entry) → Self.stands self.old log []
-            → IfErr result (λ stop.
-            Self.tells (Self.terms self.old) (ended_by stop) (came bytes.now ∷ log)) }
+        ensures heard { (log : List Entry) (text : List ℕ) → Self.stands self.old log [] text
+            → OnOk result (WithText (O.state output.old).written (O.state output.new).written
+            (λ more. Self.stands self.new (came bytes.now ∷ log) [] (text ++ more))) }
+        ensures stopped { (log : List Entry) (text : List ℕ) → Self.stands self.old log [] text
+            → IfErr result (λ stop. WithText (O.state output.old).written
+            (O.state output.new).written (λ more. Self.tells (Self.terms self.old)
+            (ended_by stop) (came bytes.now ∷ log) (text ++ more))) }
         ensures failed { IfErr result (λ stop. stop ≡ StopValue.WriteFault
             → Rose (O.state output.old).faults (O.state output.new).faults) }
         ensures terms { Self.terms self.new ≡ Self.terms self.old }
@@ -49,28 +54,30 @@ pub trait End {
 
     /// Whether the session is over.
     fn is_over(&self) -> bool
-        ensures over { (log : List Entry) → result ≡ true → Self.stands self.now log []
-            → Self.tells (Self.terms self.now) EndedValue.Released log };
+        ensures over { (log : List Entry) (text : List ℕ) → result ≡ true
+            → Self.stands self.now log [] text
+            → Self.tells (Self.terms self.now) EndedValue.Released log text };
 
     /// How many octets came of a frame that isn't whole.
     fn left(&self) -> u64
-        ensures cut { (log : List Entry) → Self.stands self.now log []
-            → Self.tells (Self.terms self.now) (EndedValue.Cut result) log };
+        ensures cut { (log : List Entry) (text : List ℕ) → Self.stands self.now log [] text
+            → Self.tells (Self.terms self.now) (EndedValue.Cut result) log text };
 
     /// What is written goes from what is to be written to the log, in pieces of any size.
-    ghost writes: { (end : Self) (log : List Entry) (front octets : List ℕ)
-        → Self.stands end log (front ++ octets) → Self.stands end (wrote front ∷ log) octets };
+    ghost writes: { (end : Self) (log : List Entry) (front octets text : List ℕ)
+        → Self.stands end log (front ++ octets) text
+        → Self.stands end (wrote front ∷ log) octets text };
 
     /// A quiet read and the link's end leave what it stands for.
-    ghost quiets: { (end : Self) (log : List Entry)
-        → Self.stands end log [] → Self.stands end (quiet ∷ log) [] };
+    ghost quiets: { (end : Self) (log : List Entry) (text : List ℕ)
+        → Self.stands end log [] text → Self.stands end (quiet ∷ log) [] text };
 
-    ghost closes: { (end : Self) (log : List Entry)
-        → Self.stands end log [] → Self.stands end (over ∷ log) [] };
+    ghost closes: { (end : Self) (log : List Entry) (text : List ℕ)
+        → Self.stands end log [] text → Self.stands end (over ∷ log) [] text };
 
     /// It may be stopped at any place for want of memory, by a fault of the link and by the
     /// settings.
-    ghost stops: { (end : Self) (log : List Entry) (octets : List ℕ) (ended : EndedValue)
-        → IsOfTurns ended → Self.stands end log octets
-        → Self.tells (Self.terms end) ended log };
+    ghost stops: { (end : Self) (log : List Entry) (octets text : List ℕ) (ended : EndedValue)
+        → IsOfTurns ended → Self.stands end log octets text
+        → Self.tells (Self.terms end) ended log text };
 }

@@ -1,8 +1,8 @@
 //! Writing all that is due.
-ghost use Rattle.std.specs.Prelude.{◌≡◌, ◌⊎◌, [], List, true, IfErr, OnOk};
+ghost use Rattle.std.specs.Prelude.{◌≡◌, ◌⊎◌, [], ℕ, List, Option, true, IfErr, OnOk};
 ghost use Rattle.beep_wires.specs.Counts.{Rose};
 ghost use Rattle.beep_wires.specs.Log.{Entry};
-ghost use Rattle.beep_link.specs.Causes.{Keeps, SameReads, WhereTold};
+ghost use Rattle.beep_link.specs.Causes.{Keeps, SameReads, WhereTold, WithText};
 ghost use Rattle.beep_link.specs.declared.ended.Ended.{Ended as EndedValue};
 
 use crate::buffers::BUFFER;
@@ -24,11 +24,16 @@ pub(crate) fn say<E: End, W: Wires>(
 ) -> Result<(), Ended>
     requires open { (W.state wires.old link).is_open ≡ true }
     requires empty { going.old.octets ≡ [] }
-    ensures said { WhereTold (λ log. E.stands end.old log []) (W.state wires.old link).log
-        → OnOk result (WhereTold (λ log. E.stands end.new log []) (W.state wires.new link).log) }
-    ensures stopped { WhereTold (λ log. E.stands end.old log []) (W.state wires.old link).log
-        → IfErr result (λ ended.
-        WhereTold (E.tells (E.terms end.old) ended) (W.state wires.new link).log) }
+    ensures said { (before now : Option (List ℕ))
+        → WhereTold (λ log. WithText before now (E.stands end.old log []))
+        (W.state wires.old link).log → OnOk result
+        (WhereTold (λ log. WithText before now (E.stands end.new log []))
+        (W.state wires.new link).log) }
+    ensures stopped { (before now : Option (List ℕ))
+        → WhereTold (λ log. WithText before now (E.stands end.old log []))
+        (W.state wires.old link).log → IfErr result (λ ended.
+        WhereTold (λ log. WithText before now (E.tells (E.terms end.old) ended log))
+        (W.state wires.new link).log) }
     ensures failed { IfErr result (λ ended. (ended ≡ EndedValue.NoMemory)
         ⊎ ((ended ≡ EndedValue.WireFault)
         × Rose (W.state wires.old link).faults (W.state wires.new link).faults)) }
@@ -71,8 +76,8 @@ pub(crate) fn say<E: End, W: Wires>(
 
 /// Gathers what is due, as far as the buffer goes.
 fn gather_some<E: End>(end: &mut E, going: &mut Octets) -> Result<bool, NoMemory>
-    ensures said { (log : List Entry) → E.stands end.old log going.old.octets
-        → E.stands end.new log going.new.octets }
+    ensures said { (log : List Entry) (text : List ℕ) → E.stands end.old log going.old.octets text
+        → E.stands end.new log going.new.octets text }
     ensures terms { E.terms end.new ≡ E.terms end.old }
 {
     // It takes memory only where the room isn't there.

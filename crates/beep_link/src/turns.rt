@@ -1,7 +1,7 @@
 //! The turns over a link.
-ghost use Rattle.std.specs.Prelude.{◌≡◌, ◌≤◌, ◌<◌, ◌+◌, ◌*◌, ℕ, [], true, false, OnOk, IfErr, vec_len};
+ghost use Rattle.std.specs.Prelude.{◌≡◌, ◌≤◌, ◌<◌, ◌+◌, ◌*◌, ℕ, [], List, Option, true, false, OnOk, IfErr, vec_len};
 ghost use Rattle.beep_wires.specs.Links.{Link};
-ghost use Rattle.beep_link.specs.Causes.{CountsQuiet, IsCaused, IsUnused, IsWritten, Keeps, reads_left, TellsLeft, WhereTold};
+ghost use Rattle.beep_link.specs.Causes.{CountsQuiet, IsCaused, IsUnused, IsWritten, Keeps, reads_left, TellsLeft, WhereTold, WithText};
 ghost use Rattle.beep_link.specs.declared.buffers.TheConstants.{BUFFER};
 
 use crate::buffers::{BUFFER, Buffers};
@@ -28,8 +28,9 @@ pub fn run_turns<E: End, W: Wires, O: Sink>(
         (record { link = W.state wires.old link; quiets = (W.counts wires.old).quiets })
         (record { link = W.state wires.new link; quiets = (W.counts wires.new).quiets }) }
     ensures written { IsWritten result (O.state output.old).faults (O.state output.new).faults }
-    ensures told { E.stands end.old [] []
-        → WhereTold (E.tells (E.terms end.old) result) (W.state wires.new link).log }
+    ensures told { E.stands end.old [] [] [] → WhereTold (λ log.
+        WithText (O.state output.old).written (O.state output.new).written
+        (E.tells (E.terms end.old) result log)) (W.state wires.new link).log }
 
     // What stays, and how often is read.
     ensures keeps { Keeps link
@@ -76,11 +77,15 @@ fn turn<E: End, W: Wires, O: Sink>(
     requires told { TellsLeft reads left.old (W.state wires.old link).log }
     requires buffer { vec_len buffers.old.coming ≡ BUFFER }
     requires empty { buffers.old.going.octets ≡ [] }
-    ensures stands { WhereTold (λ log. E.stands end.old log []) (W.state wires.old link).log
-        → OnOk result (WhereTold (λ log. E.stands end.new log []) (W.state wires.new link).log) }
-    ensures stopped { WhereTold (λ log. E.stands end.old log []) (W.state wires.old link).log
-        → IfErr result (λ ended.
-        WhereTold (E.tells (E.terms end.old) ended) (W.state wires.new link).log) }
+    ensures stands { (before : Option (List ℕ)) → WhereTold (λ log. WithText before
+        (O.state output.old).written (E.stands end.old log [])) (W.state wires.old link).log
+        → OnOk result (WhereTold (λ log. WithText before
+        (O.state output.new).written (E.stands end.new log [])) (W.state wires.new link).log) }
+    ensures stopped { (before : Option (List ℕ)) → WhereTold (λ log. WithText before
+        (O.state output.old).written (E.stands end.old log [])) (W.state wires.old link).log
+        → IfErr result (λ ended. WhereTold (λ log. WithText before
+        (O.state output.new).written (E.tells (E.terms end.old) ended log))
+        (W.state wires.new link).log) }
     ensures going { OnOk result ((W.state wires.new link).has_ended ≡ false) }
     ensures falls { OnOk result (reads_left reads left.new < reads_left reads left.old) }
     ensures told { OnOk result (TellsLeft reads left.new (W.state wires.new link).log) }

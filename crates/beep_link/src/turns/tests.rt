@@ -1,5 +1,7 @@
-ghost use Rattle.std.specs.Prelude.{◌≡◌, ◌≤◌, true, IfErr};
+ghost use Rattle.std.specs.Prelude.{◌≡◌, ◌≤◌, ℕ, List, true, IfErr, OnOk};
 ghost use Rattle.beep_wires.specs.Counts.{Rose};
+ghost use Rattle.beep_wires.specs.Log.{Entry};
+ghost use Rattle.beep_link.specs.Causes.{WithText};
 ghost use Rattle.beep_link.specs.declared.ended.Stop.{Stop as StopValue};
 
 use super::*;
@@ -21,17 +23,17 @@ impl End for Echo {
 
     ghost terms = { λ _. tt };
 
-    ghost stands = { λ _ _ _. Unit {0} };
+    ghost stands = { λ _ _ _ _. Unit {0} };
 
-    ghost tells = { λ _ _ _. Unit {0} };
+    ghost tells = { λ _ _ _ _. Unit {0} };
 
-    ghost writes = { λ _ _ _ _ _. tt };
+    ghost writes = { λ _ _ _ _ _ _. tt };
 
-    ghost quiets = { λ _ _ _. tt };
+    ghost quiets = { λ _ _ _ _. tt };
 
-    ghost closes = { λ _ _ _. tt };
+    ghost closes = { λ _ _ _ _. tt };
 
-    ghost stops = { λ _ _ _ _ _ _. tt };
+    ghost stops = { λ _ _ _ _ _ _ _. tt };
 
     fn gather(&mut self, out: &mut Octets) -> Result<bool, NoMemory> {
         if self.due == 0 {
@@ -43,6 +45,12 @@ impl End for Echo {
     }
 
     fn hear<O: Sink>(&mut self, bytes: &[u8], _output: &mut O) -> Result<(), Stop>
+        ensures heard { (log : List Entry) (text : List ℕ) → Unit {0} → OnOk result
+            (WithText (O.state _output.old).written (O.state _output.new).written
+            (λ _. Unit {0})) }
+        ensures stopped { (log : List Entry) (text : List ℕ) → Unit {0} → IfErr result
+            (λ _. WithText (O.state _output.old).written (O.state _output.new).written
+            (λ _. Unit {0})) }
         ensures failed { IfErr result (λ stop. stop ≡ StopValue.WriteFault
             → Rose (O.state _output.old).faults (O.state _output.new).faults) }
         ensures kept { (O.state _output.old).faults ≤ (O.state _output.new).faults }

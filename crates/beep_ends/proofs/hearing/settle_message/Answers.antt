@@ -1,6 +1,10 @@
 -- A message that is settled has passed, or its last octet broke a rule.
-use Rattle.std.proofs.Common.{refl, ap, Err}
-use Rattle.beep_ends.proofs.CallLemmas.{settles-on, fault-on}
+use Rattle.std.proofs.Common.{◌≡◌, false, true, refl, ap, Err}
+use Rattle.beep_frame.specs.Frame.{is_msg}
+use Rattle.beep_history.specs.declared.journal.Side.{Side}
+use Rattle.beep_journal.specs.Zero.{zero_history, completes_form}
+use Rattle.beep_ends.proofs.CallLemmas.{settles-logged, settles-on, fault-on}
+use Rattle.beep_ends.proofs.GoLemmas.{settled-so}
 use Rattle.beep_ends.proofs.OnLemmas.{fault-goes-on}
 use Rattle.beep_session.specs.Lawfully.{terms_of}
 use Rattle.beep_ends.proofs.hearing.settle_message.Goals as goal
@@ -17,3 +21,13 @@ returns-in-Err-Broken-clause-stopped c log octets w =
     let k = c.in-Err-Broken in
     fault-goes-on (terms_of c.args.session.now) k.rule k.place octets log
     (fault-on c.args.session.now c.settle.new.self k.ensures.same log w k.rule k.place (k.ensures.broken w.fed w.journal w.given w.taken w.head w.payload k.rule k.place w.waits (ap Err k.field-0-is)))
+
+pub returns-in-Ok-clause-done : goal.returns-in-Ok-clause-done
+returns-in-Ok-clause-done c log w =
+    let e = c.in-Ok.ensures in
+    let old = c.args.session.now in
+    let m = e.ok w.fed w.journal w.given w.taken w.head w.payload w.waits in
+    let fits : is_msg w.head.kind ≡ false → completes_form Side.Received w.head w.payload (zero_history w.journal) ≡ true = λ reply. e.fits w.fed w.journal w.given w.taken w.head w.payload w.waits reply refl in
+    settled-so old c.settle.new.self log w
+    (settles-on old c.settle.new.self e.same log w m (e.upright w.fed w.journal w.given w.taken w.head w.payload w.waits w.upright) fits)
+    (settles-logged old log w fits) m

@@ -10,4 +10,4 @@ pub returns-clause-stands : goal.returns-clause-stands
 returns-clause-stands c =
     let e = c.in_ok-session.ensures in
     let s = begins-on c.in_ok-session.session e.stands.given no_marks (e.lawful e.stands) in
-    ok-map c.new-2.result _ _ (λ listener same. subst (λ (x : Held). StandsOn x []) (sym same) s) c.new-2.ensures
+    ok-map c.new-2.result _ _ (λ listener same. subst (λ (x : Held). StandsOn x []) (sym same) s) c.new-2.ensures.session

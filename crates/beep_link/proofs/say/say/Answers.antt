@@ -2,15 +2,17 @@
 use Rattle.std.proofs.Common.{◌∙◌, sym, subst}
 use Rattle.beep_link.specs.declared.ended.Ended.{Ended}
 use Rattle.beep_link.proofs.KeepLemmas.{SameReads-wrote, SameReads-trans, Keeps-wrote}
-use Rattle.beep_link.proofs.StandLemmas.{wrote-stands, front-tells, told-map}
+use Rattle.beep_link.specs.Causes.{WithText}
+use Rattle.beep_link.proofs.StandLemmas.{wrote-stands, front-tells, told-map, text-map}
 use Rattle.beep_link.proofs.say.say.Goals as goal
 
 pub returns-in_default-clause-stopped : goal.returns-in_default-clause-stopped
-returns-in_default-clause-stopped g c s =
+returns-in_default-clause-stopped g c before now s =
     let E = g.E.End in
-    told-map _ _ (λ log h. subst (λ t. E.tells t Ended.NoMemory log) (c.gather_some.ensures.terms ∙ c.loop.invariant.terms)
-    (g.met.E.End.stops c.gather_some.new.end log c.gather_some.new.going.octets Ended.NoMemory tt
-    (c.gather_some.ensures.said log (subst (E.stands c.loop.end log) (sym c.loop.invariant.empty) h)))) _ (c.loop.invariant.stands s)
+    told-map _ _ (λ log h. text-map before now _ (E.tells (E.terms c.args.end.now) Ended.NoMemory log)
+    (λ text k. subst (λ t. E.tells t Ended.NoMemory log text) (c.gather_some.ensures.terms ∙ c.loop.invariant.terms)
+    (g.met.E.End.stops c.gather_some.new.end log c.gather_some.new.going.octets text Ended.NoMemory tt
+    (c.gather_some.ensures.said log text (subst (λ octets. E.stands c.loop.end log octets text) (sym c.loop.invariant.empty) k)))) h) _ (c.loop.invariant.stands before now s)
 
 pub returns-in_default-clause-terms : goal.returns-in_default-clause-terms
 returns-in_default-clause-terms g c = c.gather_some.ensures.terms ∙ c.loop.invariant.terms
@@ -28,25 +30,30 @@ pub returns-clause-empty : goal.returns-clause-empty
 returns-clause-empty g c = c.loop.invariant.empty
 
 pub returns-clause-said : goal.returns-clause-said
-returns-clause-said g c s = c.loop.invariant.stands s
+returns-clause-said g c before now s = c.loop.invariant.stands before now s
 
 pub returns-in-Err-clause-stopped : goal.returns-in-Err-clause-stopped
-returns-in-Err-clause-stopped g c s =
+returns-in-Err-clause-stopped g c before now s =
     let E = g.E.End in
     let w = c.in-Err.ensures in
-    front-tells (E.stands c.loop.end) (E.stands c.gather_some.new.end) c.as_slice.result.now
-    (λ log h. subst (E.stands c.gather_some.new.end log) (sym c.as_slice.ensures) (c.gather_some.ensures.said log (subst (E.stands c.loop.end log) (sym c.loop.invariant.empty) h)))
-    (g.met.E.End.writes c.gather_some.new.end) (E.tells (E.terms c.args.end.now) Ended.WireFault)
-    (λ log rest h. subst (λ t. E.tells t Ended.WireFault log) (c.gather_some.ensures.terms ∙ c.loop.invariant.terms) (g.met.E.End.stops c.gather_some.new.end log rest Ended.WireFault tt h))
-    _ _ w.front.wrote.more w.front.front w.front.rest w.front.octets_are w.front.wrote.logs w.front.wrote.writes (c.loop.invariant.stands s)
+    front-tells (λ log octets. WithText before now (E.stands c.loop.end log octets)) (λ log octets. WithText before now (E.stands c.gather_some.new.end log octets)) c.as_slice.result.now
+    (λ log h. text-map before now _ (E.stands c.gather_some.new.end log c.as_slice.result.now) (λ text k. subst (λ octets. E.stands c.gather_some.new.end log octets text) (sym c.as_slice.ensures)
+    (c.gather_some.ensures.said log text (subst (λ octets. E.stands c.loop.end log octets text) (sym c.loop.invariant.empty) k))) h)
+    (λ log front rest h. text-map before now _ _ (λ text k. g.met.E.End.writes c.gather_some.new.end log front rest text k) h)
+    (λ log. WithText before now (E.tells (E.terms c.args.end.now) Ended.WireFault log))
+    (λ log rest h. text-map before now _ (E.tells (E.terms c.args.end.now) Ended.WireFault log) (λ text k. subst (λ t. E.tells t Ended.WireFault log text) (c.gather_some.ensures.terms ∙ c.loop.invariant.terms)
+    (g.met.E.End.stops c.gather_some.new.end log rest text Ended.WireFault tt k)) h)
+    _ _ w.front.wrote.more w.front.front w.front.rest w.front.octets_are w.front.wrote.logs w.front.wrote.writes (c.loop.invariant.stands before now s)
 
 pub returns-then-not-is_more-clause-said : goal.returns-then-not-is_more-clause-said
-returns-then-not-is_more-clause-said g c s =
+returns-then-not-is_more-clause-said g c before now s =
     let E = g.E.End in
     let w = c.in-Ok-written.ensures in
-    wrote-stands (E.stands c.loop.end) (E.stands c.gather_some.new.end) c.as_slice.result.now
-    (λ log h. subst (E.stands c.gather_some.new.end log) (sym c.as_slice.ensures) (c.gather_some.ensures.said log (subst (E.stands c.loop.end log) (sym c.loop.invariant.empty) h)))
-    (g.met.E.End.writes c.gather_some.new.end) _ _ w.wrote.more w.wrote.logs w.wrote.writes (c.loop.invariant.stands s)
+    wrote-stands (λ log octets. WithText before now (E.stands c.loop.end log octets)) (λ log octets. WithText before now (E.stands c.gather_some.new.end log octets)) c.as_slice.result.now
+    (λ log h. text-map before now _ (E.stands c.gather_some.new.end log c.as_slice.result.now) (λ text k. subst (λ octets. E.stands c.gather_some.new.end log octets text) (sym c.as_slice.ensures)
+    (c.gather_some.ensures.said log text (subst (λ octets. E.stands c.loop.end log octets text) (sym c.loop.invariant.empty) k))) h)
+    (λ log front rest h. text-map before now _ _ (λ text k. g.met.E.End.writes c.gather_some.new.end log front rest text k) h)
+    _ _ w.wrote.more w.wrote.logs w.wrote.writes (c.loop.invariant.stands before now s)
 
 pub returns-in-Err-clause-same_reads : goal.returns-in-Err-clause-same_reads
 returns-in-Err-clause-same_reads g c =
@@ -76,9 +83,11 @@ loop-preserved g c =
     record {
       empty = c.clear.ensures.emptied;
       terms = c.gather_some.ensures.terms ∙ c.loop.invariant.terms;
-      stands = λ s. wrote-stands (E.stands c.loop.end) (E.stands c.gather_some.new.end) c.as_slice.result.now
-          (λ log h. subst (E.stands c.gather_some.new.end log) (sym c.as_slice.ensures) (c.gather_some.ensures.said log (subst (E.stands c.loop.end log) (sym c.loop.invariant.empty) h)))
-          (g.met.E.End.writes c.gather_some.new.end) _ _ w.wrote.more w.wrote.logs w.wrote.writes (c.loop.invariant.stands s);
+      stands = λ before now s. wrote-stands (λ log octets. WithText before now (E.stands c.loop.end log octets)) (λ log octets. WithText before now (E.stands c.gather_some.new.end log octets)) c.as_slice.result.now
+          (λ log h. text-map before now _ (E.stands c.gather_some.new.end log c.as_slice.result.now) (λ text k. subst (λ octets. E.stands c.gather_some.new.end log octets text) (sym c.as_slice.ensures)
+          (c.gather_some.ensures.said log text (subst (λ octets. E.stands c.loop.end log octets text) (sym c.loop.invariant.empty) k))) h)
+          (λ log front rest h. text-map before now _ _ (λ text k. g.met.E.End.writes c.gather_some.new.end log front rest text k) h)
+          _ _ w.wrote.more w.wrote.logs w.wrote.writes (c.loop.invariant.stands before now s);
       keeps = Keeps-wrote c.args.link _ _ _ c.loop.invariant.keeps w.still_open w.kept w.others w.same_counts w.same_asked w.same_lent;
       same_counts = w.same_counts ∙ c.loop.invariant.same_counts;
       same_reads = SameReads-trans _ now next c.loop.invariant.same_reads

@@ -1,10 +1,37 @@
 -- The log tells what ended the session.
-use Rattle.std.proofs.Common.{subst}
-use Rattle.beep_link.specs.Causes.{WhereTold}
+use Rattle.std.proofs.Common.{rules, ◌∙◌, [], arith, subst}
+use Rattle.beep_link.specs.Causes.{WhereTold, WithText}
+use Rattle.beep_link.specs.declared.ended.Ended.{Ended}
+use Rattle.beep_link.proofs.KeepLemmas.{Keeps-trans}
+use Rattle.beep_link.proofs.StandLemmas.{text-none, told-empty}
 use Rattle.beep_link.proofs.turns.run_turns.Goals as goal
 
 pub returns-in-Err-clause-told : goal.returns-in-Err-clause-told
 returns-in-Err-clause-told g c begun =
     let E = g.E.End in
-    subst (λ t. WhereTold (E.tells t c.in-Err.ended) (g.W.Wires.state c.turn.new.wires c.args.link).log) c.loop-ended.invariant.terms
-    (c.in-Err.ensures.stopped (c.loop-ended.invariant.stands begun))
+    subst (λ t. WhereTold (λ log. WithText (g.O.Sink.state c.args.output.now).written (g.O.Sink.state c.turn.new.output).written (E.tells t c.in-Err.ended log))
+    (g.W.Wires.state c.turn.new.wires c.args.link).log) c.loop-ended.invariant.terms
+    (c.in-Err.ensures.stopped (g.O.Sink.state c.args.output.now).written (c.loop-ended.invariant.stands begun))
+
+pub returns-in_default-clause-told : goal.returns-in_default-clause-told
+returns-in_default-clause-told g c begun =
+    let E = g.E.End in
+    let now = (g.O.Sink.state c.args.output.now).written in
+    let h : WhereTold (λ log. WithText now now (E.tells (E.terms c.args.end.now) Ended.NoMemory log)) (g.W.Wires.state c.args.wires.now c.args.link).log =
+    told-empty (λ log. WithText now now (E.tells (E.terms c.args.end.now) Ended.NoMemory log)) (g.W.Wires.state c.args.wires.now c.args.link).log
+    (text-none now (E.tells (E.terms c.args.end.now) Ended.NoMemory []) (g.met.E.End.stops c.args.end.now [] [] [] Ended.NoMemory tt begun)) c.requires.unused.unread in
+    search (rules, h)
+
+pub loop-ended-preserved : goal.loop-ended-preserved
+loop-ended-preserved g c = record {
+  empty = c.in-Ok-turn.ensures.empty;
+  terms = c.turn.ensures.terms ∙ c.loop-ended.invariant.terms;
+  stands = λ begun. c.in-Ok-turn.ensures.stands (g.O.Sink.state c.args.output.now).written (c.loop-ended.invariant.stands begun);
+  going = c.in-Ok-turn.ensures.going;
+  buffer = c.turn.ensures.buffer;
+  told = c.in-Ok-turn.ensures.told;
+  counted = c.in-Ok-turn.ensures.counted _ c.loop-ended.invariant.counted;
+  keeps = Keeps-trans c.args.link _ _ _ c.loop-ended.invariant.keeps c.turn.ensures.keeps;
+  kept = omega (arith, c.loop-ended.invariant.kept, c.turn.ensures.kept);
+  reads = omega (arith, c.loop-ended.invariant.reads, c.turn.ensures.reads, c.in-Ok-turn.ensures.falls);
+}

@@ -1,6 +1,8 @@
 -- Each event uses one octet at least, so that all are used.
 use Rattle.std.proofs.Common.{◌≡◌, ◌∙◌, subst, length, take, arith}
 use Rattle.beep_journal.specs.Log.{got_all}
+use Rattle.beep_link.specs.Causes.{WithText}
+use Rattle.beep_link.proofs.StandLemmas.{text-more}
 use Rattle.beep_lawful.specs.declared.terms.Terms.{Terms}
 use Rattle.beep_session.specs.Lawfully.{terms_of}
 use Rattle.beep_ends.specs.Logs.{StandsOn, StopsOn}
@@ -33,5 +35,18 @@ loop-preserved g c =
       more = λ log s.
           let some = e.more (got_all (take c.loop.at bytes) log) (i.stands log s) (rest-some c.loop.at bytes (omega (arith, c.if-bytes-at.false))) in
           omega (arith, some, i.more log s);
+      wrote = let state = g.O.Sink.state in
+          text-more (state c.args.output.now).written (state c.loop.output).written (state c.hear_some.new.output).written (λ _. Unit {0}) (λ _. Unit {0}) (λ text p. c.hear_some.ensures.wrote) i.wrote;
       kept = omega (arith, i.kept, c.hear_some.ensures.kept);
     }
+
+pub returns-then-bytes-at-clause-wrote : goal.returns-then-bytes-at-clause-wrote
+returns-then-bytes-at-clause-wrote g c = c.loop.invariant.wrote
+
+pub returns-clause-wrote : goal.returns-clause-wrote
+returns-clause-wrote g c = c.loop.invariant.wrote
+
+pub returns-in-Err-clause-wrote : goal.returns-in-Err-clause-wrote
+returns-in-Err-clause-wrote g c =
+    let state = g.O.Sink.state in
+    text-more (state c.args.output.now).written (state c.loop.output).written (state c.hear_some.new.output).written (λ _. Unit {0}) (λ _. Unit {0}) (λ text p. c.hear_some.ensures.wrote) c.loop.invariant.wrote

@@ -6,5 +6,5 @@ use Rattle.beep_ends.proofs.listener.ListenerEnd.is_over.Goals as goal
 
 pub returns : goal.returns
 returns c = record {
-  over = λ log e s. shows-release c.args.self.now.session (moments log) s (over-on c.args.self.now.session (moments log) s (sym c.is_over.ensures ∙ e));
+  over = λ log text e s. shows-release c.args.self.now.session (moments log) s (over-on c.args.self.now.session (moments log) s (sym c.is_over.ensures ∙ e));
 }

@@ -4,4 +4,4 @@ use Rattle.beep_ends.proofs.OnLemmas.{shows-cut}
 use Rattle.beep_ends.proofs.listener.ListenerEnd.left.Goals as goal
 
 pub returns : goal.returns
-returns c = record { cut = λ log s. shows-cut c.args.self.now.session (moments log) s c.left.result c.left.ensures.stands }
+returns c = record { cut = λ log text s. shows-cut c.args.self.now.session (moments log) s c.left.result c.left.ensures.stands }

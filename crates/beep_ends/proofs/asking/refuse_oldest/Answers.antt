@@ -7,7 +7,7 @@ use Rattle.beep_session.specs.Lending.{duty_session}
 use Rattle.beep_session.specs.Session.{Held}
 use Rattle.beep_ends.specs.Logs.{StaysOn}
 use Rattle.beep_ends.proofs.CallLemmas.{same-stays, still-stays, gone-stays}
-use Rattle.beep_ends.proofs.listener.refuse_oldest.Goals as goal
+use Rattle.beep_ends.proofs.asking.refuse_oldest.Goals as goal
 
 pub returns-in-Ok : goal.returns-in-Ok
 returns-in-Ok c =

@@ -4,7 +4,7 @@ use Rattle.beep_frame.specs.declared.kind.Kind.{Kind}
 use Rattle.beep_session.specs.Session.{Held}
 use Rattle.beep_ends.specs.Logs.{StaysOn}
 use Rattle.beep_ends.proofs.CallLemmas.{same-stays, given-stays}
-use Rattle.beep_ends.proofs.listener.ask_lines.Goals as goal
+use Rattle.beep_ends.proofs.asking.ask_lines.Goals as goal
 
 pub returns-in-Ok : goal.returns-in-Ok
 returns-in-Ok c =

@@ -1,0 +1,47 @@
+-- What goes out leaves what is kept, and a frame of channel zero may end lives.
+use Rattle.std.proofs.Common.{◌≡◌, ◌∙◌, ◌==◌, true, false, sym, ap, subst, rules, ℕ, List}
+use Rattle.beep_journal.specs.Log.{put_all}
+use Rattle.beep_session.specs.Session.{Held}
+use Rattle.beep_speaking.specs.declared.emit.Emit.{Emit}
+use Rattle.beep_lines.specs.declared.bodies.Body.{Body}
+use Rattle.beep_ends.specs.Listening.{Listens, Spoke, is_zero_frame, plan_of}
+use Rattle.beep_ends.specs.Pruning.{HasPruned}
+use Rattle.beep_ends.proofs.ListenLemmas.{same-plan, says-listens, stays-listens, zero-listens}
+use Rattle.beep_ends.proofs.listener.Listener.say.Goals as goal
+
+pub returns-in-Seq-clause-listens : goal.returns-in-Seq-clause-listens
+returns-in-Seq-clause-listens c log text l =
+    let a = c.args.self.now in
+    let s = c.say_next in
+    says-listens a.session s.new.session a.bodies a.lines.octets.octets text (put_all c.args.out.now.octets log) (put_all s.new.out.octets log) l s.result
+    (s.ensures.spoke log l.on) (same-plan a.session s.new.session s.ensures.terms s.ensures.offers) (ap is_zero_frame c.in-Seq.is)
+
+pub returns-in-Nothing-clause-listens : goal.returns-in-Nothing-clause-listens
+returns-in-Nothing-clause-listens c log text l =
+    let a = c.args.self.now in
+    let s = c.say_next in
+    says-listens a.session s.new.session a.bodies a.lines.octets.octets text (put_all c.args.out.now.octets log) (put_all s.new.out.octets log) l s.result
+    (s.ensures.spoke log l.on) (same-plan a.session s.new.session s.ensures.terms s.ensures.offers) (ap is_zero_frame c.in-Nothing.is)
+
+pub returns-then-head-ne0-clause-listens : goal.returns-then-head-ne0-clause-listens
+returns-then-head-ne0-clause-listens c log text l =
+    let a = c.args.self.now in
+    let s = c.say_next in
+    let above : (c.in-Data.head.channel == 0) ≡ false = search rules in
+    says-listens a.session s.new.session a.bodies a.lines.octets.octets text (put_all c.args.out.now.octets log) (put_all s.new.out.octets log) l s.result
+    (s.ensures.spoke log l.on) (same-plan a.session s.new.session s.ensures.terms s.ensures.offers) (ap is_zero_frame c.in-Data.is ∙ above)
+
+pub returns-else-head-ne0-clause-listens : goal.returns-else-head-ne0-clause-listens
+returns-else-head-ne0-clause-listens c log text l =
+    let a = c.args.self.now in
+    let s = c.say_next in
+    let octets = a.lines.octets.octets in
+    let after = put_all s.new.out.octets log in
+    let now = c.prune.new.bodies in
+    let z = zero-listens a.session s.new.session a.bodies now octets text (put_all c.args.out.now.octets log) after l s.result
+    (s.ensures.spoke log l.on) (same-plan a.session s.new.session s.ensures.terms s.ensures.offers) c.prune.ensures in
+    let b = stays-listens s.new.session c.begun.new.self.session now octets text after c.begun.ensures.stays z in
+    let bodies : (x : List Body) → x ≡ now → Listens c.begun.new.self.session x octets after text = λ x e. subst (λ (y : List Body). Listens c.begun.new.self.session y octets after text) (sym e) b in
+    let lines : (x : List ℕ) → x ≡ octets → Listens c.begun.new.self.session c.begun.new.self.bodies x after text =
+    λ x e. subst (λ (y : List ℕ). Listens c.begun.new.self.session c.begun.new.self.bodies y after text) (sym e) (bodies c.begun.new.self.bodies c.begun.ensures.bodies) in
+    lines c.begun.new.self.lines.octets.octets (ap (λ o. o.octets.octets) c.begun.ensures.lines)

@@ -1,0 +1,230 @@
+//! What a listener does with octets that come.
+ghost use Rattle.std.specs.Prelude.{◌≡◌, ◌≤◌, ◌<◌, List, length, take, ℕ, IfErr, IfOk, OnOk};
+ghost use Rattle.beep_wires.specs.Counts.{Rose};
+ghost use Rattle.beep_journal.specs.Log.{Moment, got_all};
+ghost use Rattle.beep_session.specs.Lawfully.{terms_of};
+ghost use Rattle.beep_link.specs.Causes.{WithText};
+ghost use Rattle.beep_link.specs.declared.ended.Stop.{Stop as StopValue};
+ghost use Rattle.beep_ends.specs.declared.listener.TheConstants.{TAKEN};
+ghost use Rattle.beep_ends.specs.Logs.{SaysNothing, StandsOn, StaysOn, StopsOn, WaitsOn};
+
+use super::{Listener, TAKEN};
+use crate::hearing::{Came, hear_next, settle_message, take_part};
+use crate::pruning::prune;
+use beep_frame::Kind;
+use beep_inbox::Part;
+use beep_link::Stop;
+use beep_octets::NoMemory;
+use beep_session::Settled;
+use beep_wires::Sink;
+
+impl Listener {
+    /// Uses all octets, unless the session ends. Each event uses one at least.
+    pub(super) fn hear_all<O: Sink>(&mut self, bytes: &[u8], output: &mut O) -> Result<(), Stop>
+        ensures heard { (log : List Moment) → StandsOn self.old.session log
+            → OnOk result (StandsOn self.new.session (got_all bytes.now log)) }
+        ensures stopped { (log : List Moment) → StandsOn self.old.session log
+            → IfErr result (λ stop.
+            StopsOn (terms_of self.old.session) stop (got_all bytes.now log)) }
+        ensures terms { terms_of self.new.session ≡ terms_of self.old.session }
+        ensures failed { IfErr result (λ stop. stop ≡ StopValue.WriteFault
+            → Rose (O.state output.old).faults (O.state output.new).faults) }
+        ensures wrote { WithText (O.state output.old).written (O.state output.new).written
+            (λ _. Unit {0}) }
+        ensures kept { (O.state output.old).faults ≤ (O.state output.new).faults }
+    {
+        let mut at = 0;
+        for _ in 0..bytes.len() {
+            if bytes.len() <= at {
+                return Ok(());
+            }
+            match self.hear_some(&bytes[at..], output) {
+                Ok(count) => at += count,
+                Err(stop) => return Err(stop),
+            }
+        }
+        Ok(())
+    }
+
+    /// Uses octets up to the next event, and does what it calls for.
+    fn hear_some<O: Sink>(&mut self, bytes: &[u8], output: &mut O) -> Result<usize, Stop>
+        ensures within { IfOk result (λ n. n ≤ length bytes.now) }
+        ensures heard { (log : List Moment) → StandsOn self.old.session log → IfOk result (λ n.
+            StandsOn self.new.session (got_all (take n bytes.now) log)) }
+        ensures stopped { (log : List Moment) → StandsOn self.old.session log
+            → IfErr result (λ stop.
+            StopsOn (terms_of self.old.session) stop (got_all bytes.now log)) }
+        ensures more { (log : List Moment) → StandsOn self.old.session log
+            → 0 < length bytes.now → IfOk result (λ n. 0 < n) }
+        ensures terms { terms_of self.new.session ≡ terms_of self.old.session }
+        ensures failed { IfErr result (λ stop. stop ≡ StopValue.WriteFault
+            → Rose (O.state output.old).faults (O.state output.new).faults) }
+        ensures wrote { WithText (O.state output.old).written (O.state output.new).written
+            (λ _. Unit {0}) }
+        ensures kept { (O.state output.old).faults ≤ (O.state output.new).faults }
+    {
+        let (count, came) = hear_next(&mut self.session, bytes)?;
+        match came {
+            Came::More => Ok(count),
+            Came::Arrived(number) => match self.take(number, output) {
+                Ok(()) => Ok(count),
+                Err(stop) => Err(stop),
+            },
+            Came::Zero => match self.settle() {
+                Ok(()) => Ok(count),
+                Err(stop) => Err(stop),
+            },
+        }
+    }
+
+    /// Settles what waits, and does what it calls for.
+    fn settle(&mut self) -> Result<(), Stop>
+        ensures settled { (log : List Moment) → WaitsOn self.old.session log
+            → OnOk result (StandsOn self.new.session log) }
+        ensures stopped { (log : List Moment) (octets : List ℕ)
+            → WaitsOn self.old.session log → IfErr result (λ stop.
+            StopsOn (terms_of self.old.session) stop (got_all octets log)) }
+        ensures terms { terms_of self.new.session ≡ terms_of self.old.session }
+        ensures failed { IfErr result (λ stop. stop ≡ StopValue.WriteFault → ⊥) }
+    {
+        if !self.session.zero_waits() {
+            return Ok(());
+        }
+        let settled = settle_message(&mut self.session)?;
+        prune(&mut self.bodies, &self.session);
+        self.does(settled)
+    }
+
+    /// Does what a message calls for that was settled.
+    fn does(&mut self, settled: Settled) -> Result<(), Stop>
+        ensures session { self.new.session ≡ self.old.session }
+        ensures bodies { self.new.bodies ≡ self.old.bodies }
+        ensures lines { self.new.lines ≡ self.old.lines }
+        ensures stopped { IfErr result (λ stop. SaysNothing stop) }
+        ensures failed { IfErr result (λ stop. stop ≡ StopValue.WriteFault → ⊥) }
+    {
+        match settled {
+            Settled::Denied(code) => Err(Stop::Refused(code)),
+            Settled::PeerStarts { number, .. } => match self.starting.push(number) {
+                Ok(()) => Ok(()),
+                Err(_) => Err(Stop::NoMemory),
+            },
+            Settled::Released
+            | Settled::Greeted
+            | Settled::Begun { .. }
+            | Settled::NotBegun { .. }
+            | Settled::PeerRefused { .. }
+            | Settled::PeerCloses { .. }
+            | Settled::Closed { .. }
+            | Settled::NotClosed { .. }
+            | Settled::Stale(_) => Ok(()),
+        }
+    }
+
+    /// Takes the frame that has arrived, and refuses the request that it ends.
+    fn take<O: Sink>(&mut self, number: u32, output: &mut O) -> Result<(), Stop>
+        ensures stays { StaysOn self.old.session self.new.session }
+        ensures wrote { WithText (O.state output.old).written (O.state output.new).written
+            (λ _. Unit {0}) }
+        ensures stopped { IfErr result (λ stop. SaysNothing stop) }
+        ensures failed { IfErr result (λ stop. stop ≡ StopValue.WriteFault
+            → Rose (O.state output.old).faults (O.state output.new).faults) }
+        ensures kept { (O.state output.old).faults ≤ (O.state output.new).faults }
+    {
+        let is_asked = self.take_all(number, output)?;
+        if !is_asked {
+            return Ok(());
+        }
+        match self.refuse(number) {
+            Ok(()) => Ok(()),
+            Err(NoMemory) => Err(Stop::NoMemory),
+        }
+    }
+
+    /// Takes all that has arrived on a channel, and tells whether it ends a request. A frame is one
+    /// part of a message, or several.
+    fn take_all<O: Sink>(&mut self, number: u32, output: &mut O) -> Result<bool, Stop>
+        ensures stays { StaysOn self.old.session self.new.session }
+        ensures wrote { WithText (O.state output.old).written (O.state output.new).written
+            (λ _. Unit {0}) }
+        ensures stopped { IfErr result (λ stop. SaysNothing stop) }
+        ensures failed { IfErr result (λ stop. stop ≡ StopValue.WriteFault
+            → Rose (O.state output.old).faults (O.state output.new).faults) }
+        ensures kept { (O.state output.old).faults ≤ (O.state output.new).faults }
+    {
+        let mut is_asked = false;
+        for _ in 0..u32::MAX {
+            let Some(part) = take_part(&mut self.session, number, self.taken.as_mut_slice()) else {
+                return Ok(is_asked);
+            };
+            is_asked = is_asked || part.ended && part.tag.kind.is_msg();
+            self.took(number, part, output)?;
+        }
+        Ok(is_asked)
+    }
+
+    /// Uses a part that was taken: one of an answer to the first request goes on with it, or ends
+    /// it.
+    fn took<O: Sink>(&mut self, number: u32, part: Part, output: &mut O) -> Result<(), Stop>
+        ensures session { self.new.session ≡ self.old.session }
+        ensures wrote { WithText (O.state output.old).written (O.state output.new).written
+            (λ _. Unit {0}) }
+        ensures stopped { IfErr result (λ stop. SaysNothing stop) }
+        ensures failed { IfErr result (λ stop. stop ≡ StopValue.WriteFault
+            → Rose (O.state output.old).faults (O.state output.new).faults) }
+        ensures kept { (O.state output.old).faults ≤ (O.state output.new).faults }
+    {
+        if !is_first_answer(&part) {
+            return Ok(());
+        }
+        let count = TAKEN.min(part.len as usize);
+        if part.ended {
+            return self.finish(number, part.tag.ansno, count, output);
+        }
+        match self
+            .bodies
+            .extend(number, part.tag.ansno, &self.taken[..count])
+        {
+            Ok(()) => Ok(()),
+            Err(NoMemory) => Err(Stop::NoMemory),
+        }
+    }
+
+    /// Adds the last octets of an answer, so many of those that were taken, and writes its lines.
+    fn finish<O: Sink>(
+        &mut self,
+        number: u32,
+        ansno: u32,
+        count: usize,
+        output: &mut O,
+    ) -> Result<(), Stop>
+        requires within { count ≤ TAKEN }
+        ensures session { self.new.session ≡ self.old.session }
+        ensures wrote { WithText (O.state output.old).written (O.state output.new).written
+            (λ _. Unit {0}) }
+        ensures stopped { IfErr result (λ stop. SaysNothing stop) }
+        ensures failed { IfErr result (λ stop. stop ≡ StopValue.WriteFault
+            → Rose (O.state output.old).faults (O.state output.new).faults) }
+        ensures kept { (O.state output.old).faults ≤ (O.state output.new).faults }
+    {
+        if self.bodies.octets(number, ansno).is_empty() {
+            let put = self.lines.put(&self.taken[..count], output);
+            self.bodies.end(number, ansno);
+            return put;
+        }
+        let Ok(()) = self.bodies.extend(number, ansno, &self.taken[..count]) else {
+            return Err(Stop::NoMemory);
+        };
+        let put = self.lines.put(self.bodies.octets(number, ansno), output);
+        self.bodies.end(number, ansno);
+        put
+    }
+}
+
+/// Whether a part is of an answer to the first request of its channel.
+fn is_first_answer(part: &Part) -> bool {
+    match part.tag.kind {
+        Kind::Ans => part.tag.request == 0,
+        Kind::Msg | Kind::Rpy | Kind::Err | Kind::Nul => false,
+    }
+}

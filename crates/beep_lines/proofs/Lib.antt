@@ -1,0 +1,3 @@
+-- Proofs.
+pub mod BodyLemmas
+pub mod LineLemmas

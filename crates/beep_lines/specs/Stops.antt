@@ -1,0 +1,10 @@
+-- Which stops writing lines may give.
+use Rattle.beep_link.specs.declared.ended.Stop.{Stop}
+
+-- it is for want of memory, or a write of the output failed
+abbrev pub IsOfOutput : Stop → Type 0
+IsOfOutput Stop.Released = ⊥
+IsOfOutput (Stop.Broken rule place) = ⊥
+IsOfOutput Stop.WriteFault = Unit {0}
+IsOfOutput Stop.NoMemory = Unit {0}
+IsOfOutput (Stop.Refused code) = ⊥
