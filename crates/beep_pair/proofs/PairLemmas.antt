@@ -10,7 +10,7 @@ use Rattle.beep_session.specs.Lawfully.{KeepsUpright}
 use Rattle.beep_schedule.specs.declared.event.End.{End}
 use Rattle.beep_schedule.specs.declared.event.Act.{Act}
 use Rattle.beep_tally.specs.declared.account.Account.{Account}
-use Rattle.beep_pair.specs.declared.answer.Answer.{Answer}
+use Rattle.beep_report.specs.declared.answer.Answer.{Answer}
 use Rattle.beep_pair.specs.Sessions.{Sessions, Acts, acted, message_from, SendsOnto, Gets, TakesPart, counted_take}
 use Rattle.beep_pair.specs.World.{kept_of, held_at, octets_to, Leads}
 use Rattle.beep_pair.specs.Steps.{DoesStep, SendsStep, GetsStep, TakesStep}

@@ -14,7 +14,7 @@ use Rattle.beep_two_sessions.specs.End.{End as OneEnd, goes, StandsAs}
 use Rattle.beep_two_sessions.specs.Acts.{Act as Deed, takes, sends, pauses, rests, used_by, sent_by, Does, SendsAs, LeadsTo}
 use Rattle.beep_two_sessions.specs.World.{World as Two}
 use Rattle.beep_two_sessions.proofs.CallLemmas.{takes-step, frame-step, seq-step, nothing-step, over-step}
-use Rattle.beep_pair.specs.declared.answer.Answer.{Answer}
+use Rattle.beep_report.specs.declared.answer.Answer.{Answer}
 use Rattle.beep_pair.specs.Sessions.{Acts, acted, message_from, Sends, SendsOnto, TakesPart, counted_take}
 use Rattle.beep_pair.specs.World.{World, other_end, end_of, wire_to, session_of, DoesAt, IsWorld}
 use Rattle.beep_pair.specs.Steps.{is_done, deed_of, DoesStep, SentAt, SendsStep, TakesStep}

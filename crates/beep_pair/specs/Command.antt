@@ -1,6 +1,6 @@
 -- Two ends before a schedule is run, and the whole work of the command: the text of a schedule, and
 -- its report.
-use Rattle.std.specs.Prelude.{◌≡◌, ℕ, false, List, [], ◌∷◌}
+use Rattle.std.specs.Prelude.{◌≡◌, ℕ, false, List, [], ◌∷◌, length}
 use Rattle.beep_journal.specs.declared.role.Role.{Role}
 use Rattle.beep_decide.specs.Decide.{PlainOffer}
 use Rattle.beep_standing.specs.Standing.{Marks, no_marks}
@@ -11,6 +11,8 @@ use Rattle.beep_session.specs.Lawfully.{IsLawfulSession}
 use Rattle.beep_schedule.specs.declared.event.PairEvent.{PairEvent}
 use Rattle.beep_schedule.specs.Schedule.{Says}
 use Rattle.beep_schedule.specs.Refused.{IsBadAt}
+use Rattle.beep_schedule.specs.Generated.{generated_events}
+use Rattle.beep_report.specs.Summary.{summary_of}
 use Rattle.beep_two_sessions.specs.World.{IsBegun}
 use Rattle.beep_pair.specs.declared.command.Outcome.{Outcome}
 use Rattle.beep_pair.specs.Acts.{pair_uri}
@@ -64,3 +66,31 @@ pub record Reports (limits : Limits) (text report : List ℕ) : Type 0 where
 abbrev pub Becomes : Limits → List ℕ → Outcome → Type 0
 Becomes limits text (Outcome.Report out) = Reports limits text out.octets
 Becomes limits text (Outcome.Bad number) = IsBadAt text number
+
+-- ---- a schedule that a number makes
+
+-- these events were run, and the text is the summary of their report
+pub record Summed (seed : ℕ) (events : List PairEvent) (text : List ℕ) (old new : World)
+    : Type 0 where
+  pub report : List ℕ
+  pub reported : Reported events [] report old new
+  pub text_is : text
+      ≡ summary_of seed (length events) report new.accounts reported.adds.still
+
+-- the text is their summary, between two ends with these limits that begin
+pub record SumsEvents (limits : Limits) (seed : ℕ) (events : List PairEvent) (text : List ℕ)
+    : Type 0 where
+  pub first : World
+  pub fresh : IsFresh limits first
+  pub last : World
+  pub summed : Summed seed events text first last
+
+-- the schedule that this number makes
+unfoldable pub schedule_of : ℕ → List PairEvent
+schedule_of seed = generated_events seed
+
+-- the text is the summary of the report of that schedule
+pub record Sums (limits : Limits) (seed : ℕ) (text : List ℕ) : Type 0 where
+  pub events : List PairEvent
+  pub made : events ≡ schedule_of seed
+  pub sums : SumsEvents limits seed events text

@@ -5,6 +5,5 @@ pub mod World
 pub mod Steps
 pub mod Drains
 pub mod Draining
-pub mod Texts
 pub mod Report
 pub mod Command

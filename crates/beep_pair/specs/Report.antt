@@ -13,12 +13,12 @@ use Rattle.beep_schedule.specs.declared.event.PairEvent.{PairEvent}
 use Rattle.beep_two_sessions.specs.End.{StandsUnbroken}
 use Rattle.beep_two_sessions.specs.Kept.{IsPrefix, IsTakenInOrder}
 use Rattle.beep_two_sessions.specs.World.{World as Two}
-use Rattle.beep_pair.specs.declared.answer.Answer.{Answer}
+use Rattle.beep_report.specs.declared.answer.Answer.{Answer}
 use Rattle.beep_pair.specs.Sessions.{Sessions}
 use Rattle.beep_pair.specs.World.{World, kept_of}
 use Rattle.beep_pair.specs.Steps.{DoesStep, SendsStep, GetsStep, TakesStep}
 use Rattle.beep_pair.specs.Drains.{Drains}
-use Rattle.beep_pair.specs.Texts.{act_line, send_line, get_line, take_line, ending_text}
+use Rattle.beep_report.specs.Texts.{act_line, send_line, get_line, take_line, ending_text}
 
 -- what an event does, and what is written of it
 abbrev pub Steps : PairEvent → World → List ℕ → World → Type 0

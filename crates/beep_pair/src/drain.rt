@@ -6,8 +6,8 @@ ghost use Rattle.beep_pair.specs.Drains.{is_nothing as was_nothing};
 
 use crate::lives::live_numbers;
 use crate::pair::Pair;
-use crate::words::put_drain_line;
 use beep_octets::{NoMemory, Octets};
+use beep_report::put_drain_line;
 use beep_schedule::{End, MAX_COUNT};
 use beep_speaking::Emit;
 
