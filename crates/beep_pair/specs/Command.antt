@@ -13,7 +13,9 @@ use Rattle.beep_schedule.specs.Schedule.{Says}
 use Rattle.beep_schedule.specs.Refused.{IsBadAt}
 use Rattle.beep_schedule.specs.Generated.{generated_events}
 use Rattle.beep_report.specs.Summary.{summary_of}
+use Rattle.beep_two_sessions.specs.End.{end_of_new}
 use Rattle.beep_two_sessions.specs.World.{IsBegun}
+use Rattle.beep_two_sessions.specs.Still.{GreetsShortly}
 use Rattle.beep_pair.specs.declared.command.Outcome.{Outcome}
 use Rattle.beep_pair.specs.Acts.{pair_uri}
 use Rattle.beep_pair.specs.Sessions.{Sessions}
@@ -24,15 +26,16 @@ use Rattle.beep_pair.specs.Report.{Reported}
 abbrev pub pair_offers : List PlainOffer
 pair_offers = record { uri = pair_uri; tuning = false } ∷ []
 
--- a session that begins: nothing was given but its greeting
+-- a session that begins: nothing was given but its greeting, which is short
 pub record HasBegun (session : Held) : Type 0 where
   pub given : Marks
   pub above : SameAbove no_marks given
   pub limits : AreLimits session.limits
   pub stands : IsLawfulSession session [] [] [] given no_marks
+  pub greets : GreetsShortly (end_of_new session given)
 
 -- two sessions with these limits that begin, A the initiator, which both offer the one profile;
--- nothing between them, and no life
+-- with greetings of no more octets than go before any SEQ; nothing between them, and no life
 pub record IsFresh (limits : Limits) (world : World) : Type 0 where
   pub begun : IsBegun world.two
   pub limits_a : world.two.a.session.limits ≡ limits
@@ -41,6 +44,8 @@ pub record IsFresh (limits : Limits) (world : World) : Type 0 where
   pub role_a : world.two.a.session.role ≡ Role.Initiator
   pub offers_a : world.two.a.session.offers ≡ pair_offers
   pub offers_b : world.two.b.session.offers ≡ pair_offers
+  pub greets_a : GreetsShortly world.two.a
+  pub greets_b : GreetsShortly world.two.b
 
 -- they are what is kept of such a world
 pub record AreFresh (limits : Limits) (both : Sessions) : Type 0 where

@@ -1,5 +1,7 @@
 -- What public clauses cite.
 pub mod Acts
+pub mod Ends
+pub mod Totals
 pub mod Sessions
 pub mod World
 pub mod Steps

@@ -235,6 +235,7 @@ TakesPart n None octets old new =
     (new ≡ old) × (has_channel n old ≡ true → inbox_of (live_at n old.peer.lives) ≡ [])
 TakesPart n (Some part) octets old new =
     (has_channel n old ≡ true) × Takes n part octets old new × KeepsUpright old new
+    × (part.len ≤ length octets)
     × IsLess (inbox_of (live_at n new.peer.lives)) (inbox_of (live_at n old.peer.lives))
 
 abbrev pub counted_take : End → ℕ → Option Part → List Account → List Account

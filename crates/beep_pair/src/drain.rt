@@ -13,7 +13,8 @@ use beep_speaking::Emit;
 
 impl Pair {
     ghost use Rattle.beep_pair.specs.Sessions.{AreReady};
-    ghost use Rattle.beep_pair.specs.World.{Leads, other_end};
+    ghost use Rattle.beep_pair.specs.Ends.{other_end};
+    ghost use Rattle.beep_pair.specs.World.{Leads};
     ghost use Rattle.beep_pair.specs.Drains.{GotAll, TookAll};
     ghost use Rattle.beep_pair.specs.Draining.{TookOut, TookEach, Drained, Rounded, Turned};
 
