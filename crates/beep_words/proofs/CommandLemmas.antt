@@ -14,10 +14,10 @@ use Rattle.beep_words.specs.declared.command.ShowSettings.{ShowSettings}
 use Rattle.beep_words.specs.declared.command.PairSettings.{PairSettings}
 use Rattle.beep_words.specs.declared.command.Command.{Command}
 use Rattle.beep_words.specs.declared.options.TheConstants.{MAX_HOST, MAX_URI, MIN_WINDOW, MAX_PORT, MAX_WINDOW, MAX_PIECE, MAX_IDLE, MAX_NUMBER, MAX_SESSIONS}
-use Rattle.beep_words.specs.CommandSet.{Value, choice, number, text, OptionRow, Chosen, words_of, form_in, IsOf, IsOfSome, IsTaken, value_in, AreWords, show_options, send_options, listen_options, pair_options, IsShow, IsReplay, IsTextOf, IsEnd, IsListen, IsPair, IsCommand, IsOfEnd}
-use Rattle.beep_words.specs.Choosing.{are_options, is_lone, are_listen_options, show_of, settings_of, pair_of, number_at, choice_at, command_in, command_at, makes_end}
+use Rattle.beep_words.specs.CommandSet.{Value, choice, number, text, OptionRow, Chosen, words_of, number_set, form_in, IsOf, IsOfSome, IsTaken, value_in, AreWords, show_options, send_options, listen_options, pair_options, IsShow, IsReplay, IsTextOf, IsEnd, IsListen, IsPair, IsCommand, IsOfEnd}
+use Rattle.beep_words.specs.Choosing.{are_options, is_lone, are_listen_options, show_of, settings_of, pair_of, number_at, number_set_at, choice_at, command_in, command_at, makes_end}
 use Rattle.beep_words.proofs.ValueLemmas.{and_left, and_right, and_both, IsReadable, IsReadableSome}
-use Rattle.beep_words.proofs.OptionLemmas.{chosen_in, AreReadable, words_are_options, IsNumberTo, IsChoice, IsTextual, Takes, number_is, choice_is, text_is}
+use Rattle.beep_words.proofs.OptionLemmas.{chosen_in, AreReadable, words_are_options, IsNumberTo, IsChoice, IsTextual, Takes, number_is, number_set_is, choice_is, text_is}
 
 -- ---- what the options of each command take
 
@@ -107,13 +107,16 @@ is_show settings name words s =
 -- ---- pair
 
 readable_pair : AreReadable pair_options
-readable_pair = readable pair_options (omega arith, (omega arith, tt))
+readable_pair = readable pair_options (omega arith, (omega arith, (omega arith, tt)))
 
 pair_window_taken : Takes pair_options (codes "--window") (IsNumberTo MAX_WINDOW)
 pair_window_taken value i = number_taken MIN_WINDOW MAX_WINDOW value i
 
 pair_piece_taken : Takes pair_options (codes "--piece") (IsNumberTo MAX_PIECE)
 pair_piece_taken value i = number_taken 1 MAX_PIECE value i
+
+pair_seed_taken : Takes pair_options (codes "--seed") (IsNumberTo MAX_NUMBER)
+pair_seed_taken value i = number_taken 0 MAX_NUMBER value i
 
 pair_is : (words : List (List ℕ)) → are_options pair_options words ≡ true → IsPair (pair_of words) (codes "pair" ∷ words)
 pair_is words e =
@@ -125,6 +128,8 @@ pair_is words e =
           (number_is pair_options (codes "--window") WINDOW MAX_WINDOW (omega arith) pair_window_taken c.chosen c.each);
       piece = subst (λ (ws : List (List ℕ)). number (number_at (codes "--piece") PIECE ws) ≡ value_in (codes "--piece") (number PIECE) c.chosen) (sym c.words_are)
           (number_is pair_options (codes "--piece") PIECE MAX_PIECE (omega arith) pair_piece_taken c.chosen c.each);
+      seed = subst (λ (ws : List (List ℕ)). number_set_at (codes "--seed") ws ≡ number_set (codes "--seed") c.chosen) (sym c.words_are)
+          (number_set_is pair_options (codes "--seed") MAX_NUMBER (omega arith) pair_seed_taken c.chosen c.each);
     }
 
 is_pair : (settings : PairSettings) (name : List ℕ) (words : List (List ℕ)) → IsPair settings (name ∷ words) → (settings ≡ pair_of words) × ((bytes_eq name (codes "pair") && are_options pair_options words) ≡ true)
@@ -134,7 +139,12 @@ is_pair settings name words s =
     (number_is pair_options (codes "--window") WINDOW MAX_WINDOW (omega arith) pair_window_taken s.chosen s.are_words.each) in
     let piece = number_same settings.piece (number_at (codes "--piece") PIECE (flat_map words_of s.chosen)) _ s.piece
     (number_is pair_options (codes "--piece") PIECE MAX_PIECE (omega arith) pair_piece_taken s.chosen s.are_words.each) in
-    (ap₂ (λ (a : ℕ) (b : ℕ). record { window = a; piece = b }) window piece ∙ ap pair_of (sym w), options_are (codes "pair") pair_options readable_pair s.chosen name words s.are_words)
+    let seed : settings.seed ≡ number_set_at (codes "--seed") (flat_map words_of s.chosen) = s.seed
+    ∙ sym (number_set_is pair_options (codes "--seed") MAX_NUMBER (omega arith) pair_seed_taken s.chosen s.are_words.each) in
+    let same : settings ≡ pair_of (flat_map words_of s.chosen) =
+    ap₂ (λ (a : ℕ) (b : ℕ). record { window = a; piece = b; seed = settings.seed }) window piece
+    ∙ ap (λ (n : Option ℕ). record { window = number_at (codes "--window") WINDOW (flat_map words_of s.chosen); piece = number_at (codes "--piece") PIECE (flat_map words_of s.chosen); seed = n }) seed in
+    (same ∙ ap pair_of (sym w), options_are (codes "pair") pair_options readable_pair s.chosen name words s.are_words)
 
 -- ---- send and listen
 

@@ -82,6 +82,14 @@ number_or default (Some word) = some_or default (number_in word)
 abbrev pub number_at : List ℕ → ℕ → List (List ℕ) → ℕ
 number_at name default words = number_or default (word_in name words)
 
+-- the number of a word, where there is one
+abbrev pub number_where : Option (List ℕ) → Option ℕ
+number_where None = None
+number_where (Some word) = number_in word
+
+abbrev pub number_set_at : List ℕ → List (List ℕ) → Option ℕ
+number_set_at name words = number_where (word_in name words)
+
 -- whether the word is `yes`, or else the option's own
 abbrev pub choice_or : Bool → Option (List ℕ) → Bool
 choice_or default None = default
@@ -128,6 +136,7 @@ abbrev pub pair_of : List (List ℕ) → PairSettings
 pair_of words = record {
   window = number_at (codes "--window") WINDOW words;
   piece = number_at (codes "--piece") PIECE words;
+  seed = number_set_at (codes "--seed") words;
 }
 
 -- ---- commands

@@ -26,6 +26,8 @@ pub struct PairSettings {
     pub window: u32,
     /// The most octets of payload in one frame that is sent, 1 to 4,096.
     pub piece: u32,
+    /// The number whose schedule is run, in place of one that is read.
+    pub seed: Option<u32>,
 }
 
 /// A command, with what its options say.
