@@ -1,11 +1,11 @@
 #!/usr/bin/env python3
-"""Times `./beep pair`: the generated schedule of seed 0, written out, and schedules of its form of 2 and 10 times the length.
+"""Times `./beep pair`: `--seed 0`, the same schedule written out, and schedules of its form of 2 and 10 times the length.
 
 usage: bench/pair.py [ROUNDS]
 
 In each of ROUNDS (5) rounds every schedule is run once, and its text is parsed once by a loop that does nothing else: each
 line is split into its words, and each number read. The table has the medians: events and octets given per second, and the
-ratio of the run to the loop. Where the time is linear in the length, the events per second stay the same.
+ratio of the run to the loop. With the seed no text is read, and there is no ratio. Where the time is linear in the length, the events per second stay the same.
 """
 import statistics
 import subprocess
@@ -68,6 +68,13 @@ def run(path):
         return time.perf_counter() - start
 
 
+def run_seed():
+    with open("/dev/null", "wb") as output:
+        start = time.perf_counter()
+        subprocess.run([str(BEEP), "pair", "--seed", "0"], stdin=subprocess.DEVNULL, stdout=output, check=True)
+        return time.perf_counter() - start
+
+
 def parse(path):
     start = time.perf_counter()
     found = 0
@@ -84,10 +91,16 @@ def row(name, path, events, rounds):
     print(f"{name:8} {events:8} {taken * 1000:8.1f} {events / taken:12.0f} {taken / parsing:8.2f}")
 
 
+def seed_row(events, rounds):
+    taken = statistics.median(run_seed() for _ in range(rounds))
+    print(f"{'seed 0':8} {events:8} {taken * 1000:8.1f} {events / taken:12.0f} {'':>8}".rstrip())
+
+
 def main():
     rounds = int(sys.argv[1]) if len(sys.argv) > 1 else 5
     subprocess.run([str(BUILDS), "show"], stdin=subprocess.DEVNULL, stdout=subprocess.DEVNULL, check=True)
     print("schedule   events       ms     events/s  parsing")
+    seed_row(len(list(schedule(ROWS))) - 1, rounds)
     with tempfile.TemporaryDirectory() as folder:
         for length in LENGTHS:
             lines = list(schedule(length * ROWS))

@@ -11,7 +11,7 @@ use Rattle.beep_cmd.specs.Show.{Run, Shown, IsReport}
 use Rattle.beep_cmd.specs.Replay as replay
 use Rattle.beep_cmd.specs.Replay.{Replayed, IsReplayReport, IsJudgement}
 use Rattle.beep_cmd.specs.Pair as pair
-use Rattle.beep_cmd.specs.Pair.{IsPairing, IsPairReport, Paired}
+use Rattle.beep_cmd.specs.Pair.{IsPairing, ReadsSchedule, IsPairReport, Paired}
 use Rattle.beep_cmd.specs.Ends as ends
 use Rattle.beep_cmd.specs.Ends.{ended_status, IsSendReport, Sent, Listened}
 
@@ -74,10 +74,14 @@ pairing_not : (settings : PairSettings) (octets text : List ℕ) (status : ℕ) 
 pairing_not settings octets text status (pair.runs e r) f = absurd (omega (arith, e, f))
 pairing_not settings octets text status (pair.bad_schedule e b) f = absurd (omega (arith, e, f))
 
+schedule_not : (settings : PairSettings) (old new : SourceState) (octets text : List ℕ) (status : ℕ) → ReadsSchedule settings old new octets text status → status ≡ 1 → ⊥
+schedule_not settings old new octets text status (pair.whole h w p) f = pairing_not settings octets text status p f
+schedule_not settings old new octets text status (pair.long e l) f = absurd (omega (arith, e, f))
+schedule_not settings old new octets text status (pair.unread e r w t) f = absurd (omega (arith, e, f))
+
 pair_not : (settings : PairSettings) (old new : SourceState) (octets text : List ℕ) (status : ℕ) → IsPairReport settings old new octets text status → status ≡ 1 → ⊥
-pair_not settings old new octets text status (pair.whole h w p) f = pairing_not settings octets text status p f
-pair_not settings old new octets text status (pair.long e l) f = absurd (omega (arith, e, f))
-pair_not settings old new octets text status (pair.unread e r w t) f = absurd (omega (arith, e, f))
+pair_not settings old new octets text status (pair.read e r) f = schedule_not settings old new octets text status r f
+pair_not settings old new octets text status (pair.made seed e s n m) f = absurd (omega (arith, s, f))
 
 pub paired_not : (settings : PairSettings) (status : ℕ) (run : Run) → Paired settings status run → status ≡ 1 → ⊥
 paired_not settings status run (pair.told s) f = pair_not settings run.source run.source_after s.octets s.text status s.holds f

@@ -1,7 +1,8 @@
 -- What `pair` says of a schedule, status by status: the report of its run between two ends in memory,
--- or its first bad line.
+-- or its first bad line. With a seed nothing is read, and it is the summary of the report of the
+-- schedule that the number makes.
 -- What holds of the world that a run leads to is part of its report (`Reported` of beep_pair).
-use Rattle.std.specs.Prelude.{◌≡◌, ℕ, ◌≤◌, List, [], ◌++◌, length}
+use Rattle.std.specs.Prelude.{◌≡◌, ℕ, ◌≤◌, List, [], ◌++◌, length, Option, None, Some}
 use Rattle.beep_wires.specs.Counts.{Rose}
 use Rattle.beep_wires.specs.States.{SourceState}
 use Rattle.beep_input.specs.Whole.{HasEnded}
@@ -11,7 +12,7 @@ use Rattle.beep_session.specs.declared.limits.Limits.{Limits}
 use Rattle.beep_schedule.specs.declared.event.PairEvent.{PairEvent}
 use Rattle.beep_schedule.specs.Schedule.{Says}
 use Rattle.beep_schedule.specs.Refused.{IsBadAt}
-use Rattle.beep_pair.specs.Command.{Reports}
+use Rattle.beep_pair.specs.Command.{Reports, Sums}
 use Rattle.beep_words.specs.declared.command.PairSettings.{PairSettings}
 use Rattle.beep_cmd.specs.Texts.{bad_line, read_fault_line}
 use Rattle.beep_cmd.specs.Show.{Run, Saw}
@@ -19,6 +20,8 @@ use Rattle.beep_cmd.specs.Show.{Run, Saw}
 -- what both ends set for themselves
 abbrev pub limits_of : PairSettings → Limits
 limits_of settings = record { window = settings.window; piece = settings.piece }
+
+-- ---- a schedule that is read
 
 -- status 2: the text says no events, and the line whose number is printed is its first bad one
 pub record IsBadSchedule (octets text : List ℕ) : Type 0 where
@@ -40,14 +43,25 @@ pub data IsPairing (settings : PairSettings) (octets text : List ℕ) (status : 
   bad_schedule : status ≡ 2 → IsBadSchedule octets text → IsPairing settings octets text status
 
 -- a report, its status and its cause, of a source before the run and after it
-pub data IsPairReport (settings : PairSettings) (old new : SourceState) (octets text : List ℕ)
+pub data ReadsSchedule (settings : PairSettings) (old new : SourceState) (octets text : List ℕ)
     (status : ℕ) : Type 0 where
   whole : HasEnded new → length octets ≤ MAX_INPUT → IsPairing settings octets text status
-      → IsPairReport settings old new octets text status
+      → ReadsSchedule settings old new octets text status
   long : status ≡ 2 → IsLongSchedule octets text
-      → IsPairReport settings old new octets text status
+      → ReadsSchedule settings old new octets text status
   unread : status ≡ 4 → Rose old.faults new.faults → length octets ≤ MAX_INPUT
-      → text ≡ read_fault_line → IsPairReport settings old new octets text status
+      → text ≡ read_fault_line → ReadsSchedule settings old new octets text status
+
+-- ---- all reports
+
+-- without a seed the input is read; with one it isn't, and status 0 has the summary of the report of
+-- the schedule that the number makes
+pub data IsPairReport (settings : PairSettings) (old new : SourceState) (octets text : List ℕ)
+    (status : ℕ) : Type 0 where
+  read : settings.seed ≡ None → ReadsSchedule settings old new octets text status
+      → IsPairReport settings old new octets text status
+  made : (seed : ℕ) → settings.seed ≡ Some seed → status ≡ 0 → octets ≡ []
+      → Sums (limits_of settings) seed text → IsPairReport settings old new octets text status
 
 -- the text begins the report of a status whose cause holds
 pub record BeginsPairReport (settings : PairSettings) (old new : SourceState)
@@ -78,3 +92,9 @@ pub record IsSchedule (octets : List ℕ) : Type 0 where
   pub within : length octets ≤ MAX_INPUT
   pub events : List PairEvent
   pub says : Says octets events
+
+-- a number is set, or the input is known and is a schedule
+pub data IsRunnable (settings : PairSettings) (left : Option (List ℕ)) : Type 0 where
+  by_seed : (seed : ℕ) → settings.seed ≡ Some seed → IsRunnable settings left
+  by_input : (octets : List ℕ) → left ≡ Some octets → IsSchedule octets
+      → IsRunnable settings left

@@ -1,18 +1,19 @@
 //! The command `pair`: a schedule, run between two ends in memory.
-ghost use Rattle.std.specs.Prelude.{◌≡◌, ◌+◌, ◌≤◌, false, [], length, IfOk, OnErr};
+ghost use Rattle.std.specs.Prelude.{◌≡◌, ◌⊎◌, ◌+◌, ◌≤◌, None, false, [], length, IfOk, OnOk, OnErr};
 ghost use Rattle.beep_wires.specs.States.{SourceState};
 ghost use Rattle.beep_input.specs.Whole.{ReadsFew};
 ghost use Rattle.beep_input.specs.declared.whole.TheConstants.{MAX_INPUT};
 ghost use Rattle.beep_session.specs.Session.{AreLimits};
 ghost use Rattle.beep_words.specs.declared.command.PairSettings.{PairSettings as settings_type};
+ghost use Rattle.beep_pair.specs.Command.{Sums};
 ghost use Rattle.beep_cmd.specs.Pair.{limits_of, Paired, IsPairing};
-ghost use Rattle.beep_cmd.specs.Pairing.{TellsPair};
+ghost use Rattle.beep_cmd.specs.Pairing.{TellsPair, TellsSchedule};
 ghost use Rattle.beep_cmd.specs.Show.{run_of};
 
 use crate::text::{LAST_ROOM, append_numbered};
 use beep_input::{MAX_INPUT, Unread, line_past, read_input};
 use beep_octets::{NoMemory, Octets};
-use beep_pair::{Limits, Outcome, report};
+use beep_pair::{Limits, Outcome, report, summary};
 use beep_schedule::laws::a_schedule_has_no_bad_line;
 use beep_wires::{Failed, Sink, Source, write_all};
 use beep_words::PairSettings;
@@ -31,9 +32,10 @@ pub(crate) fn pair<I: Source, O: Sink>(
         (O.state output.old) (O.state output.new)) }
     ensures unwritten { result ≡ 7 → output.new ≡ output.old }
     ensures reads { (I.state input.new).reads ≤ (I.state input.old).reads + (MAX_INPUT + 1) }
+    ensures unread { (settings.seed ≡ None) ⊎ (input.new ≡ input.old) }
 {
     let mut out = Octets::new(alloc);
-    match tell_input(alloc, settings, input, &mut out) {
+    match tell_pair(alloc, settings, input, &mut out) {
         Ok(status) => write_report(&out, status, output),
         Err(NoMemory) => 7,
     }
@@ -64,6 +66,46 @@ fn limits_in(settings: PairSettings) -> Limits
     }
 }
 
+/// Makes the report of an input, or the summary of a number's schedule, and answers its status.
+fn tell_pair<I: Source>(
+    alloc: Global,
+    settings: PairSettings,
+    input: &mut I,
+    out: &mut Octets,
+) -> Result<u8, NoMemory>
+    requires going { (I.state input.old).ended ≡ false }
+    requires fit { AreLimits (limits_of settings) }
+    requires empty { out.old.octets ≡ [] }
+    ensures ok { IfOk result (λ status. TellsPair settings status out.new.octets
+        (I.state input.old) (I.state input.new)) }
+    ensures err { OnErr result (ReadsFew (I.state input.old) (I.state input.new)) }
+    ensures reads { (I.state input.new).reads ≤ (I.state input.old).reads + (MAX_INPUT + 1) }
+    ensures unread { (settings.seed ≡ None) ⊎ (input.new ≡ input.old) }
+{
+    match settings.seed {
+        Some(seed) => {
+            tell_made(alloc, settings, seed, out)?;
+            Ok(0)
+        }
+        None => tell_input(alloc, settings, input, out),
+    }
+}
+
+/// Runs the schedule that a number makes, and takes the summary of its report.
+fn tell_made(
+    alloc: Global,
+    settings: PairSettings,
+    seed: u32,
+    out: &mut Octets,
+) -> Result<(), NoMemory>
+    requires fit { AreLimits (limits_of settings) }
+    ensures { OnOk result (Sums (limits_of settings) seed out.new.octets) }
+{
+    let text = summary(alloc, limits_in(settings), seed)?;
+    *out = text;
+    Ok(())
+}
+
 /// Makes the report of an input, and answers its status.
 fn tell_input<I: Source>(
     alloc: Global,
@@ -74,7 +116,7 @@ fn tell_input<I: Source>(
     requires going { (I.state input.old).ended ≡ false }
     requires fit { AreLimits (limits_of settings) }
     requires empty { out.old.octets ≡ [] }
-    ensures ok { IfOk result (λ status. TellsPair settings status out.new.octets
+    ensures ok { IfOk result (λ status. TellsSchedule settings status out.new.octets
         (I.state input.old) (I.state input.new)) }
     ensures err { OnErr result (ReadsFew (I.state input.old) (I.state input.new)) }
     ensures reads { (I.state input.new).reads ≤ (I.state input.old).reads + (MAX_INPUT + 1) }

@@ -1,5 +1,5 @@
 //! The one call of the program.
-ghost use Rattle.std.specs.Prelude.{◌≡◌, ◌⊎◌, ◌+◌, ◌≤◌, ℕ, List, Some, false, map, string_bytes};
+ghost use Rattle.std.specs.Prelude.{◌≡◌, ◌⊎◌, ◌+◌, ◌≤◌, ℕ, List, Some, None, false, map, string_bytes};
 ghost use Rattle.beep_words.specs.CommandSet.{IsShow, IsReplay, IsSend, IsListen, IsPair, IsNoCommand};
 ghost use Rattle.beep_words.specs.declared.command.ShowSettings.{ShowSettings as settings_type};
 ghost use Rattle.beep_words.specs.declared.command.PairSettings.{PairSettings as pair_settings};
@@ -9,7 +9,7 @@ ghost use Rattle.beep_journal.specs.declared.role.Role.{Role as RoleValue};
 ghost use Rattle.beep_wires.specs.States.{SourceState};
 ghost use Rattle.beep_cmd.specs.Show.{Shown, Refused, IsPlain, NoFault, run_of};
 ghost use Rattle.beep_cmd.specs.Replay.{Replayed, IsLawful};
-ghost use Rattle.beep_cmd.specs.Pair.{Paired, IsSchedule};
+ghost use Rattle.beep_cmd.specs.Pair.{Paired, IsRunnable};
 ghost use Rattle.beep_cmd.specs.Ends.{AcceptsAtMost, DialsOnce, Listened, seen_of, Sent, WritesLawfully};
 
 use crate::listen::listen;
@@ -65,9 +65,9 @@ pub fn beep_run<I: Source, O: Sink, W: Wires>(
     ensures paired { (settings : pair_settings) → IsPair settings (map string_bytes words.now)
         → Paired settings result (run_of (I.state input.old) (I.state input.new)
         (O.state output.old) (O.state output.new)) }
-    ensures pair_complete { (settings : pair_settings) (octets : List ℕ)
+    ensures pair_complete { (settings : pair_settings)
         → IsPair settings (map string_bytes words.now)
-        → (I.state input.old).left ≡ Some octets → IsSchedule octets
+        → IsRunnable settings (I.state input.old).left
         → NoFault (run_of (I.state input.old) (I.state input.new)
         (O.state output.old) (O.state output.new)) → (result ≡ 0) ⊎ (result ≡ 7) }
     ensures usage { result ≡ 1 → IsNoCommand (map string_bytes words.now) }
@@ -117,6 +117,9 @@ pub fn beep_run<I: Source, O: Sink, W: Wires>(
         → IsPair settings (map string_bytes words.now) → wires.new ≡ wires.old }
     ensures pair_no_memory { (settings : pair_settings)
         → IsPair settings (map string_bytes words.now) → result ≡ 7 → output.new ≡ output.old }
+    ensures pair_unread { (settings : pair_settings)
+        → IsPair settings (map string_bytes words.now)
+        → (settings.seed ≡ None) ⊎ (input.new ≡ input.old) }
     ensures pair_reads { (settings : pair_settings) → IsPair settings (map string_bytes words.now)
         → (I.state input.new).reads ≤ (I.state input.old).reads + (MAX_INPUT + 1) }
 {

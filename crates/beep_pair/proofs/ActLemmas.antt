@@ -21,7 +21,7 @@ use Rattle.beep_schedule.specs.declared.event.Act.{Act}
 use Rattle.beep_two_sessions.specs.End.{End, Doing as OneDoing, goes, Stands, StandsAs}
 use Rattle.beep_two_sessions.specs.Acts.{Act as Deed, gives, asks, rests, LeadsTo}
 use Rattle.beep_two_sessions.proofs.CallLemmas.{gives-step, asks-step, rests-step}
-use Rattle.beep_pair.specs.declared.answer.Answer.{Answer}
+use Rattle.beep_report.specs.declared.answer.Answer.{Answer}
 use Rattle.beep_pair.specs.Acts.{pair_uri, listed, has_open, has_channel, Asks, Replies, Answers, Ends, ClosesChannel, GivesZero, Starts, Releases}
 use Rattle.beep_pair.specs.Sessions.{IsReady, Acts, Sends, TakesPart}
 use Rattle.beep_pair.specs.Steps.{is_done, deed_of}

@@ -21,9 +21,10 @@ use Rattle.beep_two_sessions.proofs.StillLemmas.{at-end}
 use Rattle.beep_pair.specs.Acts.{has_channel}
 use Rattle.beep_schedule.specs.declared.limits.TheConstants.{MAX_COUNT}
 use Rattle.beep_pair.specs.Sessions.{Sessions}
-use Rattle.beep_pair.specs.World.{World, kept_of, other_end, end_of, session_of, held_at, octets_to, IsWorld}
+use Rattle.beep_pair.specs.Ends.{other_end}
+use Rattle.beep_pair.specs.World.{World, kept_of, end_of, session_of, held_at, octets_to, IsWorld}
 use Rattle.beep_pair.specs.Steps.{SendsStep, TakesStep}
-use Rattle.beep_pair.specs.Texts.{drain_line}
+use Rattle.beep_report.specs.Texts.{drain_line}
 use Rattle.beep_pair.specs.Drains.{Pieces, GotAll, Parts, no_part, part_more, IsAllTaken, TookAll, Round, Rounds, no_round as no_rounds, round_more, is_nothing, MOST_ROUNDS}
 use Rattle.beep_pair.specs.Draining.{PartsOf, begins as none_of, takes as more_of, TookOut, IsRising, is_one_of, TookEach, Turned, Rounded, Drained}
 use Rattle.beep_pair.proofs.ActLemmas.{channel_goes}

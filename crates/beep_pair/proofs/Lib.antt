@@ -14,3 +14,8 @@ mod BeginLemmas
 mod UprightLemmas
 mod TakeLemmas
 mod PairLemmas
+mod TotalLemmas
+mod BegunLemmas
+mod NotedLemmas
+mod DeedLemmas
+mod GreetingLemmas

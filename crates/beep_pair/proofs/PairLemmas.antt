@@ -1,6 +1,8 @@
 -- The steps of a pair, from what each end did.
-use Rattle.std.proofs.Common.{◌≡◌, ◌⊎◌, inl, inr, ℕ, ◌<◌, true, List, [], ◌∷◌, length, take, drop, Option, Ok, Err, refl, sym, ap, ap₂, ◌∙◌, subst, arith, length-take}
+use Rattle.std.proofs.Common.{◌≡◌, ◌⊎◌, inl, inr, ℕ, ◌<◌, ◌==◌, ◌&&◌, Bool, true, false, List, [], ◌∷◌, length, take, drop, Option, Ok, Err, refl, sym, ap, ap₂, ◌∙◌, subst, arith, length-take}
 use Rattle.std.specs.declared.result.Result.{Result}
+use Rattle.std.specs.Bool.{IsTrue}
+use Rattle.std.proofs.lemmas.Bool.Decides.{nat_tests}
 use Rattle.std.specs.Prelude.{IfOk, OnOk}
 use Rattle.beep_speaking.specs.declared.emit.Emit.{Emit}
 use Rattle.beep_inbox.specs.declared.part.Part.{Part}
@@ -9,8 +11,9 @@ use Rattle.beep_session.specs.Session.{Held}
 use Rattle.beep_session.specs.Lawfully.{KeepsUpright}
 use Rattle.beep_schedule.specs.declared.event.End.{End}
 use Rattle.beep_schedule.specs.declared.event.Act.{Act}
+use Rattle.beep_schedule.specs.Events.{is_above, is_act}
 use Rattle.beep_tally.specs.declared.account.Account.{Account}
-use Rattle.beep_pair.specs.declared.answer.Answer.{Answer}
+use Rattle.beep_report.specs.declared.answer.Answer.{Answer}
 use Rattle.beep_pair.specs.Sessions.{Sessions, Acts, acted, message_from, SendsOnto, Gets, TakesPart, counted_take}
 use Rattle.beep_pair.specs.World.{kept_of, held_at, octets_to, Leads}
 use Rattle.beep_pair.specs.Steps.{DoesStep, SendsStep, GetsStep, TakesStep}
@@ -26,20 +29,20 @@ other-b e = cc
 
 -- ---- by A
 
-pub act-leads-a : {E : Type 0} (at : End) → at ≡ End.A → (r : Result Answer E) (act : Act) (n len fill : ℕ) (octets : List ℕ) (old view : Sessions) → view ≡ old
+pub act-leads-a : {E : Type 0} (at : End) → at ≡ End.A → (r : Result Answer E) (act : Act) (n len fill : ℕ) → (act ≡ Act.Done → len ≡ 0) → (octets : List ℕ) (old view : Sessions) → view ≡ old
     → (session : Held) (accounts : List Account) → octets ≡ message_from fill len → IfOk r (λ answer. Acts act n octets view.a session answer)
     → OnOk r (KeepsUpright view.a session) → IfOk r (λ answer. accounts ≡ acted at act n len answer view.accounts)
     → IfOk r (λ answer. Leads (DoesStep at act n len fill answer) old (record { a = session; b = view.b; to_a = view.to_a; to_b = view.to_b; accounts = accounts }))
-act-leads-a End.A e (Ok answer) act n len fill octets old view v session accounts o a u k = λ first w f.
+act-leads-a End.A e (Ok answer) act n len fill bare octets old view v session accounts o a u k = λ first w f.
     let here : kept_of first ≡ view = f ∙ sym v in
     let acts : Acts act n (message_from fill len) view.a session answer = subst (λ xs. Acts act n xs view.a session answer) o a in
-    let led = act-world End.A act n len fill answer first session w (subst (λ (s : Sessions). Acts act n (message_from fill len) s.a session answer) (sym here) acts)
+    let led = act-world End.A act n len fill answer first session w bare (subst (λ (s : Sessions). Acts act n (message_from fill len) s.a session answer) (sym here) acts)
     (subst (λ (s : Sessions). KeepsUpright s.a session) (sym here) u) in
     leading-a (DoesStep End.A act n len fill answer) first view (record { a = session; b = view.b; to_a = view.to_a; to_b = view.to_b; accounts = accounts }) here refl
     (subst (λ xs. Led End.A (DoesStep End.A act n len fill answer) first session view.to_a view.to_b xs) (sym k)
     (subst (λ (s : Sessions). Led End.A (DoesStep End.A act n len fill answer) first session s.to_a s.to_b (acted End.A act n len answer s.accounts)) here led))
-act-leads-a End.A e (Err error) act n len fill octets old view v session accounts o a u k = tt
-act-leads-a End.B e r act n len fill octets old view v session accounts o a u k = absurd (other-a e)
+act-leads-a End.A e (Err error) act n len fill bare octets old view v session accounts o a u k = tt
+act-leads-a End.B e r act n len fill bare octets old view v session accounts o a u k = absurd (other-a e)
 
 pub send-leads-a : {E : Type 0} (at : End) → at ≡ End.A → (r : Result Emit E) (max : ℕ) (old view : Sessions) → view ≡ old → (session : Held) (wire : List ℕ) (accounts : List Account)
     → IfOk r (λ emit. SendsOnto at max emit view.a session view.to_b wire view.accounts accounts)
@@ -92,20 +95,20 @@ take-leads-a End.B e n count part octets old view v session accounts room t k = 
 
 -- ---- by B
 
-pub act-leads-b : {E : Type 0} (at : End) → at ≡ End.B → (r : Result Answer E) (act : Act) (n len fill : ℕ) (octets : List ℕ) (old view : Sessions) → view ≡ old
+pub act-leads-b : {E : Type 0} (at : End) → at ≡ End.B → (r : Result Answer E) (act : Act) (n len fill : ℕ) → (act ≡ Act.Done → len ≡ 0) → (octets : List ℕ) (old view : Sessions) → view ≡ old
     → (session : Held) (accounts : List Account) → octets ≡ message_from fill len → IfOk r (λ answer. Acts act n octets view.b session answer)
     → OnOk r (KeepsUpright view.b session) → IfOk r (λ answer. accounts ≡ acted at act n len answer view.accounts)
     → IfOk r (λ answer. Leads (DoesStep at act n len fill answer) old (record { b = session; a = view.a; to_b = view.to_b; to_a = view.to_a; accounts = accounts }))
-act-leads-b End.B e (Ok answer) act n len fill octets old view v session accounts o a u k = λ first w f.
+act-leads-b End.B e (Ok answer) act n len fill bare octets old view v session accounts o a u k = λ first w f.
     let here : kept_of first ≡ view = f ∙ sym v in
     let acts : Acts act n (message_from fill len) view.b session answer = subst (λ xs. Acts act n xs view.b session answer) o a in
-    let led = act-world End.B act n len fill answer first session w (subst (λ (s : Sessions). Acts act n (message_from fill len) s.b session answer) (sym here) acts)
+    let led = act-world End.B act n len fill answer first session w bare (subst (λ (s : Sessions). Acts act n (message_from fill len) s.b session answer) (sym here) acts)
     (subst (λ (s : Sessions). KeepsUpright s.b session) (sym here) u) in
     leading-b (DoesStep End.B act n len fill answer) first view (record { b = session; a = view.a; to_b = view.to_b; to_a = view.to_a; accounts = accounts }) here refl
     (subst (λ xs. Led End.B (DoesStep End.B act n len fill answer) first session view.to_b view.to_a xs) (sym k)
     (subst (λ (s : Sessions). Led End.B (DoesStep End.B act n len fill answer) first session s.to_b s.to_a (acted End.B act n len answer s.accounts)) here led))
-act-leads-b End.B e (Err error) act n len fill octets old view v session accounts o a u k = tt
-act-leads-b End.A e r act n len fill octets old view v session accounts o a u k = absurd (other-b e)
+act-leads-b End.B e (Err error) act n len fill bare octets old view v session accounts o a u k = tt
+act-leads-b End.A e r act n len fill bare octets old view v session accounts o a u k = absurd (other-b e)
 
 pub send-leads-b : {E : Type 0} (at : End) → at ≡ End.B → (r : Result Emit E) (max : ℕ) (old view : Sessions) → view ≡ old → (session : Held) (wire : List ℕ) (accounts : List Account)
     → IfOk r (λ emit. SendsOnto at max emit view.b session view.to_a wire view.accounts accounts)
@@ -155,3 +158,16 @@ take-leads-b End.B e n count part octets old view v session accounts room t k = 
     (subst (λ xs. Led End.B (TakesStep End.B n count part octets) first session view.to_b view.to_a xs) (sym k)
     (subst (λ (s : Sessions). Led End.B (TakesStep End.B n count part octets) first session s.to_b s.to_a (counted_take End.B n part s.accounts)) here led))
 take-leads-b End.A e n count part octets old view v session accounts room t k = absurd (other-b e)
+
+-- ---- an act without a message
+
+pub bare_done : (at : End) (act : Act) (n len fill : ℕ) → IsTrue (is_act at act n len fill) → act ≡ Act.Done → len ≡ 0
+bare_done at act n len fill v e = of (is_above n) (len == 0) refl (subst (λ (a : Act). is_act at a n len fill ≡ true) e v)
+  where
+    none : (len == 0) ≡ true → len ≡ 0
+    none e = grind (arith, nat_tests)
+
+    of : (a b : Bool) → (len == 0) ≡ b → (a && (b && (fill == 0))) ≡ true → len ≡ 0
+    of true true f t = none f
+    of true false f t = cc
+    of false b f t = cc

@@ -1,15 +1,24 @@
 -- The events of a schedule, one after another.
-use Rattle.std.proofs.Common.{◌≡◌, ◌↔◌, ℕ, suc, zero, ◌+◌, ◌≤◌, Bool, true, List, [], ◌∷◌, ◌++◌, length, take, Option, Some, None, ap, sym, subst, ◌∙◌, append_assoc, append-nil, add-one}
+use Rattle.std.proofs.Common.{◌≡◌, ◌↔◌, ℕ, suc, zero, ◌+◌, ◌≤◌, Bool, true, false, List, [], ◌∷◌, ◌++◌, length, take, Option, Some, None, Ok, Err, refl, ap, sym, subst, ◌∙◌, append_assoc, append-nil, add-one}
+use Rattle.std.specs.declared.result.Result.{Result}
+use Rattle.std.specs.Result.{IfOk}
 use Rattle.std.specs.Bool.{IsTrue}
 use Rattle.std.specs.Prelude.{slice_get}
 use Rattle.std.specs.List.{flat_map}
+use Rattle.beep_octets.specs.Held.{Held as Octets}
+use Rattle.beep_session.specs.declared.limits.Limits.{Limits}
 use Rattle.beep_schedule.specs.declared.event.PairEvent.{PairEvent}
 use Rattle.beep_schedule.specs.Events.{is_event, AreEvents}
-use Rattle.beep_pair.specs.Texts.{account_lines, still_line, ending_text}
+use Rattle.beep_schedule.specs.Generated.{generated_events}
+use Rattle.beep_tally.specs.declared.account.Account.{Account}
+use Rattle.beep_report.specs.Summary.{summary_of}
+use Rattle.beep_report.specs.Texts.{account_lines, still_line, ending_text}
 use Rattle.beep_pair.specs.Sessions.{Sessions}
-use Rattle.beep_pair.specs.World.{World, kept_of, IsWorld}
+use Rattle.beep_pair.specs.World.{World, kept_of, IsWorld, Leads}
 use Rattle.beep_pair.specs.Report.{Steps, Runs, begins, goes, Tells, Reported, IsStill}
+use Rattle.beep_pair.specs.Command.{AreFresh, Summed, SumsEvents, schedule_of, Sums}
 use Rattle.beep_pair.proofs.ListLemmas.{some_at, taken_all}
+use Rattle.beep_pair.proofs.BeginLemmas.{fresh-world}
 use Rattle.beep_pair.proofs.StillLemmas.{kept-so}
 
 pub record SoFar (events : List PairEvent) (i : ℕ) (before after : List ℕ) (first now : World) : Type 0 where
@@ -60,3 +69,42 @@ all_made events first now both i before between line after still w k end so_far 
       };
       kept = kept-so now w still is;
     }
+
+-- ---- a summary
+
+-- tests of one fact are the same
+same_test : (a b : Bool) (P : Type 0) → (a ≡ true) ↔ P → (b ≡ true) ↔ P → a ≡ b
+same_test true b P p q = sym (q.1 (p.0 refl))
+same_test false true P p q = p.1 (q.0 refl)
+same_test false false P p q = refl
+
+pub summed_so : (seed count : ℕ) (events : List PairEvent) (report slice text : List ℕ) (accounts : List Account) (both : Sessions) (first last : World) (still : Bool) → kept_of last ≡ both
+    → ((still ≡ true) ↔ IsStill both) → Reported events [] report first last → count ≡ length events → slice ≡ report → accounts ≡ both.accounts
+    → text ≡ summary_of seed count slice accounts still → Summed seed events text first last
+summed_so seed count events report slice text accounts both first last still k is r n e a t = record {
+  report = report;
+  reported = r;
+  text_is = t ∙ ap (λ (m : ℕ). summary_of seed m slice accounts still) n
+      ∙ ap (λ (os : List ℕ). summary_of seed (length events) os accounts still) e
+      ∙ ap (λ (all : List Account). summary_of seed (length events) report all still) (a ∙ sym (ap (λ (s : Sessions). s.accounts) k))
+      ∙ ap (λ (b : Bool). summary_of seed (length events) report last.accounts b)
+      (same_test still r.adds.still (IsStill (kept_of last)) (subst (λ (s : Sessions). (still ≡ true) ↔ IsStill s) (sym k) is) r.adds.is_still);
+}
+
+-- the schedule of a number, by its name
+pub schedule_is : (seed : ℕ) (events : List PairEvent) → events ≡ generated_events seed → events ≡ schedule_of seed
+unfolding schedule_of
+schedule_is seed events e = e
+
+-- what was run between these two ends is their summary
+pub summed_between : {E : Type 0} (r : Result Octets E) (limits : Limits) (seed : ℕ) (events : List PairEvent) (first last : Sessions) → AreFresh limits first
+    → IfOk r (λ out. Leads (Summed seed events out.octets) first last) → IfOk r (λ out. SumsEvents limits seed events out.octets)
+summed_between (Ok out) limits seed events first last f leads =
+    let l = leads f.world (fresh-world limits f.world f.fresh) f.kept in
+    record { first = f.world; fresh = f.fresh; last = l.last; summed = l.step }
+summed_between (Err error) limits seed events first last f leads = tt
+
+pub sums_so : {E : Type 0} (r : Result Octets E) (limits : Limits) (seed : ℕ) (events : List PairEvent) → events ≡ schedule_of seed
+    → IfOk r (λ out. SumsEvents limits seed events out.octets) → IfOk r (λ out. Sums limits seed out.octets)
+sums_so (Ok out) limits seed events e s = record { events = events; made = e; sums = s }
+sums_so (Err error) limits seed events e s = tt

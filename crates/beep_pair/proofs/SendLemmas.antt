@@ -14,12 +14,19 @@ use Rattle.beep_two_sessions.specs.End.{End as OneEnd, goes, StandsAs}
 use Rattle.beep_two_sessions.specs.Acts.{Act as Deed, takes, sends, pauses, rests, used_by, sent_by, Does, SendsAs, LeadsTo}
 use Rattle.beep_two_sessions.specs.World.{World as Two}
 use Rattle.beep_two_sessions.proofs.CallLemmas.{takes-step, frame-step, seq-step, nothing-step, over-step}
-use Rattle.beep_pair.specs.declared.answer.Answer.{Answer}
+use Rattle.beep_report.specs.declared.answer.Answer.{Answer}
 use Rattle.beep_pair.specs.Sessions.{Acts, acted, message_from, Sends, SendsOnto, TakesPart, counted_take}
-use Rattle.beep_pair.specs.World.{World, other_end, end_of, wire_to, session_of, DoesAt, IsWorld}
+use Rattle.beep_pair.specs.Ends.{other_end}
+use Rattle.beep_pair.specs.World.{World, end_of, wire_to, session_of, DoesAt, IsWorld}
 use Rattle.beep_pair.specs.Steps.{is_done, deed_of, DoesStep, SentAt, SendsStep, TakesStep}
+use Rattle.beep_tally.specs.Accounts.{lives_noted}
+use Rattle.beep_peer.specs.Standing.{live_above}
+use Rattle.beep_two_sessions.proofs.BookLemmas.{BookedEnd}
+use Rattle.beep_pair.specs.Totals.{View, view_of, AreOfLives}
+use Rattle.beep_pair.proofs.NotedLemmas.{IsEmptyView}
+use Rattle.beep_pair.proofs.DeedLemmas.{Noted, sends-noted, paused-noted, taken-part, acted-lives}
 use Rattle.beep_pair.proofs.ActLemmas.{act-leads, channel_goes, stood-at}
-use Rattle.beep_pair.proofs.WorldLemmas.{Led, led-by, stands-now, frames-at}
+use Rattle.beep_pair.proofs.WorldLemmas.{Led, led-by, stands-now, frames-at, lives-at, books-at, empty-at}
 
 -- ---- an act
 
@@ -65,10 +72,10 @@ if-goes : (b : Bool) (deed : Deed) (old new : OneEnd) → old.doing ≡ goes →
 if-goes true deed old new e f d = f d
 if-goes false deed old new e f d = ap (λ (one : OneEnd). one.doing) d.new_is ∙ e
 
-pub act-world : (at : End) (act : Act) (n len fill : ℕ) (answer : Answer) (first : World) (session : Held) → IsWorld first
+pub act-world : (at : End) (act : Act) (n len fill : ℕ) (answer : Answer) (first : World) (session : Held) → IsWorld first → (act ≡ Act.Done → len ≡ 0)
     → Acts act n (message_from fill len) (session_of at first) session answer → KeepsUpright (session_of at first) session
     → Led at (DoesStep at act n len fill answer) first session (wire_to at first.two) (wire_to (other_end at) first.two) (acted at act n len answer first.accounts)
-act-world at act n len fill answer first session w a u =
+act-world at act n len fill answer first session w bare a u =
     let octets = message_from fill len in
     let deed : Deed = if is_done answer then deed_of act n octets else rests in
     let none : sent_by deed ≡ [] = if-sent (is_done answer) (deed_of act n octets) (quiet-sent act n octets) in
@@ -84,7 +91,9 @@ act-world at act n len fill answer first session w a u =
       acts = subst (λ (s : Held). Acts act n octets (session_of at first) s answer) (sym e) a;
       does = d;
       accounts_are = refl;
-    }))
+    })
+    (λ new d e. acted-lives at act n len fill answer (end_of at first.two) new session (view_of (end_of (other_end at) first.two)) first.accounts bare a d
+    (empty-at (other_end at) w.moves first.two w.reached) (lives-at at first.two first.accounts w.lives)))
 
 -- ---- what goes out
 
@@ -96,22 +105,24 @@ record Spoken (at : End) (one : OneEnd) (session : Held) (emit : Emit) (said : L
   pub said_is : said ≡ sent_by deed
   pub goes_on : (new : OneEnd) → Does deed one new → new.doing ≡ goes
   pub is : (two next : Two) → DoesAt at deed two next → SentAt at emit two next
+  pub noted : (new : OneEnd) (theirs : View) (accounts : List Account) → Does deed one new → IsEmptyView theirs → AreOfLives at (view_of one) theirs accounts → Noted at theirs accounts one new
 
 frame-goes : (frame : Frame) (old new : OneEnd) → SendsAs frame old new → new.doing ≡ goes
 frame-goes (framed head payload) old new s = ap (λ (one : OneEnd). one.doing) s.new_is ∙ s.going
 frame-goes (seq_frame seq) old new s = ap (λ (one : OneEnd). one.doing) s.new_is ∙ s.going
 
-paused : (at : End) (one : OneEnd) (session : Held) (said : List ℕ) → said ≡ [] → LeadsTo pauses one session → Spoken at one session Emit.Nothing said
-paused at one session said e l = record {
+paused : (at : End) (one : OneEnd) (session : Held) (said : List ℕ) → StandsAs goes one → BookedEnd one → said ≡ [] → LeadsTo pauses one session → Spoken at one session Emit.Nothing said
+paused at one session said s b e l = record {
   deed = pauses;
   leads = l;
   none = refl;
   said_is = e;
   goes_on = λ new d. ap (λ (x : OneEnd). x.doing) d.still ∙ d.going;
   is = λ two next d. d;
+  noted = λ new theirs accounts d none all. paused-noted at one new theirs accounts none all s b d.still;
 }
 
-module _ (at : End) (max : ℕ) (one : OneEnd) (session : Held) (said : List ℕ) (e : one.doing ≡ goes) (l : StandsAs goes one) (f : AreFrames one.journal) where
+module _ (at : End) (max : ℕ) (one : OneEnd) (session : Held) (said : List ℕ) (e : one.doing ≡ goes) (l : StandsAs goes one) (f : AreFrames one.journal) (b : BookedEnd one) where
   spoken-on : (emit : Emit) → Sends max one.session session emit said → is_over one.session.peer ≡ false → Spoken at one session emit said
   spoken-on (Emit.Data head) s on =
       let r = frame-step head (min max one.session.limits.piece) [] said one session e (s.framed one.fed one.rest one.journal one.given one.taken on l f)
@@ -123,6 +134,7 @@ module _ (at : End) (max : ℕ) (one : OneEnd) (session : Held) (said : List ℕ
         said_is = r.1;
         goes_on = λ new d. frame-goes (framed head r.0) one new d;
         is = λ two next d. (r.0, d);
+        noted = λ new theirs accounts d none all. sends-noted at one new theirs accounts none all (framed head r.0) l b d;
       }
   spoken-on (Emit.Seq seq) s on =
       let r = seq-step seq [] said one session e (s.framed one.fed one.rest one.journal one.given one.taken on l f)
@@ -134,10 +146,11 @@ module _ (at : End) (max : ℕ) (one : OneEnd) (session : Held) (said : List ℕ
         said_is = r.0;
         goes_on = λ new d. frame-goes (seq_frame seq) one new d;
         is = λ two next d. d;
+        noted = λ new theirs accounts d none all. sends-noted at one new theirs accounts none all (seq_frame seq) l b d;
       }
   spoken-on Emit.Nothing s on =
       let r = nothing-step (min max one.session.limits.piece) [] said one session e (s.speaks one.fed one.rest one.journal one.given one.taken on l.stands) s.same in
-      paused at one session said r.0 r.1
+      paused at one session said l b r.0 r.1
 
   spoken : (emit : Emit) → Sends max one.session session emit said → Spoken at one session emit said
   spoken emit s = by (is_over one.session.peer) refl
@@ -146,7 +159,7 @@ module _ (at : End) (max : ℕ) (one : OneEnd) (session : Held) (said : List ℕ
       by true o =
           let k = s.over o in
           subst (λ (x : Emit). Spoken at one session x said) (sym k.0)
-          (paused at one session said k.2 (subst (λ (x : Held). LeadsTo pauses one x) (sym k.1) (over-step one e o)))
+          (paused at one session said l b k.2 (subst (λ (x : Held). LeadsTo pauses one x) (sym k.1) (over-step one e o)))
       by false o = spoken-on emit s o
 
 pub send-world : (at : End) (max : ℕ) (emit : Emit) (first : World) (session : Held) (after : List ℕ) (noted : List Account) → IsWorld first
@@ -154,7 +167,7 @@ pub send-world : (at : End) (max : ℕ) (emit : Emit) (first : World) (session :
     → Led at (SendsStep at max emit) first session (wire_to at first.two) after noted
 send-world at max emit first session after noted w k =
     let wire = wire_to (other_end at) first.two in
-    let s = spoken at max (end_of at first.two) session k.said (w.going at) (stands-now at first w) (frames-at at w.moves first.two w.reached) emit k.sends in
+    let s = spoken at max (end_of at first.two) session k.said (w.going at) (stands-now at first w) (frames-at at w.moves first.two w.reached) (books-at at w.moves first.two w.reached) emit k.sends in
     let from : wire ++ sent_by s.deed ≡ after = ap (λ (xs : List ℕ). wire ++ xs) (sym s.said_is) ∙ sym k.wire_is in
     subst (λ (xs : List ℕ). Led at (SendsStep at max emit) first session (wire_to at first.two) xs noted) from
     (led-by at s.deed (SendsStep at max emit) first session (wire_to at first.two) noted w s.leads
@@ -164,7 +177,11 @@ send-world at max emit first session after noted w k =
           (subst (λ (x : Held). SendsOnto at max emit (session_of at first) x wire after first.accounts noted) (sym e) k);
       sent = s.is first.two next d;
       wire_stays = to;
-    }))
+    })
+    (λ new d e.
+    subst (λ (xs : List Account). AreOfLives at (view_of new) (view_of (end_of (other_end at) first.two)) xs) (sym k.accounts_are)
+    (subst (λ (x : Held). AreOfLives at (view_of new) (view_of (end_of (other_end at) first.two)) (lives_noted at (live_above (session_of at first).peer) (live_above x.peer) first.accounts)) e
+    (s.noted new (view_of (end_of (other_end at) first.two)) first.accounts d (empty-at (other_end at) w.moves first.two w.reached) (lives-at at first.two first.accounts w.lives)))))
 
 -- ---- what is taken
 
@@ -200,4 +217,6 @@ take-world at n count (Some part) octets first session w room t =
       takes = subst (λ (x : Held). TakesPart n (Some part) octets (session_of at first) x) (sym e) t;
       took = d;
       accounts_are = refl;
-    }))
+    })
+    (λ new d e. taken-part at (end_of at first.two) new (view_of (end_of (other_end at) first.two)) first.accounts (empty-at (other_end at) w.moves first.two w.reached)
+    (lives-at at first.two first.accounts w.lives) n part octets t.3 d))

@@ -1,5 +1,5 @@
 -- What holds of a world that steps lead to.
-use Rattle.std.proofs.Common.{◌≡◌, ◌↔◌, inl, inr, ℕ, Bool, true, false, not, ◌&&◌, ◌||◌, refl, sym, ap, ◌∙◌}
+use Rattle.std.proofs.Common.{◌≡◌, ◌↔◌, inl, inr, ℕ, ◌+◌, ◌<◌, ◌≤◌, ◌==◌, Option, Some, None, Bool, true, false, not, ◌&&◌, ◌||◌, refl, sym, ap, ◌∙◌, arith}
 use Rattle.std.specs.List.{list_any}
 use Rattle.beep_journal.specs.Life.{history}
 use Rattle.beep_lives.specs.Lives.{can_send, owes_seq}
@@ -10,11 +10,16 @@ use Rattle.beep_session.specs.Looks.{IsTakenAt}
 use Rattle.beep_two_sessions.specs.End.{End as OneEnd, goes, StandsAs, NothingIsDue}
 use Rattle.beep_two_sessions.specs.Still.{HasNothingLeft, IsStillEnd, IsStill as AreStill}
 use Rattle.beep_two_sessions.proofs.MoveLemmas.{stands-a, stands-b}
-use Rattle.beep_two_sessions.proofs.PrefixLemmas.{taken-at-a, taken-at-b, order-at-a, order-at-b}
+use Rattle.beep_two_sessions.proofs.PrefixLemmas.{apart, taken-at-a, taken-at-b, order-at-a, order-at-b}
 use Rattle.beep_two_sessions.proofs.NoStallLemmas.{still-taken, released-taken}
+use Rattle.beep_two_sessions.proofs.BookLemmas.{books}
+use Rattle.beep_two_sessions.proofs.ReplyLemmas.{replies-at-a, replies-at-b}
+use Rattle.beep_two_sessions.proofs.GreetLemmas.{greeted-a, greeted-b}
 use Rattle.beep_schedule.specs.declared.event.End.{End}
 use Rattle.beep_pair.specs.World.{World, kept_of, IsWorld}
-use Rattle.beep_pair.specs.Report.{IsStill, HaveGreeted, IsKept, may_send}
+use Rattle.beep_tally.specs.declared.account.Account.{Account}
+use Rattle.beep_pair.specs.Totals.{account_at, view_of, IsTold, AreTotals, IsAccount}
+use Rattle.beep_pair.specs.Report.{IsStill, IsKept, may_send}
 use Rattle.beep_pair.proofs.WorldLemmas.{stands-now}
 use Rattle.beep_pair.proofs.DrainLemmas.{taken-inbox}
 
@@ -47,7 +52,7 @@ module _ (one : OneEnd) (s : StandsAs goes one) (on : is_over one.session.peer �
         (or-second (is_greeted one.session.peer.management && list_any owes_seq one.session.peer.lives) _ none);
   }
 
-still-end : (one : OneEnd) → one.doing ≡ goes → StandsAs goes one → may_send one.session ≡ false → (is_over one.session.peer || is_greeted one.session.peer.management) ≡ true
+still-end : (one : OneEnd) → one.doing ≡ goes → StandsAs goes one → may_send one.session ≡ false → (NothingIsDue one → is_greeted one.session.peer.management ≡ true)
     → ((n : ℕ) → IsTakenAt n one.session.peer.lives) → IsStillEnd one
 still-end one e s silent greeted taken = record {
   going = e;
@@ -57,15 +62,31 @@ still-end one e s silent greeted taken = record {
   where
     by : (b : Bool) → is_over one.session.peer ≡ b → HasNothingLeft one
     by true o = inr o
-    by false o = inl (sym (ap (λ (b : Bool). b || is_greeted one.session.peer.management) o) ∙ greeted, nothing-due one s o silent)
+    by false o = let due = nothing-due one s o silent in inl (greeted due, due)
 
-still-world : (world : World) → IsWorld world → IsStill (kept_of world) → HaveGreeted (kept_of world) → AreStill world.two
-still-world world w s g = record {
-  a = still-end world.two.a (w.going End.A) (stands-now End.A world w) s.silent_a g.greeted_a s.taken_a;
-  b = still-end world.two.b (w.going End.B) (stands-now End.B world w) s.silent_b g.greeted_b s.taken_b;
+still-world : (world : World) → IsWorld world → IsStill (kept_of world) → AreStill world.two
+still-world world w s = record {
+  a = still-end world.two.a (w.going End.A) (stands-now End.A world w) s.silent_a (greeted-a w.moves world.two w.reached s.empty_a s.empty_b (w.short End.A) (w.going End.A)) s.taken_a;
+  b = still-end world.two.b (w.going End.B) (stands-now End.B world w) s.silent_b (greeted-b w.moves world.two w.reached s.empty_a s.empty_b (w.short End.B) (w.going End.B)) s.taken_b;
   no_wire_to_a = s.empty_a;
   no_wire_to_b = s.empty_b;
 }
+
+-- the accounts count what is in the books
+totals-of : (world : World) → IsWorld world → AreTotals world.two world.accounts
+totals-of world w = record { order = w.lives.order; each = λ n p above. by n p (apart n above) (account_at n p world.accounts) (w.lives.each n p (apart n above)) }
+  where
+    by : (n p : ℕ) → (n == 0) ≡ false → (o : Option Account) → IsAccount End.A (view_of world.two.a) (view_of world.two.b) n p o → IsTold world.two n (p + 1) o
+    by n p above None a =
+        let x = books w.moves world.two w.reached in
+        let less_a = a.0 in
+        let less_b = a.1 in (
+          x.0.fresh_gave n (p + 1) above (omega (arith, less_a)),
+          x.1.fresh_took n (p + 1) above (omega (arith, less_b)),
+          x.1.fresh_gave n (p + 1) above (omega (arith, less_b)),
+          x.0.fresh_took n (p + 1) above (omega (arith, less_a)),
+        )
+    by n p above (Some x) l = (l.life, l.from_here, l.from_there)
 
 pub kept-so : (world : World) → IsWorld world → (still : Bool) → ((still ≡ true) ↔ IsStill (kept_of world)) → IsKept world.two still (kept_of world)
 kept-so world w still is = record {
@@ -75,6 +96,9 @@ kept-so world w still is = record {
   prefix_by_a = λ n k above pos. taken-at-a w.moves world.two w.reached n k above pos;
   order_at_a = λ n k above pos. order-at-a w.moves world.two w.reached n k above pos;
   order_at_b = λ n k above pos. order-at-b w.moves world.two w.reached n k above pos;
-  if_still = λ e greeted n k above pos. still-taken w.moves world.two w.reached (still-world world w (is.0 e) greeted) n k above pos;
+  replies_at_a = λ n k above pos. replies-at-a w.moves world.two w.reached n k above pos;
+  replies_at_b = λ n k above pos. replies-at-b w.moves world.two w.reached n k above pos;
+  if_still = λ e n k above pos. still-taken w.moves world.two w.reached (still-world world w (is.0 e)) n k above pos;
   if_released = λ e n k above pos. released-taken w.moves world.two w.reached n k above pos e;
+  totals = totals-of world w;
 }

@@ -6,11 +6,17 @@ use Rattle.beep_schedule.specs.declared.event.End.{End}
 use Rattle.beep_tally.specs.declared.account.Account.{Account}
 use Rattle.beep_two_sessions.specs.End.{End as OneEnd, Doing, goes, StandsAs, StandsSo, StandsUnbroken}
 use Rattle.beep_two_sessions.specs.Acts.{Act as Deed, used_by, sent_by, Does, LeadsTo}
-use Rattle.beep_two_sessions.specs.World.{World as Two, Move, IsReached}
+use Rattle.beep_two_sessions.specs.World.{World as Two, Move, IsReached, first_of}
+use Rattle.beep_two_sessions.specs.Still.{GreetsShortly}
+use Rattle.beep_two_sessions.proofs.BookLemmas.{BookedEnd, books}
 use Rattle.beep_two_sessions.proofs.MoveLemmas.{stands-a, stands-b}
 use Rattle.beep_two_sessions.proofs.FramedLemmas.{frames-at-a, frames-at-b}
 use Rattle.beep_pair.specs.Sessions.{Sessions}
-use Rattle.beep_pair.specs.World.{World, kept_of, other_end, end_of, wire_to, session_of, move_at, DoesAt, IsWorld, Leading}
+use Rattle.beep_pair.specs.Totals.{view_of, AreOfLives}
+use Rattle.beep_pair.proofs.NotedLemmas.{IsEmptyView, turned-lives, back-lives}
+use Rattle.beep_pair.proofs.DeedLemmas.{empty-view}
+use Rattle.beep_pair.specs.Ends.{other_end}
+use Rattle.beep_pair.specs.World.{World, kept_of, end_of, wire_to, session_of, move_at, DoesAt, IsWorld, Leading}
 
 -- ---- what holds at each end
 
@@ -63,6 +69,42 @@ going-on End.A two next s g h End.B = ap (λ (one : OneEnd). one.doing) s ∙ g 
 going-on End.B two next s g h End.A = ap (λ (one : OneEnd). one.doing) s ∙ g End.A
 going-on End.B two next s g h End.B = h
 
+-- the two new sessions stay
+first-stays : (at : End) (deed : Deed) (moves : List Move) (two next : Two) (r : IsReached moves two) (s : DoesAt at deed two next)
+    → first_of (move_at at deed ∷ moves) next (reaches at deed moves two next r s) ≡ first_of moves two r
+unfolding reaches
+first-stays End.A deed moves two next r s = refl
+first-stays End.B deed moves two next r s = refl
+
+pub greets-on : (at : End) (deed : Deed) (moves : List Move) (two next : Two) (r : IsReached moves two) (s : DoesAt at deed two next)
+    → ((e : End) → GreetsShortly (end_of e (first_of moves two r))) → (e : End) → GreetsShortly (end_of e (first_of (move_at at deed ∷ moves) next (reaches at deed moves two next r s)))
+greets-on at deed moves two next r s g e = subst (λ (x : Two). GreetsShortly (end_of e x)) (sym (first-stays at deed moves two next r s)) (g e)
+
+-- ---- the accounts of all lives, as an end has them
+
+abbrev pub LivesAt : End → Two → List Account → Type 0
+LivesAt at two accounts = AreOfLives at (view_of (end_of at two)) (view_of (end_of (other_end at) two)) accounts
+
+pub lives-at : (at : End) (two : Two) (accounts : List Account) → AreOfLives End.A (view_of two.a) (view_of two.b) accounts → LivesAt at two accounts
+lives-at End.A two accounts l = l
+lives-at End.B two accounts l = turned-lives (view_of two.a) (view_of two.b) accounts l
+
+pub lives-from : (at : End) (two : Two) (accounts : List Account) → LivesAt at two accounts → AreOfLives End.A (view_of two.a) (view_of two.b) accounts
+lives-from End.A two accounts l = l
+lives-from End.B two accounts l = back-lives (view_of two.a) (view_of two.b) accounts l
+
+-- the other end stays
+pub lives-next : (at : End) (deed : Deed) (two next : Two) (accounts : List Account) → DoesAt at deed two next
+    → AreOfLives at (view_of (end_of at next)) (view_of (end_of (other_end at) two)) accounts → LivesAt at next accounts
+lives-next at deed two next accounts d l = subst (λ (x : OneEnd). AreOfLives at (view_of (end_of at next)) (view_of x) accounts) (sym d.other) l
+
+pub books-at : (at : End) (moves : List Move) (two : Two) → IsReached moves two → BookedEnd (end_of at two)
+books-at End.A moves two r = (books moves two r).0
+books-at End.B moves two r = (books moves two r).1
+
+pub empty-at : (at : End) (moves : List Move) (two : Two) → IsReached moves two → IsEmptyView (view_of (end_of at two))
+empty-at at moves two r = empty-view (end_of at two) (books-at at moves two r)
+
 -- ---- what a step of an end leads to
 
 pub record Led (at : End) (Step : World → World → Type 0) (first : World) (session : Held) (to from : List ℕ) (accounts : List Account) : Type 0 where
@@ -80,8 +122,9 @@ pub led-by : (at : End) (deed : Deed) (Step : World → World → Type 0) (first
     → LeadsTo deed (end_of at first.two) session → wire_to at first.two ≡ used_by deed ++ later
     → ((new : OneEnd) → Does deed (end_of at first.two) new → new.doing ≡ goes)
     → ((next : Two) → DoesAt at deed first.two next → (end_of at next).session ≡ session → wire_to at next ≡ later → Step first (record { two = next; accounts = accounts }))
+    → ((new : OneEnd) → Does deed (end_of at first.two) new → new.session ≡ session → AreOfLives at (view_of new) (view_of (end_of (other_end at) first.two)) accounts)
     → Led at Step first session later (wire_to (other_end at) first.two ++ sent_by deed) accounts
-led-by at deed Step first session later accounts w l wire going step =
+led-by at deed Step first session later accounts w l wire going step tally =
     let m = made at deed first.two l.0 later l.2 wire in
     let e : (end_of at m.next).session ≡ session = ap (λ (one : OneEnd). one.session) m.end_is ∙ l.1 in
     record {
@@ -90,6 +133,8 @@ led-by at deed Step first session later accounts w l wire going step =
         moves = move_at at deed ∷ w.moves;
         reached = reaches at deed w.moves first.two m.next w.reached m.does;
         going = going-on at first.two m.next m.does.other w.going (ap (λ (one : OneEnd). one.doing) m.end_is ∙ going l.0 l.2);
+        short = greets-on at deed w.moves first.two m.next w.reached m.does w.short;
+        lives = lives-from at m.next accounts (lives-next at deed first.two m.next accounts m.does (tally (end_of at m.next) m.does.does e));
       };
       step = step m.next m.does e m.wire_is;
       session_is = e;

@@ -19,7 +19,7 @@ use Rattle.beep_giving.specs.Looks.{owes_of, answers_of}
 use Rattle.beep_session.specs.Session.{Held}
 use Rattle.beep_session.specs.Channels.{is_closing, next_answer, IsOfPeer, IsStill, Gives, Closes}
 use Rattle.beep_session.specs.Acts.{AsksZero, start_text, refusal_of_start}
-use Rattle.beep_pair.specs.declared.answer.Answer.{Answer}
+use Rattle.beep_report.specs.declared.answer.Answer.{Answer}
 
 -- the profile that both ends offer
 unfoldable pub pair_uri : List ℕ

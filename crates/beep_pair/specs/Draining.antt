@@ -10,7 +10,7 @@ use Rattle.beep_schedule.specs.declared.limits.TheConstants.{MAX_COUNT}
 use Rattle.beep_pair.specs.World.{World, end_of, session_of}
 use Rattle.beep_pair.specs.Steps.{TakesStep}
 use Rattle.beep_pair.specs.Drains.{Parts, Turn, Round, Drains, IsAllTaken, is_nothing}
-use Rattle.beep_pair.specs.Texts.{drain_line}
+use Rattle.beep_report.specs.Texts.{drain_line}
 
 -- parts of one channel, one after another
 pub data PartsOf (at : End) (n : ℕ) (first : World) : World → Type 0 where

@@ -10,9 +10,10 @@ use Rattle.beep_journal.specs.Life.{history, is_there}
 use Rattle.beep_two_sessions.specs.End.{End as OneEnd}
 use Rattle.beep_schedule.specs.declared.event.End.{End}
 use Rattle.beep_schedule.specs.declared.limits.TheConstants.{MAX_COUNT}
-use Rattle.beep_pair.specs.World.{World, other_end, end_of, wire_to, session_of}
+use Rattle.beep_pair.specs.Ends.{other_end}
+use Rattle.beep_pair.specs.World.{World, end_of, wire_to, session_of}
 use Rattle.beep_pair.specs.Steps.{SendsStep, GetsStep, TakesStep}
-use Rattle.beep_pair.specs.Texts.{drain_line}
+use Rattle.beep_report.specs.Texts.{drain_line}
 
 -- ---- an end gets its whole wire
 

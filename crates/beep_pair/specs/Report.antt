@@ -2,7 +2,9 @@
 -- "Reports of schedules").
 use Rattle.std.specs.Prelude.{◌≡◌, ◌↔◌, ◌⊎◌, ℕ, ◌<◌, Bool, true, false, not, ◌&&◌, ◌||◌, List, [], ◌∷◌, ◌++◌, Option}
 use Rattle.std.specs.List.{list_any}
+use Rattle.beep_frame.specs.Frame.{is_msg}
 use Rattle.beep_journal.specs.Life.{is_released}
+use Rattle.beep_channel.specs.Stands.{ends_of}
 use Rattle.beep_lives.specs.Lives.{can_send, owes_seq}
 use Rattle.beep_speaking.specs.declared.emit.Emit.{Emit}
 use Rattle.beep_inbox.specs.declared.part.Part.{Part}
@@ -11,14 +13,15 @@ use Rattle.beep_session.specs.Session.{Held}
 use Rattle.beep_session.specs.Looks.{IsTakenAt}
 use Rattle.beep_schedule.specs.declared.event.PairEvent.{PairEvent}
 use Rattle.beep_two_sessions.specs.End.{StandsUnbroken}
-use Rattle.beep_two_sessions.specs.Kept.{IsPrefix, IsTakenInOrder}
+use Rattle.beep_two_sessions.specs.Kept.{IsPrefix, IsTakenInOrder, AreReplies}
 use Rattle.beep_two_sessions.specs.World.{World as Two}
-use Rattle.beep_pair.specs.declared.answer.Answer.{Answer}
+use Rattle.beep_report.specs.declared.answer.Answer.{Answer}
 use Rattle.beep_pair.specs.Sessions.{Sessions}
+use Rattle.beep_pair.specs.Totals.{AreTotals}
 use Rattle.beep_pair.specs.World.{World, kept_of}
 use Rattle.beep_pair.specs.Steps.{DoesStep, SendsStep, GetsStep, TakesStep}
 use Rattle.beep_pair.specs.Drains.{Drains}
-use Rattle.beep_pair.specs.Texts.{act_line, send_line, get_line, take_line, ending_text}
+use Rattle.beep_report.specs.Texts.{act_line, send_line, get_line, take_line, ending_text}
 
 -- what an event does, and what is written of it
 abbrev pub Steps : PairEvent → World → List ℕ → World → Type 0
@@ -58,11 +61,6 @@ pub record IsStill (both : Sessions) : Type 0 where
   pub taken_a : (number : ℕ) → IsTakenAt number both.a.peer.lives
   pub taken_b : (number : ℕ) → IsTakenAt number both.b.peer.lives
 
--- the own greeting of each end has gone, or its session is over
-pub record HaveGreeted (both : Sessions) : Type 0 where
-  pub greeted_a : (is_over both.a.peer || is_greeted both.a.peer.management) ≡ true
-  pub greeted_b : (is_over both.b.peer || is_greeted both.b.peer.management) ≡ true
-
 -- ---- what is appended
 
 -- the line of a step, or the lines of a drain
@@ -88,8 +86,9 @@ IsTakenWhole two number count =
     × (two.a.took number count ≡ two.b.gave number count)
 
 -- each session stands lawfully for its journal and found no broken rule; of each life and giver
--- what was taken is the first part of what was given, in order; and all of it where nothing can
--- move, once the greetings have gone, or where an end is released
+-- what was taken is the first part of what was given, in order, and each request has one reply, of
+-- those that its giver had wholly taken; all of it was taken where nothing can move, or where an
+-- end is released; and the accounts count it
 pub record IsKept (two : Two) (still : Bool) (both : Sessions) : Type 0 where
   pub unbroken_a : StandsUnbroken two.a
   pub unbroken_b : StandsUnbroken two.b
@@ -101,10 +100,15 @@ pub record IsKept (two : Two) (still : Bool) (both : Sessions) : Type 0 where
       → IsTakenInOrder two.a number count
   pub order_at_b : (number count : ℕ) → 0 < number → 0 < count
       → IsTakenInOrder two.b number count
-  pub if_still : still ≡ true → HaveGreeted both → (number count : ℕ) → 0 < number → 0 < count
+  pub replies_at_a : (number count : ℕ) → 0 < number → 0 < count
+      → AreReplies (ends_of is_msg (two.b.took number count)) 0 (two.a.took number count)
+  pub replies_at_b : (number count : ℕ) → 0 < number → 0 < count
+      → AreReplies (ends_of is_msg (two.a.took number count)) 0 (two.b.took number count)
+  pub if_still : still ≡ true → (number count : ℕ) → 0 < number → 0 < count
       → IsTakenWhole two number count
   pub if_released : (is_released two.a.journal ≡ true) ⊎ (is_released two.b.journal ≡ true)
       → (number count : ℕ) → 0 < number → 0 < count → IsTakenWhole two number count
+  pub totals : AreTotals two both.accounts
 
 -- the report, and what holds of the world that its steps lead to
 pub record Reported (events : List PairEvent) (before after : List ℕ) (old new : World)

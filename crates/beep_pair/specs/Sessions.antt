@@ -33,7 +33,7 @@ use Rattle.beep_schedule.specs.declared.event.End.{End}
 use Rattle.beep_schedule.specs.declared.event.Act.{Act}
 use Rattle.beep_tally.specs.declared.account.Account.{Account}
 use Rattle.beep_tally.specs.Accounts.{lives_noted, with_given, with_taken}
-use Rattle.beep_pair.specs.declared.answer.Answer.{Answer}
+use Rattle.beep_report.specs.declared.answer.Answer.{Answer}
 use Rattle.beep_pair.specs.Acts.{pair_uri, has_channel, Asks, Replies, Answers, Ends, ClosesChannel, Starts, Releases}
 
 -- the sessions of both ends, the octets that were sent to each and it didn't use, and the counts of
@@ -235,6 +235,7 @@ TakesPart n None octets old new =
     (new ≡ old) × (has_channel n old ≡ true → inbox_of (live_at n old.peer.lives) ≡ [])
 TakesPart n (Some part) octets old new =
     (has_channel n old ≡ true) × Takes n part octets old new × KeepsUpright old new
+    × (part.len ≤ length octets)
     × IsLess (inbox_of (live_at n new.peer.lives)) (inbox_of (live_at n old.peer.lives))
 
 abbrev pub counted_take : End → ℕ → Option Part → List Account → List Account

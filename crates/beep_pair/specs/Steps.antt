@@ -14,10 +14,11 @@ use Rattle.beep_schedule.specs.declared.event.End.{End}
 use Rattle.beep_schedule.specs.declared.event.Act.{Act}
 use Rattle.beep_two_sessions.specs.Acts.{Act as Deed, gives, asks, takes, settles, sends, pauses, gets, rests}
 use Rattle.beep_two_sessions.specs.World.{World as Two}
-use Rattle.beep_pair.specs.declared.answer.Answer.{Answer}
+use Rattle.beep_report.specs.declared.answer.Answer.{Answer}
 use Rattle.beep_pair.specs.Acts.{pair_uri, listed}
 use Rattle.beep_pair.specs.Sessions.{Acts, acted, message_from, SendsOnto, Gets, TakesPart, counted_take}
-use Rattle.beep_pair.specs.World.{World, other_end, wire_to, session_of, DoesAt}
+use Rattle.beep_pair.specs.Ends.{other_end}
+use Rattle.beep_pair.specs.World.{World, wire_to, session_of, DoesAt}
 
 -- ---- an end does something
 

@@ -8,8 +8,11 @@ use Rattle.beep_tally.specs.declared.account.Account.{Account}
 use Rattle.beep_session.specs.Session.{Held}
 use Rattle.beep_two_sessions.specs.End.{End as OneEnd, goes}
 use Rattle.beep_two_sessions.specs.Acts.{Act as Deed, used_by, sent_by, Does}
-use Rattle.beep_two_sessions.specs.World.{World as Two, Move, a_does, b_does, IsReached}
+use Rattle.beep_two_sessions.specs.World.{World as Two, Move, a_does, b_does, IsReached, first_of}
+use Rattle.beep_two_sessions.specs.Still.{GreetsShortly}
+use Rattle.beep_pair.specs.Ends.{other_end}
 use Rattle.beep_pair.specs.Sessions.{Sessions}
+use Rattle.beep_pair.specs.Totals.{view_of, AreOfLives}
 
 -- two sessions with all that they stand for, and the counts of what was given and taken
 pub record World : Type 0 where
@@ -27,10 +30,6 @@ kept_of world = record {
 }
 
 -- ---- its ends
-
-abbrev pub other_end : End → End
-other_end End.A = End.B
-other_end End.B = End.A
 
 abbrev pub end_of : End → Two → OneEnd
 end_of End.A two = two.a
@@ -69,12 +68,14 @@ pub record DoesAt (at : End) (deed : Deed) (old new : Two) : Type 0 where
 
 -- ---- which worlds there are
 
--- such deeds lead to it from two new sessions, and at neither end does a message of channel zero
--- wait
+-- such deeds lead to it from two new sessions with short greetings, at neither end does a message
+-- of channel zero wait, and the accounts are those of all lives
 pub record IsWorld (world : World) : Type 0 where
   pub moves : List Move
   pub reached : IsReached moves world.two
   pub going : (at : End) → (end_of at world.two).doing ≡ goes
+  pub short : (at : End) → GreetsShortly (end_of at (first_of moves world.two reached))
+  pub lives : AreOfLives End.A (view_of world.two.a) (view_of world.two.b) world.accounts
 
 -- such a step leads from a world to one of which this is kept
 pub record Leading (Step : World → World → Type 0) (first : World) (new : Sessions) : Type 0 where

@@ -7,11 +7,11 @@ ghost use Rattle.beep_peer.specs.Peering.{zero_waits};
 ghost use Rattle.beep_session.specs.Lawfully.{KeepsUpright};
 ghost use Rattle.beep_pair.specs.Acts.{Asks, Replies, Answers, Ends, ClosesChannel, Starts, Releases};
 
-use crate::answer::Answer;
 use beep_channel::AskError;
 use beep_chars::Text;
 use beep_octets::NoMemory;
 use beep_outbox::GiveError;
+use beep_report::Answer;
 use beep_session::{CloseError, Duty, ReleaseError, Session, StartError, one_profile};
 use std::alloc::Global;
 

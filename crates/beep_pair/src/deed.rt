@@ -8,9 +8,9 @@ ghost use Rattle.beep_pair.specs.Acts.{pair_uri};
 ghost use Rattle.beep_pair.specs.Sessions.{IsReady, Acts, acted, is_given as was_given};
 
 use crate::acts::{answer, ask, close, done, refuse, release, reply, start};
-use crate::answer::Answer;
 use beep_chars::Text;
 use beep_octets::NoMemory;
+use beep_report::Answer;
 use beep_schedule::{Act, End};
 use beep_session::Session;
 use beep_tally::Accounts;

@@ -6,14 +6,15 @@ ghost use Rattle.beep_pair.specs.Drains.{is_nothing as was_nothing};
 
 use crate::lives::live_numbers;
 use crate::pair::Pair;
-use crate::words::put_drain_line;
 use beep_octets::{NoMemory, Octets};
+use beep_report::put_drain_line;
 use beep_schedule::{End, MAX_COUNT};
 use beep_speaking::Emit;
 
 impl Pair {
     ghost use Rattle.beep_pair.specs.Sessions.{AreReady};
-    ghost use Rattle.beep_pair.specs.World.{Leads, other_end};
+    ghost use Rattle.beep_pair.specs.Ends.{other_end};
+    ghost use Rattle.beep_pair.specs.World.{Leads};
     ghost use Rattle.beep_pair.specs.Drains.{GotAll, TookAll};
     ghost use Rattle.beep_pair.specs.Draining.{TookOut, TookEach, Drained, Rounded, Turned};
 

@@ -3,7 +3,6 @@
 #![tactic(auto)]
 
 mod acts;
-mod answer;
 mod command;
 mod deed;
 mod drain;
@@ -15,9 +14,8 @@ mod speak;
 mod take;
 mod uri;
 mod wire;
-mod words;
 
-pub use answer::Answer;
+pub use beep_report::Answer;
 pub use beep_session::Limits;
-pub use command::{Outcome, report};
+pub use command::{Outcome, report, summary};
 pub use pair::Pair;

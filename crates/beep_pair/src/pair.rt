@@ -9,7 +9,6 @@ ghost use Rattle.beep_schedule.specs.Events.{is_event, is_act, AreEvents, is_fro
 ghost use Rattle.beep_pair.specs.Sessions.{IsReady, Gets};
 ghost use Rattle.beep_pair.specs.Command.{HasBegun, pair_offers};
 
-use crate::answer::Answer;
 use crate::deed::{Deed, act_counted};
 use crate::hear::hear;
 use crate::message::fill_message;
@@ -17,14 +16,14 @@ use crate::speak::send;
 use crate::take::take_on;
 use crate::uri::pair_text;
 use crate::wire::Wire;
-use crate::words::{
-    put_act_line, put_get_line, put_send_line, put_still, put_take_line, put_totals,
-};
 use beep_answering::Offers;
 use beep_decide::Offer;
 use beep_inbox::Part;
 use beep_journal::Role;
 use beep_octets::{NoMemory, Octets};
+use beep_report::{
+    Answer, put_act_line, put_get_line, put_send_line, put_still, put_take_line, put_totals,
+};
 use beep_schedule::{Act, End, MAX_COUNT, PairEvent, Schedule};
 use beep_session::{Limits, Session};
 use beep_speaking::Emit;

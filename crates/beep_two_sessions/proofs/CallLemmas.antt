@@ -15,6 +15,7 @@ use Rattle.beep_journal.specs.Zero.{zero_history, completes_form}
 use Rattle.beep_journal.specs.Broken.{none_tunes}
 use Rattle.beep_decide.specs.Numbers.{other_role}
 use Rattle.beep_inbox.specs.declared.part.Part.{Part}
+use Rattle.beep_outbox.specs.Queue.{marks_of}
 use Rattle.beep_standing.specs.Standing.{Marks, no_marks}
 use Rattle.beep_hearing.specs.Hears.{Breaks, Hears}
 use Rattle.beep_hearing.specs.declared.ear.Ear.{Ear}
@@ -110,6 +111,7 @@ takes-step number part octets old session e on s g u =
         same = g.same;
         given_now = m.given_now;
         above = m.same;
+        grows = (marks_of m.gives.messages, m.gives.given_is);
         new_is = refl;
         stands = stands-so old session g.same old.fed old.rest old.journal m.given_now _
             (record { stands = m.stands; upright = u old.fed old.rest old.journal old.given old.taken l.stands l.upright; lawful = l.lawful });
@@ -158,6 +160,7 @@ settles-step head payload old session e s m u same =
         given_now = m.given_now;
         taken_now = m.taken_now;
         given_is = m.given_is;
+        grows = (marks_of m.gives.messages, m.gives.given_is);
         taken_is = m.taken_is;
         new_is = refl;
         stands = stands-so old session same old.fed [] (passed Side.Received head payload ∷ old.journal) m.given_now m.taken_now
@@ -226,6 +229,7 @@ frame-step head most before after old session e h s m same = (
       given_now = m.sent.given_now;
       taken_now = m.sent.taken_now;
       given_is = m.sent.given_is;
+      grows = (marks_of m.sent.gives.messages, m.sent.gives.given_is);
       taken_is = m.sent.taken_is;
       new_is = refl;
       stands = stands-so old session same old.fed old.rest (passed Side.Sent head m.payload ∷ began Side.Sent head ∷ old.journal) m.sent.given_now m.sent.taken_now

@@ -14,7 +14,7 @@ use Rattle.beep_journal.specs.Lives.{Event, close_came, start_granted, close_gra
 use Rattle.beep_journal.specs.Zero.{zero_history, zero_events, events, effect, coming, granting, completes_form, gathered, asked, said_to}
 use Rattle.beep_journal.specs.Life.{life, life_now, is_of_life, is_there}
 use Rattle.beep_journal.proofs.JournalLemmas.{began-events, told-events}
-use Rattle.beep_journal.proofs.MomentLemmas.{equal-number, apart-zero, named-within, and-false}
+use Rattle.beep_journal.proofs.MomentLemmas.{equal-number, apart-zero, named-within, ended-later, and-false}
 use Rattle.beep_journal.proofs.LivesLemmas.{ended-before}
 use Rattle.std.proofs.lemmas.Bool.{lt-ltb}
 use Rattle.std.proofs.lemmas.Bool.Decides.{nat_tests}
@@ -77,11 +77,16 @@ all-came n k (item ∷ gained) journal c =
 
 -- ---- which lives are live
 
+-- a life that is live now and wasn't has begun
+abbrev pub one_begun : Bool → Bool → ℕ
+one_begun now before = if now && not before then 1 else 0
+
 -- a journal goes on with another: no life begins or ends but as it may
 pub record Follows (before after : List Item) : Type 0 where
   pub stays : (n : ℕ) → (n == 0) ≡ false → is_there n before ≡ true → is_there n after ≡ true → life_now n after ≡ life_now n before
   pub begins : (n : ℕ) → (n == 0) ≡ false → is_there n before ≡ false → is_there n after ≡ true → lives n (events before) < life_now n after
   pub grows : (n : ℕ) → lives n (events before) ≤ lives n (events after)
+  pub counts : (n : ℕ) → lives n (events after) ≡ lives n (events before) + one_begun (is_live n (events after)) (is_live n (events before))
   pub sent : (n k : ℕ) → (n == 0) ≡ false → 0 < k → (is_there n after && life_now n after == k) ≡ false
       → marks Side.Sent (life n k after) ≡ marks Side.Sent (life n k before)
   pub got : (n k : ℕ) → Begins (marks Side.Received (life n k before)) (marks Side.Received (life n k after))
@@ -91,12 +96,19 @@ pub record Moves (n : ℕ) (old new : List Event) : Type 0 where
   pub stays : is_live n old ≡ true → is_live n new ≡ true → live_life n new ≡ live_life n old
   pub begins : is_live n old ≡ false → is_live n new ≡ true → lives n old < live_life n new
   pub grows : lives n old ≤ lives n new
+  pub counts : lives n new ≡ lives n old + one_begun (is_live n new) (is_live n old)
+
+none-begun : (now before : Bool) → (now ≡ true → before ≡ true) → one_begun now before ≡ 0
+none-begun true true was = refl
+none-begun true false was = absurd (let bad : false ≡ true = was refl in cc)
+none-begun false before was = refl
 
 same-moves : (n : ℕ) (es : List Event) → Moves n es es
 same-moves n es = record {
   stays = λ a b. refl;
   begins = λ a b. absurd (let bad : true ≡ false = sym b ∙ a in cc);
   grows = omega arith;
+  counts = (let none = none-begun (is_live n es) (is_live n es) (λ l. l) in omega (arith, none));
 }
 
 live-count : (n : ℕ) (es : List Event) → is_live n es ≡ true → live_life n es ≡ lives n es
@@ -108,19 +120,30 @@ still-moves n old new same was = record {
   stays = λ a b. live-count n new b ∙ same ∙ sym (live-count n old a);
   begins = λ a b. absurd (let bad : true ≡ false = sym (was b) ∙ a in cc);
   grows = omega (arith, same);
+  counts = (let none = none-begun (is_live n new) (is_live n old) was in omega (arith, none, same));
 }
 
 -- one more has begun, where none was live
-more-moves : (n : ℕ) (old new : List Event) → lives n new ≡ lives n old + 1 → is_live n old ≡ false → Moves n old new
-more-moves n old new more none = record {
+more-moves : (n : ℕ) (old new : List Event) → lives n new ≡ lives n old + 1 → is_live n old ≡ false → is_live n new ≡ true → Moves n old new
+more-moves n old new more none live = record {
   stays = λ a b. absurd (let bad : true ≡ false = sym a ∙ none in cc);
   begins = λ a b. omega (arith, live-count n new b, more);
   grows = omega (arith, more);
+  counts = (let one : one_begun (is_live n new) (is_live n old) ≡ 1 = rw (live, none) refl in omega (arith, one, more));
 }
 
 start-moves : (n of : ℕ) (es : List Event) (b : Bool) → (of == n && not (is_live n es)) ≡ b → Moves n es (start_granted of ∷ es)
-start-moves n of es true e = more-moves n es (start_granted of ∷ es) (rw e refl) (not-true (of == n) (is_live n es) e)
+start-moves n of es true e = more-moves n es (start_granted of ∷ es) more (not-true (of == n) (is_live n es) e) live
   where
+    more : lives n (start_granted of ∷ es) ≡ lives n es + 1
+    more = rw e refl
+
+    -- the life after the last has not ended
+    live : is_live n (start_granted of ∷ es) ≡ true
+    live =
+        ap (λ (m : ℕ). nat_lt 0 m && not (has_ended n m es)) more
+        ∙ rw (lt-ltb 0 (lives n es + 1) (omega arith), ended-later n (lives n es + 1) es (omega arith)) refl
+
     not-true : (a b : Bool) → (a && not b) ≡ true → b ≡ false
     not-true true true e = cc
     not-true true false e = refl
@@ -343,6 +366,7 @@ by-moves before after m sent got = record {
   stays = λ n above was is. (m n).stays (or-live (n == 0) (is_live n (events before)) above was) (or-live (n == 0) (is_live n (events after)) above is);
   begins = λ n above was is. (m n).begins (or-none (n == 0) (is_live n (events before)) was) (or-live (n == 0) (is_live n (events after)) above is);
   grows = λ n. (m n).grows;
+  counts = λ n. (m n).counts;
   sent = sent;
   got = got;
 }

@@ -13,3 +13,6 @@ pub mod DebtLemmas
 pub mod OverLemmas
 pub mod WaitLemmas
 pub mod NoStallLemmas
+pub mod ReplyLemmas
+pub mod ZeroMarkLemmas
+pub mod GreetLemmas

@@ -27,6 +27,7 @@ use Rattle.beep_session.specs.Feeds.{Gains, ZeroWaits}
 use Rattle.beep_session.specs.Lawfully.{IsLawfulSession}
 use Rattle.beep_session.specs.Session.{Held}
 use Rattle.beep_two_sessions.specs.End.{End, goes, waits, stopped, with_more, Stands, StandsAs, IsQuiet}
+use Rattle.beep_two_sessions.specs.Kept.{IsPrefix}
 
 -- ---- what an end may do
 
@@ -115,6 +116,7 @@ pub record HasTaken (number : ℕ) (part : Part) (octets : List ℕ) (old new : 
   pub same : IsOfPeer old.session session
   pub given_now : Marks
   pub above : SameAbove old.given given_now
+  pub grows : IsPrefix (old.given 0) (given_now 0)
   pub new_is : new ≡ record old {
     session = session;
     given = given_now;
@@ -137,6 +139,7 @@ pub record HasSettled (old new : End) : Type 0 where
   pub taken_now : Marks
   pub given_is : Carries old.journal (passed Side.Received head payload ∷ old.journal) old.given
       given_now
+  pub grows : IsPrefix (old.given 0) (given_now 0)
   pub taken_is : Carries old.journal (passed Side.Received head payload ∷ old.journal) old.taken
       taken_now
   pub new_is : new ≡ record old {
@@ -176,6 +179,7 @@ pub record HasSent (head : Head) (payload : List ℕ) (old new : End) : Type 0 w
   pub taken_now : Marks
   pub given_is : Carries old.journal
       (passed Side.Sent head payload ∷ began Side.Sent head ∷ old.journal) old.given given_now
+  pub grows : IsPrefix (old.given 0) (given_now 0)
   pub taken_is : Carries old.journal
       (passed Side.Sent head payload ∷ began Side.Sent head ∷ old.journal) old.taken taken_now
   pub new_is : new ≡ record old {

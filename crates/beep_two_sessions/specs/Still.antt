@@ -1,6 +1,10 @@
 -- When nothing can move between two sessions (RFC 3081, section 3.1.4).
 -- A schedule that goes on until no call of a session does anything ends so.
-use Rattle.std.specs.Prelude.{◌≡◌, ◌⊎◌, ℕ, ◌==◌, true, false, []}
+use Rattle.std.specs.Prelude.{◌≡◌, ◌⊎◌, ℕ, ◌+◌, ◌<◌, ◌≤◌, ◌==◌, true, false, []}
+use Rattle.beep_seq.specs.declared.limits.TheConstants.{INITIAL_WINDOW}
+use Rattle.beep_exchange.specs.Given.{ends_reply}
+use Rattle.beep_channel.specs.Stands.{ends_of}
+use Rattle.beep_standing.specs.Due.{octets_among}
 use Rattle.beep_lives.specs.Lives.{live_at}
 use Rattle.beep_giving.specs.Looks.{inbox_of}
 use Rattle.beep_peer.specs.Peering.{is_greeted, is_over}
@@ -26,3 +30,9 @@ pub record IsStill (world : World) : Type 0 where
   pub b : IsStillEnd world.b
   pub no_wire_to_a : world.to_a ≡ []
   pub no_wire_to_b : world.to_b ≡ []
+
+-- a whole greeting was given to channel zero as the session began, of no more octets than go before
+-- any SEQ
+pub record GreetsShortly (one : End) : Type 0 where
+  pub greets : 0 < ends_of ends_reply (one.given 0)
+  pub short : octets_among (one.given 0) ≤ INITIAL_WINDOW

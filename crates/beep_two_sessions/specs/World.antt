@@ -38,3 +38,11 @@ IsReached (b_does act ∷ moves) world =
     (before : World) × Does act before.b world.b × (world.a ≡ before.a)
     × (before.to_b ≡ used_by act ++ world.to_b) × (world.to_a ≡ before.to_a ++ sent_by act)
     × IsReached moves before
+
+-- the two new sessions with which these moves began
+abbrev pub first_of : (moves : List Move) (world : World) → IsReached moves world → World
+first_of [] world reached = world
+first_of (a_does act ∷ moves) world (before, does, same, used, sent, reached) =
+    first_of moves before reached
+first_of (b_does act ∷ moves) world (before, does, same, used, sent, reached) =
+    first_of moves before reached

@@ -14,6 +14,7 @@ ghost use Rattle.beep_journal.specs.Life.{is_released};
 ghost use Rattle.beep_journal.specs.Zero.{zero_history, completes_form, events};
 ghost use Rattle.beep_decide.specs.Numbers.{other_role};
 ghost use Rattle.beep_inbox.specs.declared.part.Part.{Part};
+ghost use Rattle.beep_channel.specs.Stands.{ends_of};
 ghost use Rattle.beep_standing.specs.Standing.{Marks, no_marks};
 ghost use Rattle.beep_hearing.specs.Hears.{Breaks};
 ghost use Rattle.beep_speaking.specs.declared.emit.Emit.{Emit};
@@ -21,18 +22,18 @@ ghost use Rattle.beep_upright.specs.Upright.{IsUpright};
 ghost use Rattle.beep_upright.specs.Frames.{AreFrames};
 ghost use Rattle.beep_peer.specs.Acts.{IsUnchanged};
 ghost use Rattle.beep_peer.specs.Calls.{Begins as BeginsPeer, Settles, Speaks};
-ghost use Rattle.beep_peer.specs.Peering.{IsPeer, WaitsIn, is_over, zero_waits};
+ghost use Rattle.beep_peer.specs.Peering.{IsPeer, WaitsIn, is_over, is_greeted, zero_waits};
 ghost use Rattle.beep_peer.specs.Lawfully.{SpeaksLawfully};
 ghost use Rattle.beep_session.specs.declared.event.Event.{Event};
 ghost use Rattle.beep_session.specs.Acts.{AsksZero};
 ghost use Rattle.beep_session.specs.Channels.{IsOfPeer, Gives, Takes};
 ghost use Rattle.beep_session.specs.Lawfully.{terms_of, IsLawfulSession, KeepsUpright, FeedsLawfully};
 ghost use Rattle.beep_session.specs.Session.{Held, AreLimits};
-ghost use Rattle.beep_two_sessions.specs.End.{End, goes, waits, end_of_new, Stands, StandsUnbroken};
+ghost use Rattle.beep_two_sessions.specs.End.{End, goes, waits, end_of_new, Stands, StandsUnbroken, NothingIsDue};
 ghost use Rattle.beep_two_sessions.specs.Acts.{Act, gives, asks, takes, settles, stops, sends, pauses, gets, rests, sent_by, used_by, LeadsTo};
-ghost use Rattle.beep_two_sessions.specs.World.{World, Move, a_does, b_does, IsReached};
-ghost use Rattle.beep_two_sessions.specs.Still.{IsStill};
-ghost use Rattle.beep_two_sessions.specs.Kept.{IsPrefix, IsTakenInOrder};
+ghost use Rattle.beep_two_sessions.specs.World.{World, Move, a_does, b_does, IsReached, first_of};
+ghost use Rattle.beep_two_sessions.specs.Still.{IsStill, GreetsShortly};
+ghost use Rattle.beep_two_sessions.specs.Kept.{IsPrefix, IsTakenInOrder, AreReplies};
 
 // ---- a world begins and goes on
 
@@ -245,6 +246,20 @@ pub fn replies_are_taken_in_the_order_of_their_requests()
         → IsTakenInOrder world.a number count }
 {}
 
+/// Each reply that was taken of a life names the request after those that have a whole reply, and
+/// its giver had wholly taken that request: so each request has one reply, RPY, ERR, or answers and
+/// their NUL (RFC 3080, section 2.1.1).
+pub fn each_reply_answers_a_request_that_was_taken()
+    ensures by_b { (moves : List Move) (world : World) (number count : ℕ)
+        → IsReached moves world → 0 < number → 0 < count
+        → AreReplies (ends_of is_msg (world.a.took number count)) 0
+        (world.b.took number count) }
+    ensures by_a { (moves : List Move) (world : World) (number count : ℕ)
+        → IsReached moves world → 0 < number → 0 < count
+        → AreReplies (ends_of is_msg (world.b.took number count)) 0
+        (world.a.took number count) }
+{}
+
 // ---- that all is taken
 
 /// Of a life that has ended at one end all that was given at either was taken at the other,
@@ -265,6 +280,19 @@ pub fn a_released_session_was_taken_whole()
         → (is_released world.a.journal ≡ true) ⊎ (is_released world.b.journal ≡ true)
         → (world.b.took number count ≡ world.a.gave number count)
         × (world.a.took number count ≡ world.b.gave number count) }
+{}
+
+/// A greeting of no more octets than go before any SEQ has gone where nothing is due at its end and
+/// no octet is on its way (RFC 3081, section 3.1.4).
+pub fn a_short_greeting_has_gone()
+    ensures at_a { (moves : List Move) (world : World) (reached : IsReached moves world)
+        → GreetsShortly (first_of moves world reached).a → world.a.doing ≡ goes
+        → NothingIsDue world.a → world.to_a ≡ [] → world.to_b ≡ []
+        → is_greeted world.a.session.peer.management ≡ true }
+    ensures at_b { (moves : List Move) (world : World) (reached : IsReached moves world)
+        → GreetsShortly (first_of moves world reached).b → world.b.doing ≡ goes
+        → NothingIsDue world.b → world.to_a ≡ [] → world.to_b ≡ []
+        → is_greeted world.b.session.peer.management ≡ true }
 {}
 
 /// Where at each end nothing is due or the session is over, no octet is on its way and nothing that

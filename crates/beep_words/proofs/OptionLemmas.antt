@@ -5,8 +5,8 @@ use Rattle.std.specs.Fmt.{decimal}
 use Rattle.std.specs.Str.{bytes_eq}
 use Rattle.std.proofs.lemmas.Slice.Eq.{bytes_eq-Decides}
 use Rattle.beep_words.specs.declared.options.TheConstants.{MAX_NUMBER}
-use Rattle.beep_words.specs.CommandSet.{Value, choice, number, text, word_of, OptionRow, Chosen, words_of, form_in, IsOfSome, IsTaken, IsSet, AreDistinct, value_in, IsTextOf}
-use Rattle.beep_words.specs.Choosing.{is_among, are_options, is_of_some, word_in, some_or, number_or, number_at, choice_or, choice_at, text_at}
+use Rattle.beep_words.specs.CommandSet.{Value, choice, number, text, word_of, OptionRow, Chosen, words_of, form_in, IsOfSome, IsTaken, IsSet, AreDistinct, value_in, number_of, number_set, IsTextOf}
+use Rattle.beep_words.specs.Choosing.{is_among, are_options, is_of_some, word_in, some_or, number_or, number_at, number_where, number_set_at, choice_or, choice_at, text_at}
 use Rattle.beep_words.proofs.ValueLemmas.{and_left, and_right, and_both, not_true, word_number, taken_value, value_taken, IsReadableSome}
 
 -- ---- options among words
@@ -97,6 +97,11 @@ set_number default most (choice b) m i = absurd i
 set_number default most (number n) m i = ap (λ (o : Option ℕ). number (some_or default o)) (word_number n (omega (arith, m, i)))
 set_number default most (text octets) m i = absurd i
 
+set_where : (most : ℕ) (value : Value) → most ≤ MAX_NUMBER → IsNumberTo most value → number_where (Some (word_of value)) ≡ number_of value
+set_where most (choice b) m i = absurd i
+set_where most (number n) m i = word_number n (omega (arith, m, i))
+set_where most (text octets) m i = absurd i
+
 set_choice : (default : Bool) (value : Value) → IsChoice value → choice (choice_or default (Some (word_of value))) ≡ value
 set_choice default (choice true) i = refl
 set_choice default (choice false) i = refl
@@ -124,6 +129,19 @@ module _ (rows : List OptionRow) (name : List ℕ) where
       by_test false f rest =
           ap (λ (b : Bool). number (number_or default (cond b (Some (word_of c.value)) (word_in name (flat_map words_of chosen))))) f
           ∙ rest ∙ sym (ap (λ (b : Bool). cond b c.value (value_in name (number default) chosen)) f)
+
+  pub number_set_is : (most : ℕ) → most ≤ MAX_NUMBER → Takes rows name (IsNumberTo most) → (chosen : List Chosen) → AllByRecursion (IsTaken rows) chosen → number_set_at name (flat_map words_of chosen) ≡ number_set name chosen
+  number_set_is most m takes [] each = refl
+  number_set_is most m takes (c ∷ chosen) each = by_test (bytes_eq c.name name) refl (number_set_is most m takes chosen each.1)
+    where
+      by_test : (b : Bool) → bytes_eq c.name name ≡ b → number_set_at name (flat_map words_of chosen) ≡ number_set name chosen → number_set_at name (flat_map words_of (c ∷ chosen)) ≡ number_set name (c ∷ chosen)
+      by_test true f rest =
+          ap (λ (b : Bool). number_where (cond b (Some (word_of c.value)) (word_in name (flat_map words_of chosen)))) f
+          ∙ set_where most c.value m (taken_as (IsNumberTo most) takes c each.0 f)
+          ∙ sym (ap (λ (b : Bool). cond b (number_of c.value) (number_set name chosen)) f)
+      by_test false f rest =
+          ap (λ (b : Bool). number_where (cond b (Some (word_of c.value)) (word_in name (flat_map words_of chosen)))) f
+          ∙ rest ∙ sym (ap (λ (b : Bool). cond b (number_of c.value) (number_set name chosen)) f)
 
   pub choice_is : (default : Bool) → Takes rows name IsChoice → (chosen : List Chosen) → AllByRecursion (IsTaken rows) chosen → choice (choice_at name default (flat_map words_of chosen)) ≡ value_in name (choice default) chosen
   choice_is default takes [] each = refl

@@ -108,6 +108,18 @@ value_in name default [] = default
 value_in name default (chosen ∷ others) = if bytes_eq chosen.name name then chosen.value
     else value_in name default others
 
+-- the number of a value, where it is one
+abbrev pub number_of : Value → Option ℕ
+number_of (choice chosen) = None
+number_of (number n) = Some n
+number_of (text octets) = None
+
+-- the number that an option is set to, where it is set
+abbrev pub number_set : List ℕ → List Chosen → Option ℕ
+number_set name [] = None
+number_set name (chosen ∷ others) = if bytes_eq chosen.name name then number_of chosen.value
+    else number_set name others
+
 -- the words are a command's with these of its options set
 pub record AreWords (command : List ℕ) (rows : List OptionRow) (chosen : List Chosen)
     (words : List (List ℕ)) : Type 0 where
@@ -133,6 +145,7 @@ end_options = option (codes "--port") (Form.Number 1 MAX_PORT)
     ∷ option (codes "--piece") (Form.Number 1 MAX_PIECE)
     ∷ option (codes "--idle") (Form.Number 1 MAX_IDLE)
     ∷ option (codes "--octets") (Form.Number 1 MAX_NUMBER)
+    ∷ option (codes "--record") Form.Choice
     ∷ []
 
 abbrev pub send_options : List OptionRow
@@ -148,6 +161,7 @@ listen_options = option (codes "--offer") Form.Raw
 abbrev pub pair_options : List OptionRow
 pair_options = option (codes "--window") (Form.Number MIN_WINDOW MAX_WINDOW)
     ∷ option (codes "--piece") (Form.Number 1 MAX_PIECE)
+    ∷ option (codes "--seed") (Form.Number 0 MAX_NUMBER)
     ∷ []
 
 -- ---- commands
@@ -187,12 +201,16 @@ pub record IsEnd (command : List ℕ) (rows : List OptionRow) (settings : Settin
   pub octets : number settings.octets ≡ value_in (codes "--octets") (number OCTETS) chosen
   pub sessions : number settings.sessions
       ≡ value_in (codes "--sessions") (number SESSIONS) chosen
+  pub recording : choice settings.recording
+      ≡ value_in (codes "--record") (choice false) chosen
 
 abbrev pub IsSend : Settings → List (List ℕ) → Type 0
 IsSend settings words = IsEnd (codes "send") send_options settings words
 
-abbrev pub IsListen : Settings → List (List ℕ) → Type 0
-IsListen settings words = IsEnd (codes "listen") listen_options settings words
+-- the words are `listen` with these settings; a run that is recorded accepts one link
+pub record IsListen (settings : Settings) (words : List (List ℕ)) : Type 0 where
+  pub is_end : IsEnd (codes "listen") listen_options settings words
+  pub lone : settings.recording ≡ true → settings.sessions ≡ 1
 
 -- the words are `pair` with these settings
 pub record IsPair (settings : PairSettings) (words : List (List ℕ)) : Type 0 where
@@ -200,6 +218,7 @@ pub record IsPair (settings : PairSettings) (words : List (List ℕ)) : Type 0 w
   pub are_words : AreWords (codes "pair") pair_options chosen words
   pub window : number settings.window ≡ value_in (codes "--window") (number WINDOW) chosen
   pub piece : number settings.piece ≡ value_in (codes "--piece") (number PIECE) chosen
+  pub seed : settings.seed ≡ number_set (codes "--seed") chosen
 
 -- the words are this command
 abbrev pub IsCommand : Command → List (List ℕ) → Type 0

@@ -103,6 +103,7 @@ fn end_form(name: &str) -> Option<Form>
         "--piece" => Some(Form::Number(1, MAX_PIECE)),
         "--idle" => Some(Form::Number(1, MAX_IDLE)),
         "--octets" => Some(Form::Number(1, MAX_NUMBER)),
+        "--record" => Some(Form::Choice),
         _ => None,
     }
 }
@@ -113,6 +114,7 @@ fn pair_form(name: &str) -> Option<Form>
     match name {
         "--window" => Some(Form::Number(MIN_WINDOW, MAX_WINDOW)),
         "--piece" => Some(Form::Number(1, MAX_PIECE)),
+        "--seed" => Some(Form::Number(0, MAX_NUMBER)),
         _ => None,
     }
 }

@@ -1,7 +1,7 @@
 //! Going over the words of options.
-ghost use Rattle.std.specs.Prelude.{◌≡◌, ◌&&◌, not, map, string_bytes, chars, IfOk, OnOk, bytes_eq};
+ghost use Rattle.std.specs.Prelude.{◌≡◌, ◌&&◌, ◌||◌, ◌==◌, not, map, string_bytes, chars, IfOk, OnOk, bytes_eq};
 ghost use Rattle.std.specs.Option.{option_copied};
-ghost use Rattle.beep_words.specs.Choosing.{is_of_some, is_among, are_options, word_in, number_at, number_or, choice_at, choice_or, text_at, show_of, settings_of, pair_of};
+ghost use Rattle.beep_words.specs.Choosing.{is_of_some, is_among, are_options, word_in, number_at, number_or, number_set_at, choice_at, choice_or, text_at, is_lone, are_listen_options, show_of, settings_of, pair_of};
 ghost use Rattle.beep_words.specs.CommandSet.{form_in};
 ghost use Rattle.beep_words.specs.Rows.{rows_of};
 
@@ -82,6 +82,16 @@ fn number_at(name: &str, default: u32, words: &[String]) -> u32
     }
 }
 
+/// The number that an option is set to, where it is set.
+fn number_set_at(name: &str, words: &[String]) -> Option<u32>
+    ensures { result ≡ number_set_at name.now (map string_bytes words.now) }
+{
+    match word_in(name, words) {
+        Some(word) => number_in(word),
+        None => None,
+    }
+}
+
 /// Whether an option is set to `yes`, or else its own.
 fn choice_at(name: &str, default: bool, words: &[String]) -> bool
     ensures { result ≡ choice_at name.now default (map string_bytes words.now) }
@@ -101,6 +111,20 @@ fn text_at(alloc: Global, name: &str, default: &str, words: &[String]) -> Result
         Some(word) => Text::of(alloc, word),
         None => Text::of(alloc, default),
     }
+}
+
+/// Whether a run that is recorded accepts one link.
+fn is_lone(words: &[String]) -> bool
+    ensures { result ≡ is_lone (map string_bytes words.now) }
+{
+    !choice_at("--record", false, words) || number_at("--sessions", SESSIONS, words) == 1
+}
+
+/// Whether the words are options of `listen` that go together.
+pub(crate) fn are_listen_options(words: &[String]) -> bool
+    ensures { result ≡ are_listen_options (map string_bytes words.now) }
+{
+    are_options(Options::Listen, words) && is_lone(words)
 }
 
 /// What the options of `show` say.
@@ -126,6 +150,7 @@ pub(crate) fn settings_in(alloc: Global, words: &[String]) -> Result<Settings, N
         idle: number_at("--idle", IDLE, words),
         octets: number_at("--octets", OCTETS, words),
         sessions: number_at("--sessions", SESSIONS, words),
+        recording: choice_at("--record", false, words),
     })
 }
 
@@ -135,5 +160,10 @@ pub(crate) fn pair_in(words: &[String]) -> PairSettings
 {
     let window = number_at("--window", WINDOW, words);
     let piece = number_at("--piece", PIECE, words);
-    PairSettings { window, piece }
+    let seed = number_set_at("--seed", words);
+    PairSettings {
+        window,
+        piece,
+        seed,
+    }
 }

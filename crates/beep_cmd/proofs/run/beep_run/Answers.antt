@@ -1,4 +1,4 @@
-use Rattle.std.proofs.Common.{◌≡◌, Some, None, map, refl, ap, ◌∙◌, subst, arith}
+use Rattle.std.proofs.Common.{◌≡◌, ◌⊎◌, Some, None, map, refl, ap, ◌∙◌, subst, arith}
 use Rattle.std.specs.String.{string_bytes}
 use Rattle.beep_words.specs.declared.command.ShowSettings.{ShowSettings as Settings}
 use Rattle.beep_words.specs.declared.command.PairSettings.{PairSettings}
@@ -19,7 +19,7 @@ use Rattle.beep_cmd.proofs.CommandLemmas.{listens, no_command, none_listen, none
 use Rattle.beep_cmd.proofs.CompleteLemmas.{complete, shown_as}
 use Rattle.beep_cmd.proofs.EndsLemmas.{starved_at_once}
 use Rattle.beep_cmd.proofs.JudgeLemmas.{lawful}
-use Rattle.beep_cmd.proofs.PairLemmas.{schedule_complete, usable_limits}
+use Rattle.beep_cmd.proofs.PairLemmas.{runnable_complete, usable_limits}
 use Rattle.beep_cmd.proofs.ServingLemmas.{asks_none, each_none}
 use Rattle.beep_cmd.proofs.StatusLemmas.{listened_not, paired_not, replayed_not, sent_not, shown_not}
 use Rattle.beep_cmd.proofs.run.beep_run.Goals as goal
@@ -66,7 +66,7 @@ returns-in-Ok-Some-Show g c =
       sent = λ settings w. absurd (other_send settings w);
       listened = λ settings w. absurd (other_listen settings w);
       paired = λ settings w. absurd (other_pair settings w);
-      pair_complete = λ settings octets w left is_schedule no_fault. absurd (other_pair settings w);
+      pair_complete = λ settings w is_runnable no_fault. absurd (other_pair settings w);
       usage = λ one. absurd (shown_not a.settings c.show.result _ c.show.ensures.shown one);
       send_lawful = λ settings w. absurd (other_send settings w);
       listen_lawful = λ settings w. absurd (other_listen settings w);
@@ -82,6 +82,7 @@ returns-in-Ok-Some-Show g c =
       replay_reads = λ w. absurd (other w);
       pair_unlinked = λ settings w. absurd (other_pair settings w);
       pair_no_memory = λ settings w. absurd (other_pair settings w);
+      pair_unread = λ settings w. absurd (other_pair settings w);
       pair_reads = λ settings w. absurd (other_pair settings w);
     }
 
@@ -104,7 +105,7 @@ returns-in-Ok-Some-Replay g c =
       sent = λ settings w. absurd (other_send settings w);
       listened = λ settings w. absurd (other_listen settings w);
       paired = λ settings w. absurd (other_pair settings w);
-      pair_complete = λ settings octets w left is_schedule no_fault. absurd (other_pair settings w);
+      pair_complete = λ settings w is_runnable no_fault. absurd (other_pair settings w);
       usage = λ one. absurd (replayed_not c.replay.result _ c.replay.ensures.replayed one);
       send_lawful = λ settings w. absurd (other_send settings w);
       listen_lawful = λ settings w. absurd (other_listen settings w);
@@ -120,6 +121,7 @@ returns-in-Ok-Some-Replay g c =
       replay_reads = λ w. c.replay.ensures.reads;
       pair_unlinked = λ settings w. absurd (other_pair settings w);
       pair_no_memory = λ settings w. absurd (other_pair settings w);
+      pair_unread = λ settings w. absurd (other_pair settings w);
       pair_reads = λ settings w. absurd (other_pair settings w);
     }
 
@@ -143,7 +145,7 @@ returns-in-Ok-Some-Send g c =
       sent = λ settings w. subst (λ (s : EndSettings). Sent s before after c.send.result run) (same settings is w) c.send.ensures.sent;
       listened = λ settings w. absurd (other settings w);
       paired = λ settings w. absurd (of.not_pair settings w);
-      pair_complete = λ settings octets w left is_schedule no_fault. absurd (of.not_pair settings w);
+      pair_complete = λ settings w is_runnable no_fault. absurd (of.not_pair settings w);
       usage = λ one. absurd (sent_not a.settings before after c.send.result run c.send.ensures.sent one);
       send_lawful = λ settings w. subst (λ (s : EndSettings). WritesLawfully Role.Initiator s before after) (same settings is w) c.send.ensures.lawful;
       listen_lawful = λ settings w. absurd (other settings w);
@@ -159,6 +161,7 @@ returns-in-Ok-Some-Send g c =
       replay_reads = λ w. absurd (of.not_replay w);
       pair_unlinked = λ settings w. absurd (of.not_pair settings w);
       pair_no_memory = λ settings w. absurd (of.not_pair settings w);
+      pair_unread = λ settings w. absurd (of.not_pair settings w);
       pair_reads = λ settings w. absurd (of.not_pair settings w);
     }
 
@@ -182,7 +185,7 @@ returns-in-Ok-Some-Listen g c =
       sent = λ settings w. absurd (other settings w);
       listened = λ settings w. subst (λ (s : EndSettings). Listened s before after c.listen.result run) (same settings is w) (c.listen.ensures.listened (g.I.Source.state c.args.input.now));
       paired = λ settings w. absurd (of.not_pair settings w);
-      pair_complete = λ settings octets w left is_schedule no_fault. absurd (of.not_pair settings w);
+      pair_complete = λ settings w is_runnable no_fault. absurd (of.not_pair settings w);
       usage = λ one. absurd (listened_not a.settings before after c.listen.result run (c.listen.ensures.listened (g.I.Source.state c.args.input.now)) one);
       send_lawful = λ settings w. absurd (other settings w);
       listen_lawful = λ settings w. subst (λ (s : EndSettings). WritesLawfully Role.Listener s before after) (same settings is w) c.listen.ensures.lawful;
@@ -198,6 +201,7 @@ returns-in-Ok-Some-Listen g c =
       replay_reads = λ w. absurd (of.not_replay w);
       pair_unlinked = λ settings w. absurd (of.not_pair settings w);
       pair_no_memory = λ settings w. absurd (of.not_pair settings w);
+      pair_unread = λ settings w. absurd (of.not_pair settings w);
       pair_reads = λ settings w. absurd (of.not_pair settings w);
     }
 
@@ -223,7 +227,7 @@ returns-in-Ok-Some-Pair g c =
       sent = λ settings w. absurd (send settings w);
       listened = λ settings w. absurd (listen settings w);
       paired = by;
-      pair_complete = λ settings octets w left is_schedule no_fault. schedule_complete settings octets run c.pair.result left is_schedule no_fault (by settings w);
+      pair_complete = λ settings w is_runnable no_fault. runnable_complete settings run c.pair.result is_runnable no_fault (by settings w);
       usage = λ one. absurd (paired_not a.settings c.pair.result run c.pair.ensures.paired one);
       send_lawful = λ settings w. absurd (send settings w);
       listen_lawful = λ settings w. absurd (listen settings w);
@@ -239,6 +243,7 @@ returns-in-Ok-Some-Pair g c =
       replay_reads = λ w. absurd (replay w);
       pair_unlinked = λ settings w. refl;
       pair_no_memory = λ settings w. c.pair.ensures.unwritten;
+      pair_unread = λ settings w. subst (λ (s : PairSettings). (s.seed ≡ None) ⊎ (c.pair.new.input ≡ c.args.input.now)) (same settings is w) c.pair.ensures.unread;
       pair_reads = λ settings w. c.pair.ensures.reads;
     }
 
@@ -262,7 +267,7 @@ returns-in-Ok-None g c =
       sent = λ settings w. absurd (send settings w);
       listened = λ settings w. absurd (listen settings w);
       paired = λ settings w. absurd (pair settings w);
-      pair_complete = λ settings octets w left is_schedule no_fault. absurd (pair settings w);
+      pair_complete = λ settings w is_runnable no_fault. absurd (pair settings w);
       usage = λ one command w. none command w;
       send_lawful = λ settings w. absurd (send settings w);
       listen_lawful = λ settings w. absurd (listen settings w);
@@ -278,6 +283,7 @@ returns-in-Ok-None g c =
       replay_reads = λ w. absurd (replay w);
       pair_unlinked = λ settings w. absurd (pair settings w);
       pair_no_memory = λ settings w. absurd (pair settings w);
+      pair_unread = λ settings w. absurd (pair settings w);
       pair_reads = λ settings w. absurd (pair settings w);
     }
 
@@ -295,7 +301,7 @@ returns-in-Err g c =
       sent = λ settings w. starved_at_once settings _ _ _;
       listened = λ settings w. listen_starved refl;
       paired = λ settings w. absurd (of.not_pair settings w);
-      pair_complete = λ settings octets w left is_schedule no_fault. absurd (of.not_pair settings w);
+      pair_complete = λ settings w is_runnable no_fault. absurd (of.not_pair settings w);
       usage = λ one. absurd (omega (arith, one));
       send_lawful = λ settings w. each_none (λ link. WhereTold (IsLawfulOn (terms_by Role.Initiator settings)) link.log) seen seen refl;
       listen_lawful = λ settings w. each_none (λ link. WhereTold (IsLawfulOn (terms_by Role.Listener settings)) link.log) seen seen refl;
@@ -311,5 +317,6 @@ returns-in-Err g c =
       replay_reads = λ w. absurd (of.not_replay w);
       pair_unlinked = λ settings w. absurd (of.not_pair settings w);
       pair_no_memory = λ settings w. absurd (of.not_pair settings w);
+      pair_unread = λ settings w. absurd (of.not_pair settings w);
       pair_reads = λ settings w. absurd (of.not_pair settings w);
     }

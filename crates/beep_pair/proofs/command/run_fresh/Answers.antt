@@ -23,4 +23,4 @@ pub run_on-requires-clause-ready : goal.run_on-requires-clause-ready
 run_on-requires-clause-ready c = c.in-Ok.ensures.ready
 
 pub returns-in-Ok : goal.returns-in-Ok
-returns-in-Ok c = reported c.run_on.result c.args.limits c.args.schedule.now c.in-Ok.pair c.run_on.new.pair c.in-Ok.ensures.fresh c.run_on.ensures
+returns-in-Ok c = reported c.run_on.result c.args.limits c.args.schedule.now c.in-Ok.pair c.run_on.new.pair c.in-Ok.ensures.fresh c.run_on.ensures.reported

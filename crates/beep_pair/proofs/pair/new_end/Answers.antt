@@ -2,6 +2,7 @@ use Rattle.std.proofs.Common.{◌∙◌, false, [], ◌∷◌, ◌++◌, refl, a
 use Rattle.beep_decide.specs.declared.decision.Offer.{Offer}
 use Rattle.beep_session.specs.Session.{AreLimits}
 use Rattle.beep_pair.proofs.UriLemmas.{offer_fits, offer_is}
+use Rattle.beep_pair.proofs.GreetingLemmas.{short_greeting}
 use Rattle.beep_pair.proofs.ReadyLemmas.{begun_with}
 use Rattle.beep_pair.proofs.pair.new_end.Goals as goal
 
@@ -14,11 +15,14 @@ returns-clause-ready c = begun_with _ c.args.limits c.in_ok-session.session c.in
 pub returns-clause-begun : goal.returns-clause-begun
 returns-clause-begun c =
     let e = c.in_ok-session.ensures in
+    let offer : Offer = record { uri = c.in_ok-uri.uri; tuning = false } in
     record {
       given = e.stands.given;
       above = e.stands.same;
       limits = subst (λ limits. AreLimits limits) (sym e.terms.2) c.requires.limits;
       stands = e.lawful e.stands;
+      greets = short_greeting c.in_ok-session.session e.stands.message e.stands.given _ e.stands.is_rpy e.stands.is_text e.stands.given_is
+          (offer_is c.push.new.self offer (c.in_ok-push.ensures.ok ∙ ap (λ xs. xs ++ offer ∷ []) c.new-offers.ensures) c.in_ok-uri.ensures.uri refl);
     }
 
 pub returns-clause-offers : goal.returns-clause-offers

@@ -1,6 +1,6 @@
 use Rattle.std.proofs.Common.{◌≤◌, ◌∙◌, ◌++◌, ap, sym, subst, length, arith}
 use Rattle.std.specs.List.{flat_map}
-use Rattle.beep_pair.specs.Texts.{account_lines, still_line}
+use Rattle.beep_report.specs.Texts.{account_lines, still_line}
 use Rattle.beep_pair.specs.Sessions.{Sessions}
 use Rattle.beep_pair.specs.World.{Leads}
 use Rattle.beep_pair.specs.Report.{Tells, Reported}

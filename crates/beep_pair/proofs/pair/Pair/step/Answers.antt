@@ -1,6 +1,6 @@
 use Rattle.std.proofs.Common.{◌≡◌, ◌∙◌, ◌++◌, length, drop, ap, sym, subst, refl, arith}
 use Rattle.beep_schedule.specs.declared.event.PairEvent.{PairEvent}
-use Rattle.beep_pair.specs.Texts.{act_line, send_line, get_line, take_line}
+use Rattle.beep_report.specs.Texts.{act_line, send_line, get_line, take_line}
 use Rattle.beep_pair.specs.Steps.{DoesStep, SendsStep, GetsStep, TakesStep}
 use Rattle.beep_pair.specs.Draining.{Drained}
 use Rattle.beep_pair.specs.Report.{Tells}

@@ -2,43 +2,19 @@
 ghost use Rattle.std.specs.Prelude.{◌≡◌, ◌++◌, ◌∷◌, [], ◌<◌, take, codes, flat_map, OnOk};
 ghost use Rattle.beep_frame.specs.Spelling.{keyword, answer_field};
 ghost use Rattle.beep_schedule.specs.Events.{field, end_text};
-ghost use Rattle.beep_pair.specs.Texts.{start_text, ask_text, give_text, close_text, release_text, answer_text, act_name, channel_text, act_line, emit_text, send_line, drain_line, get_line, hex_digit as hex_of_digit, hex_of, hex_text, end_mark, part_text, take_line, flow_text, total_line, account_lines, still_line};
+ghost use Rattle.beep_report.specs.Texts.{start_text, ask_text, give_text, close_text, release_text, answer_text, act_name, channel_text, act_line, emit_text, send_line, drain_line, get_line, hex_digit as hex_of_digit, hex_of, hex_text, end_mark, part_text, take_line, flow_text, total_line, account_lines, still_line};
 
 use crate::answer::Answer;
+use crate::put::{put_end, put_field, put_word};
 use beep_channel::AskError;
 use beep_frame::{Kind, MAX_HEADER_LINE, MAX_SEQ_LINE, spell_header_line, spell_seq_line};
 use beep_inbox::Part;
 use beep_octets::{NoMemory, Octets};
 use beep_outbox::GiveError;
+use beep_peer::{CloseError, ReleaseError, StartError};
 use beep_schedule::{Act, End};
-use beep_session::{CloseError, ReleaseError, StartError};
 use beep_speaking::Emit;
 use beep_tally::{Account, Flow};
-use itoa::Buffer;
-
-/// Appends a space and a number.
-fn put_field(out: &mut Octets, n: u64) -> Result<(), NoMemory>
-    ensures { OnOk result (out.new.octets ≡ out.old.octets ++ field n) }
-{
-    let mut buffer = Buffer::new();
-    out.extend(b" ")?;
-    out.extend(buffer.format(n).as_bytes())
-}
-
-fn put_word(out: &mut Octets, word: &str) -> Result<(), NoMemory>
-    ensures { OnOk result (out.new.octets ≡ out.old.octets ++ word.now) }
-{
-    out.extend(word.as_bytes())
-}
-
-fn put_end(out: &mut Octets, at: End) -> Result<(), NoMemory>
-    ensures { OnOk result (out.new.octets ≡ out.old.octets ++ end_text at) }
-{
-    match at {
-        End::A => put_word(out, "A"),
-        End::B => put_word(out, "B"),
-    }
-}
 
 // ---- answers
 
@@ -166,7 +142,7 @@ fn put_channel(out: &mut Octets, act: Act, n: u32) -> Result<(), NoMemory>
 }
 
 /// Appends the line of an act.
-pub(crate) fn put_act_line(
+pub fn put_act_line(
     out: &mut Octets,
     at: End,
     act: Act,
@@ -202,7 +178,7 @@ fn put_emit(out: &mut Octets, emit: &Emit) -> Result<(), NoMemory>
 }
 
 /// Appends the line of a send.
-pub(crate) fn put_send_line(out: &mut Octets, at: End, emit: &Emit) -> Result<(), NoMemory>
+pub fn put_send_line(out: &mut Octets, at: End, emit: &Emit) -> Result<(), NoMemory>
     ensures { OnOk result (out.new.octets ≡ out.old.octets ++ send_line at emit.now) }
 {
     put_end(out, at)?;
@@ -212,7 +188,7 @@ pub(crate) fn put_send_line(out: &mut Octets, at: End, emit: &Emit) -> Result<()
 }
 
 /// Appends the line of a send of a drain, where it isn't nothing.
-pub(crate) fn put_drain_line(out: &mut Octets, at: End, emit: &Emit) -> Result<(), NoMemory>
+pub fn put_drain_line(out: &mut Octets, at: End, emit: &Emit) -> Result<(), NoMemory>
     ensures { OnOk result (out.new.octets ≡ out.old.octets ++ drain_line at emit.now) }
 {
     match emit {
@@ -222,7 +198,7 @@ pub(crate) fn put_drain_line(out: &mut Octets, at: End, emit: &Emit) -> Result<(
 }
 
 /// Appends the line of a get.
-pub(crate) fn put_get_line(out: &mut Octets, at: End, used: u64) -> Result<(), NoMemory>
+pub fn put_get_line(out: &mut Octets, at: End, used: u64) -> Result<(), NoMemory>
     ensures { OnOk result (out.new.octets ≡ out.old.octets ++ get_line at used) }
 {
     put_end(out, at)?;
@@ -315,7 +291,7 @@ fn front(octets: &[u8], count: usize) -> &[u8]
 }
 
 /// Appends the line of a take.
-pub(crate) fn put_take_line(
+pub fn put_take_line(
     out: &mut Octets,
     at: End,
     n: u32,
@@ -366,7 +342,7 @@ fn put_account(out: &mut Octets, account: &Account) -> Result<(), NoMemory>
 }
 
 /// Appends the totals of all lives.
-pub(crate) fn put_totals(out: &mut Octets, accounts: &[Account]) -> Result<(), NoMemory>
+pub fn put_totals(out: &mut Octets, accounts: &[Account]) -> Result<(), NoMemory>
     ensures { OnOk result (out.new.octets
         ≡ out.old.octets ++ flat_map account_lines accounts.now) }
 {
@@ -377,7 +353,7 @@ pub(crate) fn put_totals(out: &mut Octets, accounts: &[Account]) -> Result<(), N
 }
 
 /// Appends whether nothing can move.
-pub(crate) fn put_still(out: &mut Octets, still: bool) -> Result<(), NoMemory>
+pub fn put_still(out: &mut Octets, still: bool) -> Result<(), NoMemory>
     ensures { OnOk result (out.new.octets ≡ out.old.octets ++ still_line still) }
 {
     if still {

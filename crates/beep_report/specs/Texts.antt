@@ -14,7 +14,7 @@ use Rattle.beep_schedule.specs.declared.event.Act.{Act}
 use Rattle.beep_schedule.specs.Events.{field, end_text}
 use Rattle.beep_tally.specs.declared.account.Flow.{Flow}
 use Rattle.beep_tally.specs.declared.account.Account.{Account}
-use Rattle.beep_pair.specs.declared.answer.Answer.{Answer}
+use Rattle.beep_report.specs.declared.answer.Answer.{Answer}
 
 -- ---- answers
 

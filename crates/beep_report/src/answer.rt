@@ -2,7 +2,7 @@
 
 use beep_channel::AskError;
 use beep_outbox::GiveError;
-use beep_session::{CloseError, ReleaseError, StartError};
+use beep_peer::{CloseError, ReleaseError, StartError};
 
 /// What an act is answered. No cause is want of memory.
 #[derive(Clone, Copy, Debug, PartialEq, Eq)]
