@@ -1,6 +1,6 @@
 -- What holds where no option is set.
 -- The code makes the texts anew; here they are values.
-use Rattle.std.specs.Prelude.{chars, codes}
+use Rattle.std.specs.Prelude.{false, chars, codes}
 use Rattle.beep_settings.specs.declared.settings.Settings.{Settings}
 use Rattle.beep_settings.specs.declared.settings.TheConstants.{HOST, RAW_URI, PORT, WINDOW, PIECE, IDLE, OCTETS, SESSIONS}
 
@@ -15,4 +15,5 @@ default_settings = record {
   idle = IDLE;
   octets = OCTETS;
   sessions = SESSIONS;
+  recording = false;
 }

@@ -51,6 +51,8 @@ pub struct Settings {
     pub octets: u32,
     /// How many links are accepted one after another, from 1.
     pub sessions: u32,
+    /// Whether the record of the one link is written in place of other output.
+    pub recording: bool,
 }
 
 impl Settings {
@@ -67,6 +69,7 @@ impl Settings {
             idle: IDLE,
             octets: OCTETS,
             sessions: SESSIONS,
+            recording: false,
         })
     }
 }

@@ -1,11 +1,12 @@
 -- Which words are a command, by going over them.
-use Rattle.std.proofs.Common.{◌≡◌, ◌↔◌, ℕ, ◌≤◌, Bool, true, false, ◌&&◌, cond, min, List, [], ◌∷◌, codes, chars, Option, Some, None, refl, ap, ap₂, sym, ◌∙◌, subst, arith}
+use Rattle.std.proofs.Common.{◌≡◌, ◌↔◌, ℕ, ◌≤◌, Bool, true, false, not, ◌&&◌, ◌||◌, ◌==◌, cond, min, List, [], ◌∷◌, codes, chars, Option, Some, None, refl, ap, ap₂, sym, ◌∙◌, subst, arith}
 use Rattle.std.specs.Result.{IfOk, OnErr}
 use Rattle.std.specs.declared.result.Result.{Result}
 use Rattle.std.specs.declared.result.Result.TheVariants.{Ok, Err}
 use Rattle.std.specs.List.{flat_map, AllByRecursion}
 use Rattle.std.specs.Str.{bytes_eq}
 use Rattle.std.proofs.lemmas.Slice.Eq.{bytes_eq-Decides}
+use Rattle.std.proofs.lemmas.Bool.Decides.{nat_tests}
 use Rattle.beep_settings.specs.declared.settings.Settings.{Settings}
 use Rattle.beep_settings.specs.declared.settings.TheConstants.{HOST, RAW_URI, PORT, WINDOW, PIECE, IDLE, OCTETS, SESSIONS}
 use Rattle.beep_words.specs.declared.form.Form.{Form}
@@ -13,8 +14,8 @@ use Rattle.beep_words.specs.declared.command.ShowSettings.{ShowSettings}
 use Rattle.beep_words.specs.declared.command.PairSettings.{PairSettings}
 use Rattle.beep_words.specs.declared.command.Command.{Command}
 use Rattle.beep_words.specs.declared.options.TheConstants.{MAX_HOST, MAX_URI, MIN_WINDOW, MAX_PORT, MAX_WINDOW, MAX_PIECE, MAX_IDLE, MAX_NUMBER, MAX_SESSIONS}
-use Rattle.beep_words.specs.CommandSet.{Value, choice, number, text, OptionRow, Chosen, words_of, form_in, IsOf, IsOfSome, IsTaken, value_in, AreWords, show_options, send_options, listen_options, pair_options, IsShow, IsReplay, IsTextOf, IsEnd, IsPair, IsCommand, IsOfEnd}
-use Rattle.beep_words.specs.Choosing.{are_options, show_of, settings_of, pair_of, number_at, choice_at, command_in, command_at, makes_end}
+use Rattle.beep_words.specs.CommandSet.{Value, choice, number, text, OptionRow, Chosen, words_of, form_in, IsOf, IsOfSome, IsTaken, value_in, AreWords, show_options, send_options, listen_options, pair_options, IsShow, IsReplay, IsTextOf, IsEnd, IsListen, IsPair, IsCommand, IsOfEnd}
+use Rattle.beep_words.specs.Choosing.{are_options, is_lone, are_listen_options, show_of, settings_of, pair_of, number_at, choice_at, command_in, command_at, makes_end}
 use Rattle.beep_words.proofs.ValueLemmas.{and_left, and_right, and_both, IsReadable, IsReadableSome}
 use Rattle.beep_words.proofs.OptionLemmas.{chosen_in, AreReadable, words_are_options, IsNumberTo, IsChoice, IsTextual, Takes, number_is, choice_is, text_is}
 
@@ -159,12 +160,13 @@ module _ (rows : List OptionRow) (name : List ℕ) (default most : ℕ) where
       by_test true f rest = takes c.value (subst (λ (n : List ℕ). IsOfSome (form_in rows n) c.value) ((bytes_eq-Decides c.name name).0 f) each.0)
       by_test false f rest = rest
 
-same_settings : (a b : Settings) → a.host ≡ b.host → a.port ≡ b.port → a.raw_uri ≡ b.raw_uri → a.window ≡ b.window → a.piece ≡ b.piece → a.idle ≡ b.idle → a.octets ≡ b.octets → a.sessions ≡ b.sessions → a ≡ b
-same_settings a b host port raw_uri window piece idle octets sessions =
-    ap₂ (λ (x : List ℕ) (y : ℕ). record { host = x; port = y; raw_uri = a.raw_uri; window = a.window; piece = a.piece; idle = a.idle; octets = a.octets; sessions = a.sessions }) host port
-    ∙ ap₂ (λ (x : List ℕ) (y : ℕ). record { host = b.host; port = b.port; raw_uri = x; window = y; piece = a.piece; idle = a.idle; octets = a.octets; sessions = a.sessions }) raw_uri window
-    ∙ ap₂ (λ (x : ℕ) (y : ℕ). record { host = b.host; port = b.port; raw_uri = b.raw_uri; window = b.window; piece = x; idle = y; octets = a.octets; sessions = a.sessions }) piece idle
-    ∙ ap₂ (λ (x : ℕ) (y : ℕ). record { host = b.host; port = b.port; raw_uri = b.raw_uri; window = b.window; piece = b.piece; idle = b.idle; octets = x; sessions = y }) octets sessions
+same_settings : (a b : Settings) → a.host ≡ b.host → a.port ≡ b.port → a.raw_uri ≡ b.raw_uri → a.window ≡ b.window → a.piece ≡ b.piece → a.idle ≡ b.idle → a.octets ≡ b.octets → a.sessions ≡ b.sessions → a.recording ≡ b.recording → a ≡ b
+same_settings a b host port raw_uri window piece idle octets sessions recording =
+    ap₂ (λ (x : List ℕ) (y : ℕ). record { host = x; port = y; raw_uri = a.raw_uri; window = a.window; piece = a.piece; idle = a.idle; octets = a.octets; sessions = a.sessions; recording = a.recording }) host port
+    ∙ ap₂ (λ (x : List ℕ) (y : ℕ). record { host = b.host; port = b.port; raw_uri = x; window = y; piece = a.piece; idle = a.idle; octets = a.octets; sessions = a.sessions; recording = a.recording }) raw_uri window
+    ∙ ap₂ (λ (x : ℕ) (y : ℕ). record { host = b.host; port = b.port; raw_uri = b.raw_uri; window = b.window; piece = x; idle = y; octets = a.octets; sessions = a.sessions; recording = a.recording }) piece idle
+    ∙ ap₂ (λ (x : ℕ) (y : ℕ). record { host = b.host; port = b.port; raw_uri = b.raw_uri; window = b.window; piece = b.piece; idle = b.idle; octets = x; sessions = y; recording = a.recording }) octets sessions
+    ∙ ap (λ (x : Bool). record { host = b.host; port = b.port; raw_uri = b.raw_uri; window = b.window; piece = b.piece; idle = b.idle; octets = b.octets; sessions = b.sessions; recording = x }) recording
 
 -- what these options take by the names of the settings
 record TakesSettings (rows : List OptionRow) : Type 0 where
@@ -177,6 +179,7 @@ record TakesSettings (rows : List OptionRow) : Type 0 where
   pub idle : Takes rows (codes "--idle") (IsNumberTo MAX_IDLE)
   pub octets : Takes rows (codes "--octets") (IsNumberTo MAX_NUMBER)
   pub sessions : Takes rows (codes "--sessions") (IsNumberTo MAX_SESSIONS)
+  pub recording : Takes rows (codes "--record") IsChoice
 
 module _ (command : List ℕ) (rows : List OptionRow) (takes : TakesSettings rows) where
   -- what the words of options say, where the options are these
@@ -197,6 +200,7 @@ module _ (command : List ℕ) (rows : List OptionRow) (takes : TakesSettings row
         idle = number_is rows (codes "--idle") IDLE MAX_IDLE (omega arith) takes.idle chosen each;
         octets = number_is rows (codes "--octets") OCTETS MAX_NUMBER (omega arith) takes.octets chosen each;
         sessions = number_is rows (codes "--sessions") SESSIONS MAX_SESSIONS (omega arith) takes.sessions chosen each;
+        recording = choice_is rows (codes "--record") false takes.recording chosen each;
       })
 
   end_is : (words : List (List ℕ)) → are_options rows words ≡ true → IsEnd command rows (settings_of words) (command ∷ words)
@@ -221,12 +225,13 @@ module _ (command : List ℕ) (rows : List OptionRow) (takes : TakesSettings row
       let idle : settings.idle ≡ (settings_of ws).idle = number_same settings.idle (settings_of ws).idle (value_in (codes "--idle") (number IDLE) s.chosen) s.idle (number_is rows (codes "--idle") IDLE MAX_IDLE (omega arith) takes.idle s.chosen each) in
       let octets : settings.octets ≡ (settings_of ws).octets = number_same settings.octets (settings_of ws).octets (value_in (codes "--octets") (number OCTETS) s.chosen) s.octets (number_is rows (codes "--octets") OCTETS MAX_NUMBER (omega arith) takes.octets s.chosen each) in
       let sessions : settings.sessions ≡ (settings_of ws).sessions = number_same settings.sessions (settings_of ws).sessions (value_in (codes "--sessions") (number SESSIONS) s.chosen) s.sessions (number_is rows (codes "--sessions") SESSIONS MAX_SESSIONS (omega arith) takes.sessions s.chosen each) in
-      let same = same_settings settings (settings_of ws) host port raw_uri window piece idle octets sessions in
+      let recording : settings.recording ≡ (settings_of ws).recording = choice_same settings.recording (settings_of ws).recording (value_in (codes "--record") (choice false) s.chosen) s.recording (choice_is rows (codes "--record") false takes.recording s.chosen each) in
+      let same = same_settings settings (settings_of ws) host port raw_uri window piece idle octets sessions recording in
       (same ∙ ap settings_of (sym w), options_are command rows takes.readable s.chosen name words s.are_words)
 
 takes_send : TakesSettings send_options
 takes_send = record {
-  readable = readable send_options (tt, (tt, (omega arith, (tt, (omega arith, (omega arith, (omega arith, (omega arith, tt))))))));
+  readable = readable send_options (tt, (tt, (omega arith, (tt, (omega arith, (omega arith, (omega arith, (omega arith, (tt, tt)))))))));
   host = λ value i. octets_taken MAX_HOST value i;
   port = λ value i. number_taken 1 MAX_PORT value i;
   raw_uri = λ value i. printable_taken MAX_URI value i;
@@ -235,11 +240,12 @@ takes_send = record {
   idle = λ value i. number_taken 1 MAX_IDLE value i;
   octets = λ value i. number_taken 1 MAX_NUMBER value i;
   sessions = λ value i. absurd i;
+  recording = λ value i. choice_taken value i;
 }
 
 takes_listen : TakesSettings listen_options
 takes_listen = record {
-  readable = readable listen_options (tt, (omega arith, (omega arith, (tt, (omega arith, (omega arith, (omega arith, (omega arith, tt))))))));
+  readable = readable listen_options (tt, (omega arith, (omega arith, (tt, (omega arith, (omega arith, (omega arith, (omega arith, (tt, tt)))))))));
   host = λ value i. absurd i;
   port = λ value i. number_taken 1 MAX_PORT value i;
   raw_uri = λ value i. printable_taken MAX_URI value i;
@@ -248,7 +254,30 @@ takes_listen = record {
   idle = λ value i. number_taken 1 MAX_IDLE value i;
   octets = λ value i. number_taken 1 MAX_NUMBER value i;
   sessions = λ value i. number_taken 1 MAX_SESSIONS value i;
+  recording = λ value i. choice_taken value i;
 }
+
+-- a run that is recorded accepts one link
+lone_of : (r : Bool) (n : ℕ) → (not r || (n == 1)) ≡ true → r ≡ true → n ≡ 1
+lone_of true n e r = grind (arith, nat_tests, e)
+lone_of false n e r = cc
+
+of_lone : (r : Bool) (n : ℕ) → (r ≡ true → n ≡ 1) → (not r || (n == 1)) ≡ true
+of_lone true n one = grind (arith, nat_tests, one refl)
+of_lone false n one = refl
+
+listen_is : (words : List (List ℕ)) → are_listen_options words ≡ true → IsListen (settings_of words) (codes "listen" ∷ words)
+listen_is words e = record {
+  is_end = end_is (codes "listen") listen_options takes_listen words (and_left (are_options listen_options words) (is_lone words) e);
+  lone = lone_of (settings_of words).recording (settings_of words).sessions (and_right (are_options listen_options words) (is_lone words) e);
+}
+
+is_listen : (settings : Settings) (name : List ℕ) (words : List (List ℕ)) → IsListen settings (name ∷ words) → (settings ≡ settings_of words) × ((bytes_eq name (codes "listen") && are_listen_options words) ≡ true)
+is_listen settings name words s =
+    let i = is_end (codes "listen") listen_options takes_listen settings name words s.is_end in
+    let one : is_lone words ≡ true = of_lone (settings_of words).recording (settings_of words).sessions (subst (λ (x : Settings). x.recording ≡ true → x.sessions ≡ 1) i.0 s.lone) in
+    let options = and_right (bytes_eq name (codes "listen")) (are_options listen_options words) i.1 in
+    (i.0, and_both (bytes_eq name (codes "listen")) (are_listen_options words) (and_left (bytes_eq name (codes "listen")) (are_options listen_options words) i.1) (and_both (are_options listen_options words) (is_lone words) options one))
 
 -- ---- the command
 
@@ -275,7 +304,7 @@ no_words : (command : Command) → IsCommand command [] → ⊥
 no_words (Command.Show settings) i = let e = i.are_words.words_are in cc
 no_words Command.Replay i = let e = i.are_words.words_are in cc
 no_words (Command.Send settings) i = let e = i.are_words.words_are in cc
-no_words (Command.Listen settings) i = let e = i.are_words.words_are in cc
+no_words (Command.Listen settings) i = let e = i.is_end.are_words.words_are in cc
 no_words (Command.Pair settings) i = let e = i.are_words.words_are in cc
 
 module _ (name : List ℕ) (words : List (List ℕ)) where
@@ -289,7 +318,7 @@ module _ (name : List ℕ) (words : List (List ℕ)) where
   sends = bytes_eq name (codes "send") && are_options send_options words
 
   abbrev listens : Bool
-  listens = bytes_eq name (codes "listen") && are_options listen_options words
+  listens = bytes_eq name (codes "listen") && are_listen_options words
 
   abbrev pairs : Bool
   pairs = bytes_eq name (codes "pair") && are_options pair_options words
@@ -315,8 +344,8 @@ module _ (name : List ℕ) (words : List (List ℕ)) where
       (subst (λ (x : Command). IsCommand x (codes "send" ∷ words)) it (end_is (codes "send") send_options takes_send words (and_right (bytes_eq name (codes "send")) (are_options send_options words) fc)))
   is_made false false false true f fa fb fc fd ff command e =
       let it : Command.Listen (settings_of words) ≡ command = cc in
-      subst (λ (n : List ℕ). IsCommand command (n ∷ words)) (sym (named name (codes "listen") (are_options listen_options words) fd))
-      (subst (λ (x : Command). IsCommand x (codes "listen" ∷ words)) it (end_is (codes "listen") listen_options takes_listen words (and_right (bytes_eq name (codes "listen")) (are_options listen_options words) fd)))
+      subst (λ (n : List ℕ). IsCommand command (n ∷ words)) (sym (named name (codes "listen") (are_listen_options words) fd))
+      (subst (λ (x : Command). IsCommand x (codes "listen" ∷ words)) it (listen_is words (and_right (bytes_eq name (codes "listen")) (are_listen_options words) fd)))
   is_made false false false false true fa fb fc fd ff command e =
       let it : Command.Pair (pair_of words) ≡ command = cc in
       subst (λ (n : List ℕ). IsCommand command (n ∷ words)) (sym (named name (codes "pair") (are_options pair_options words) ff))
@@ -345,8 +374,8 @@ module _ (name : List ℕ) (words : List (List ℕ)) where
       tests false false true listens pairs (other_name name (codes "send") (codes "show") n refl (are_options show_options words))
       (other_name name (codes "send") (codes "replay") n refl (are_options [] words)) s.1 refl refl ∙ ap (λ (x : Settings). Some (Command.Send x)) (sym s.0)
   made_is (Command.Listen settings) i =
-      let s = is_end (codes "listen") listen_options takes_listen settings name words i in
-      let n = named name (codes "listen") (are_options listen_options words) s.1 in
+      let s = is_listen settings name words i in
+      let n = named name (codes "listen") (are_listen_options words) s.1 in
       tests false false false true pairs (other_name name (codes "listen") (codes "show") n refl (are_options show_options words))
       (other_name name (codes "listen") (codes "replay") n refl (are_options [] words))
       (other_name name (codes "listen") (codes "send") n refl (are_options send_options words)) s.1 refl ∙ ap (λ (x : Settings). Some (Command.Listen x)) (sym s.0)
@@ -356,7 +385,7 @@ module _ (name : List ℕ) (words : List (List ℕ)) where
       tests false false false false true (other_name name (codes "pair") (codes "show") n refl (are_options show_options words))
       (other_name name (codes "pair") (codes "replay") n refl (are_options [] words))
       (other_name name (codes "pair") (codes "send") n refl (are_options send_options words))
-      (other_name name (codes "pair") (codes "listen") n refl (are_options listen_options words)) s.1 ∙ ap (λ (x : PairSettings). Some (Command.Pair x)) (sym s.0)
+      (other_name name (codes "pair") (codes "listen") n refl (are_listen_options words)) s.1 ∙ ap (λ (x : PairSettings). Some (Command.Pair x)) (sym s.0)
 
 command_is : (words : List (List ℕ)) (command : Command) → (command_at words ≡ Some command) ↔ IsCommand command words
 command_is [] command = (λ e. cc, λ i. absurd (no_words command i))

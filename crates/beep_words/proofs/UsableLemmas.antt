@@ -132,7 +132,7 @@ pub send_is_usable : (settings : Settings) (words : List (List ℕ)) → IsSend 
 send_is_usable = usable (codes "send") send_options send_takes
 
 pub listen_is_usable : (settings : Settings) (words : List (List ℕ)) → IsListen settings words → IsUsable settings
-listen_is_usable = usable (codes "listen") listen_options listen_takes
+listen_is_usable settings words s = usable (codes "listen") listen_options listen_takes settings words s.is_end
 
 pub pair_is_usable : (settings : PairSettings) (words : List (List ℕ)) → IsPair settings words → IsPairUsable settings
 pair_is_usable settings words s =

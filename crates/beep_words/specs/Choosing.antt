@@ -1,6 +1,6 @@
 -- How words are gone over, option by option, for the proofs of reading them.
 -- No contract of a public call cites it: what the words are is CommandSet.
-use Rattle.std.specs.Prelude.{ℕ, min, Bool, true, false, not, ◌&&◌, ◌||◌, nat_lt, nat_le, Option, Some, None, is_some, List, [], ◌∷◌, length, codes, chars, bytes_eq, if◌then◌else◌}
+use Rattle.std.specs.Prelude.{ℕ, min, Bool, true, false, not, ◌&&◌, ◌||◌, ◌==◌, nat_lt, nat_le, Option, Some, None, is_some, List, [], ◌∷◌, length, codes, chars, bytes_eq, if◌then◌else◌}
 use Rattle.std.specs.Fmt.{decimal}
 use Rattle.std.specs.List.{list_all}
 use Rattle.std.specs.Str.Parse.{digits_value}
@@ -93,6 +93,15 @@ choice_at name default words = choice_or default (word_in name words)
 abbrev pub text_at : List ℕ → List ℕ → List (List ℕ) → List ℕ
 text_at name default words = some_or default (word_in name words)
 
+-- a run that is recorded accepts one link
+abbrev pub is_lone : List (List ℕ) → Bool
+is_lone words = not (choice_at (codes "--record") false words)
+    || (number_at (codes "--sessions") SESSIONS words == 1)
+
+-- the words are options of `listen` that go together
+abbrev pub are_listen_options : List (List ℕ) → Bool
+are_listen_options words = are_options listen_options words && is_lone words
+
 -- what the options of `show` say
 abbrev pub show_of : List (List ℕ) → ShowSettings
 show_of words = record {
@@ -111,6 +120,7 @@ settings_of words = record {
   idle = number_at (codes "--idle") IDLE words;
   octets = number_at (codes "--octets") OCTETS words;
   sessions = number_at (codes "--sessions") SESSIONS words;
+  recording = choice_at (codes "--record") false words;
 }
 
 -- what the options of `pair` say
@@ -130,7 +140,7 @@ command_in name words =
     else if bytes_eq name (codes "replay") && are_options [] words then Some Command.Replay
     else if bytes_eq name (codes "send") && are_options send_options words
     then Some (Command.Send (settings_of words))
-    else if bytes_eq name (codes "listen") && are_options listen_options words
+    else if bytes_eq name (codes "listen") && are_listen_options words
     then Some (Command.Listen (settings_of words))
     else if bytes_eq name (codes "pair") && are_options pair_options words
     then Some (Command.Pair (pair_of words))

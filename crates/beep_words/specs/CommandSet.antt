@@ -133,6 +133,7 @@ end_options = option (codes "--port") (Form.Number 1 MAX_PORT)
     ∷ option (codes "--piece") (Form.Number 1 MAX_PIECE)
     ∷ option (codes "--idle") (Form.Number 1 MAX_IDLE)
     ∷ option (codes "--octets") (Form.Number 1 MAX_NUMBER)
+    ∷ option (codes "--record") Form.Choice
     ∷ []
 
 abbrev pub send_options : List OptionRow
@@ -187,12 +188,16 @@ pub record IsEnd (command : List ℕ) (rows : List OptionRow) (settings : Settin
   pub octets : number settings.octets ≡ value_in (codes "--octets") (number OCTETS) chosen
   pub sessions : number settings.sessions
       ≡ value_in (codes "--sessions") (number SESSIONS) chosen
+  pub recording : choice settings.recording
+      ≡ value_in (codes "--record") (choice false) chosen
 
 abbrev pub IsSend : Settings → List (List ℕ) → Type 0
 IsSend settings words = IsEnd (codes "send") send_options settings words
 
-abbrev pub IsListen : Settings → List (List ℕ) → Type 0
-IsListen settings words = IsEnd (codes "listen") listen_options settings words
+-- the words are `listen` with these settings; a run that is recorded accepts one link
+pub record IsListen (settings : Settings) (words : List (List ℕ)) : Type 0 where
+  pub is_end : IsEnd (codes "listen") listen_options settings words
+  pub lone : settings.recording ≡ true → settings.sessions ≡ 1
 
 -- the words are `pair` with these settings
 pub record IsPair (settings : PairSettings) (words : List (List ℕ)) : Type 0 where

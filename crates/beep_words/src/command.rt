@@ -5,7 +5,7 @@ ghost use Rattle.beep_words.specs.Choosing.{command_at, command_in, makes_end};
 ghost use Rattle.beep_words.specs.declared.command.Command.{Command as CommandValue};
 
 use crate::options::Options;
-use crate::reading::{are_options, pair_in, settings_in, show_in};
+use crate::reading::{are_listen_options, are_options, pair_in, settings_in, show_in};
 use beep_octets::NoMemory;
 use beep_settings::Settings;
 use std::alloc::Global;
@@ -74,7 +74,7 @@ fn command_in(alloc: Global, name: &str, words: &[String]) -> Result<Option<Comm
         "send" if are_options(Options::Send, words) => {
             Ok(Some(Command::Send(settings_in(alloc, words)?)))
         }
-        "listen" if are_options(Options::Listen, words) => {
+        "listen" if are_listen_options(words) => {
             Ok(Some(Command::Listen(settings_in(alloc, words)?)))
         }
         "pair" if are_options(Options::Pair, words) => Ok(Some(Command::Pair(pair_in(words)))),

@@ -103,6 +103,7 @@ fn end_form(name: &str) -> Option<Form>
         "--piece" => Some(Form::Number(1, MAX_PIECE)),
         "--idle" => Some(Form::Number(1, MAX_IDLE)),
         "--octets" => Some(Form::Number(1, MAX_NUMBER)),
+        "--record" => Some(Form::Choice),
         _ => None,
     }
 }

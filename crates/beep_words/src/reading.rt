@@ -1,7 +1,7 @@
 //! Going over the words of options.
-ghost use Rattle.std.specs.Prelude.{◌≡◌, ◌&&◌, not, map, string_bytes, chars, IfOk, OnOk, bytes_eq};
+ghost use Rattle.std.specs.Prelude.{◌≡◌, ◌&&◌, ◌||◌, ◌==◌, not, map, string_bytes, chars, IfOk, OnOk, bytes_eq};
 ghost use Rattle.std.specs.Option.{option_copied};
-ghost use Rattle.beep_words.specs.Choosing.{is_of_some, is_among, are_options, word_in, number_at, number_or, choice_at, choice_or, text_at, show_of, settings_of, pair_of};
+ghost use Rattle.beep_words.specs.Choosing.{is_of_some, is_among, are_options, word_in, number_at, number_or, choice_at, choice_or, text_at, is_lone, are_listen_options, show_of, settings_of, pair_of};
 ghost use Rattle.beep_words.specs.CommandSet.{form_in};
 ghost use Rattle.beep_words.specs.Rows.{rows_of};
 
@@ -103,6 +103,20 @@ fn text_at(alloc: Global, name: &str, default: &str, words: &[String]) -> Result
     }
 }
 
+/// Whether a run that is recorded accepts one link.
+fn is_lone(words: &[String]) -> bool
+    ensures { result ≡ is_lone (map string_bytes words.now) }
+{
+    !choice_at("--record", false, words) || number_at("--sessions", SESSIONS, words) == 1
+}
+
+/// Whether the words are options of `listen` that go together.
+pub(crate) fn are_listen_options(words: &[String]) -> bool
+    ensures { result ≡ are_listen_options (map string_bytes words.now) }
+{
+    are_options(Options::Listen, words) && is_lone(words)
+}
+
 /// What the options of `show` say.
 pub(crate) fn show_in(words: &[String]) -> ShowSettings
     ensures { result ≡ show_of (map string_bytes words.now) }
@@ -126,6 +140,7 @@ pub(crate) fn settings_in(alloc: Global, words: &[String]) -> Result<Settings, N
         idle: number_at("--idle", IDLE, words),
         octets: number_at("--octets", OCTETS, words),
         sessions: number_at("--sessions", SESSIONS, words),
+        recording: choice_at("--record", false, words),
     })
 }
 
