@@ -13,3 +13,4 @@ mod ServingLemmas
 mod EndsLemmas
 mod StatusLemmas
 mod PairLemmas
+mod RecordedLemmas

@@ -18,11 +18,8 @@ use Rattle.beep_input.specs.Whole.{HasEnded}
 use Rattle.beep_input.specs.Lines.{AreLines, IsBad}
 use Rattle.beep_cmd.specs.Texts.{bad_line, broken_line, cut_line, idle_line, read_fault_line, refused_line, spent_line, wire_fault_line}
 use Rattle.beep_cmd.specs.Show.{Run, Saw}
-
--- what is known of links
-abbrev pub seen_of : (ℕ → Link) → Counts → Option (List Asked) → Option GName → Seen
-seen_of state counts asked lent =
-    record { state = state; counts = counts; asked = asked; lent = lent }
+use Rattle.beep_cmd.specs.Recorded.{IsEnding}
+pub use Rattle.beep_runs.specs.Runs.{seen_of}
 
 -- ---- what ends a session
 
@@ -147,12 +144,15 @@ AcceptsAtMost settings before after =
 -- ---- `send`
 
 -- a report of `send`, its status and its cause: its lines were those of the input, and its session
--- ended; or a line or a read stopped it, and no link was asked for
+-- ended, with the last line or the record that is due; or a line or a read stopped it, and no link
+-- was asked for
 pub data IsSendReport (settings : Settings) (old new : SourceState) (before after : Seen)
     (octets text : List ℕ) (status : ℕ) : Type 0 where
   over : HasEnded new → (lines : List (List ℕ)) → AreLines lines octets → (cause : Ended)
-      → SendCause cause settings before after → status ≡ ended_status cause
-      → text ≡ ended_line cause → IsSendReport settings old new before after octets text status
+      → cause ≢ Ended.WriteFault → SendCause cause settings before after
+      → status ≡ ended_status cause
+      → IsEnding settings.recording Role.Initiator before after status (ended_line cause) text
+      → IsSendReport settings old new before after octets text status
   bad_input : (number : ℕ) → IsBad octets number new → status ≡ 2 → text ≡ bad_line number
       → after ≡ before → IsSendReport settings old new before after octets text status
   unread_input : Rose old.faults new.faults → status ≡ 4 → text ≡ read_fault_line → after ≡ before

@@ -2,7 +2,9 @@
 pub mod Texts
 pub mod Show
 pub mod Replay
+pub mod Recorded
 pub mod Ends
+pub mod Recording
 pub mod Pair
 -- What proofs alone need: what each part told of an input.
 pub mod Judging

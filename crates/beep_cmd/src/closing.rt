@@ -38,7 +38,7 @@ pub(crate) fn finish_unlisted<O: Sink>(last: &mut Octets, why: Unlisted, output:
 }
 
 /// Writes a last line, and answers the status.
-fn tell<O: Sink>(last: &Octets, status: u8, output: &mut O) -> u8
+pub(crate) fn tell<O: Sink>(last: &Octets, status: u8, output: &mut O) -> u8
     ensures told { Tells status last.now.octets result (O.state output.old) (O.state output.new) }
     ensures none { last.now.octets ≡ [] → (result ≡ status) × (output.new ≡ output.old) }
     ensures kept { (O.state output.old).faults ≤ (O.state output.new).faults }

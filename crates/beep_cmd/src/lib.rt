@@ -6,6 +6,7 @@ mod ending;
 mod listen;
 mod listing;
 mod pair;
+mod recorded;
 mod replay;
 mod run;
 mod send;

@@ -1,14 +1,16 @@
 //! The command `listen`: a collector of syslog over BEEP.
-ghost use Rattle.std.specs.Prelude.{◌≡◌, ◌≤◌, ℕ, IfOk, IfErr};
+ghost use Rattle.std.specs.Prelude.{◌≡◌, ◌≤◌, ℕ, true, IfOk, IfErr};
 ghost use Rattle.beep_journal.specs.declared.role.Role.{Role as RoleValue};
 ghost use Rattle.beep_ends.specs.Ends.{AreFit};
 ghost use Rattle.beep_link.specs.Causes.{IsWritten};
 ghost use Rattle.beep_wires.specs.States.{SourceState};
 ghost use Rattle.beep_cmd.specs.Ends.{AcceptsAtMost, ListenCause, Listened, seen_of, WritesLawfully};
 ghost use Rattle.beep_cmd.specs.Serving.{ends_run, first_of, NotAccepted, Served};
+ghost use Rattle.beep_cmd.specs.Recording.{ListenRecorded};
 ghost use Rattle.beep_cmd.specs.Show.{run_of};
 
 use crate::closing::finish;
+use crate::recorded::record_listen;
 use crate::text::LAST_ROOM;
 use beep_ends::{Ended, listen_end};
 use beep_octets::Octets;
@@ -24,6 +26,7 @@ pub(crate) fn listen<O: Sink, W: Wires>(
     wires: &mut W,
 ) -> u8
     requires fit { AreFit settings.now }
+    requires lone { settings.now.recording ≡ true → settings.now.sessions ≡ 1 }
     ensures listened { (source : SourceState) → Listened settings.now
         (seen_of (W.state wires.old) (W.counts wires.old)
         (W.asked wires.old) (W.lent wires.old))
@@ -40,11 +43,20 @@ pub(crate) fn listen<O: Sink, W: Wires>(
         (W.asked wires.old) (W.lent wires.old))
         (seen_of (W.state wires.new) (W.counts wires.new)
         (W.asked wires.new) (W.lent wires.new)) }
+    ensures recorded { settings.now.recording ≡ true → ListenRecorded settings.now
+        (seen_of (W.state wires.old) (W.counts wires.old)
+        (W.asked wires.old) (W.lent wires.old))
+        (seen_of (W.state wires.new) (W.counts wires.new)
+        (W.asked wires.new) (W.lent wires.new))
+        result (O.state output.old) (O.state output.new) }
 {
     let mut last = Octets::new(alloc);
     let Ok(()) = last.reserve(LAST_ROOM) else {
         return 7;
     };
+    if settings.recording {
+        return record_listen(alloc, settings, &mut last, output, wires);
+    }
     let ended = listen_all(alloc, settings, output, wires);
     finish(&mut last, ended, output)
 }

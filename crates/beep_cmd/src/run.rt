@@ -1,5 +1,5 @@
 //! The one call of the program.
-ghost use Rattle.std.specs.Prelude.{◌≡◌, ◌⊎◌, ◌+◌, ◌≤◌, ℕ, List, Some, None, false, map, string_bytes};
+ghost use Rattle.std.specs.Prelude.{◌≡◌, ◌⊎◌, ◌+◌, ◌≤◌, ℕ, List, Some, None, true, false, map, string_bytes};
 ghost use Rattle.beep_words.specs.CommandSet.{IsShow, IsReplay, IsSend, IsListen, IsPair, IsNoCommand};
 ghost use Rattle.beep_words.specs.declared.command.ShowSettings.{ShowSettings as settings_type};
 ghost use Rattle.beep_words.specs.declared.command.PairSettings.{PairSettings as pair_settings};
@@ -11,6 +11,7 @@ ghost use Rattle.beep_cmd.specs.Show.{Shown, Refused, IsPlain, NoFault, run_of};
 ghost use Rattle.beep_cmd.specs.Replay.{Replayed, IsLawful};
 ghost use Rattle.beep_cmd.specs.Pair.{Paired, IsRunnable};
 ghost use Rattle.beep_cmd.specs.Ends.{AcceptsAtMost, DialsOnce, Listened, seen_of, Sent, WritesLawfully};
+ghost use Rattle.beep_cmd.specs.Recording.{ListenRecorded};
 
 use crate::listen::listen;
 use crate::pair::pair;
@@ -62,6 +63,11 @@ pub fn beep_run<I: Source, O: Sink, W: Wires>(
         (W.asked wires.old) (W.lent wires.old)) (seen_of (W.state wires.new) (W.counts wires.new)
         (W.asked wires.new) (W.lent wires.new)) result (run_of (I.state input.old)
         (I.state input.new) (O.state output.old) (O.state output.new)) }
+    ensures listen_recorded { (settings : end_settings)
+        → IsListen settings (map string_bytes words.now) → settings.recording ≡ true
+        → ListenRecorded settings (seen_of (W.state wires.old) (W.counts wires.old)
+        (W.asked wires.old) (W.lent wires.old)) (seen_of (W.state wires.new) (W.counts wires.new)
+        (W.asked wires.new) (W.lent wires.new)) result (O.state output.old) (O.state output.new) }
     ensures paired { (settings : pair_settings) → IsPair settings (map string_bytes words.now)
         → Paired settings result (run_of (I.state input.old) (I.state input.new)
         (O.state output.old) (O.state output.new)) }

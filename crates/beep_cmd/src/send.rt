@@ -1,5 +1,5 @@
 //! The command `send`: the lines of an input go to a collector.
-ghost use Rattle.std.specs.Prelude.{◌≡◌, ◌+◌, ◌≤◌, ℕ, false, [], IfErr};
+ghost use Rattle.std.specs.Prelude.{◌≡◌, ◌≢◌, ◌+◌, ◌≤◌, ℕ, false, [], IfErr};
 ghost use Rattle.beep_journal.specs.declared.role.Role.{Role as RoleValue};
 ghost use Rattle.beep_ends.specs.Ends.{AreFit};
 ghost use Rattle.beep_input.specs.declared.whole.TheConstants.{MAX_INPUT};
@@ -8,6 +8,7 @@ ghost use Rattle.beep_cmd.specs.Ends.{DialsOnce, seen_of, SendCause, Sent, Write
 ghost use Rattle.beep_cmd.specs.Show.{run_of};
 
 use crate::closing::{finish, finish_unlisted};
+use crate::recorded::record_send;
 use crate::text::LAST_ROOM;
 use beep_ends::{Ended, send_end};
 use beep_input::read_lines;
@@ -52,6 +53,9 @@ pub(crate) fn send<I: Source, O: Sink, W: Wires>(
     };
     match read_lines(alloc, input) {
         Ok(lines) => {
+            if settings.recording {
+                return record_send(alloc, settings, &lines, &mut last, output, wires);
+            }
             let ended = send_lines(alloc, settings, &lines, wires);
             finish(&mut last, ended, output)
         }
@@ -62,6 +66,7 @@ pub(crate) fn send<I: Source, O: Sink, W: Wires>(
 /// Dials, and sends lines.
 fn send_lines<W: Wires>(alloc: Global, settings: &Settings, lines: &Entries, wires: &mut W) -> Ended
     requires fit { AreFit settings.now }
+    ensures unwritten { result ≢ EndedValue.WriteFault }
     ensures caused { SendCause result settings.now
         (seen_of (W.state wires.old) (W.counts wires.old)
         (W.asked wires.old) (W.lent wires.old))

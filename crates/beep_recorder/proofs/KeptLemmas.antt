@@ -1,18 +1,21 @@
 -- What is kept of a link stays its log.
-use Rattle.std.proofs.Common.{◌≡◌, ◌==◌, ◌&&◌, not, ℕ, ◌+◌, ◌<◌, ◌≤◌, Bool, true, false, List, [], ◌∷◌, ◌++◌, map, Option, Some, None, Result, Ok, Err, ◌⊎◌, inl, inr, refl, sym, ap, subst, ◌∙◌, arith}
-use Rattle.std.specs.Result.{IfOk}
+use Rattle.std.proofs.Common.{◌≡◌, ◌==◌, ◌&&◌, not, nat_lt, ℕ, ◌+◌, ◌<◌, ◌≤◌, Bool, true, false, List, [], ◌∷◌, ◌++◌, map, Option, Some, None, Result, Ok, Err, ◌⊎◌, inl, inr, refl, sym, ap, subst, ◌∙◌, arith}
+use Rattle.std.specs.Result.{IfOk, OnOk}
 use Rattle.std.proofs.lemmas.Bool.{cases_Bool, eqb-true, eq-eqb, eqb-false}
+use Rattle.std.proofs.lemmas.Bool.Decides.{nat_tests}
 use Rattle.std.proofs.lemmas.List.{map-append}
 use Rattle.beep_wires.specs.declared.failed.Failed.{Failed}
 use Rattle.beep_wires.specs.declared.links.Got.{Got}
 use Rattle.beep_wires.specs.declared.links.WireError.{WireError}
 use Rattle.beep_wires.specs.Log.{Entry as LinkEntry, Logs}
-use Rattle.beep_wires.specs.Links.{Link, IsFresh, SameBeside, LeavesLinks, given_after}
+use Rattle.beep_wires.specs.Links.{Link, Counts, IsFresh, SameBeside, LeavesLinks, given_after}
 use Rattle.beep_wires.specs.Got.{read_entries, write_entries, gives_end}
 use Rattle.beep_journal.specs.Log.{Entry, read, wrote, quiet, ended}
 use Rattle.beep_record.specs.Record.{has_ended, IsOrdered}
+use Rattle.beep_record.specs.Written.{Writes}
 use Rattle.beep_recorder.specs.Said.{entry_said, log_said}
-use Rattle.beep_recorder.specs.Kept.{IsUnread, IsGiven, EndsWith, IsTold, is_recorded, first_given}
+use Rattle.beep_journal.specs.declared.role.Role.{Role}
+use Rattle.beep_recorder.specs.Kept.{IsUnread, IsGiven, EndsWith, IsTold, is_recorded, first_given, Recording, given_by, IsKnown, RecordsLink, RecordsKnown}
 use Rattle.beep_recorder.specs.Ordered.{is_ordered}
 
 -- ---- the order of entries
@@ -223,3 +226,90 @@ module _ (short : Bool) (link : Option ℕ) (m : ℕ) (log : List Entry) (state 
 
   pub shut-told : IsTold short state link log → IsTold short state2 link log
   shut-told told = λ n entries whole is log_is. told n entries whole is (sym (shut-log n) ∙ log_is)
+
+-- ---- what is known to be recorded
+
+here-given : (first given : ℕ) → first < given → given_by first given ≡ Some first
+here-given first given less =
+    let is : nat_lt first given ≡ true = grind (arith, nat_tests, less) in
+    rw is refl
+
+not-given : (first given : ℕ) → given ≤ first → given_by first given ≡ None
+not-given first given most =
+    let is : nat_lt first given ≡ false = grind (arith, nat_tests, most) in
+    rw is refl
+
+-- the first link that is given is the next one
+first-known : (first given given2 : ℕ) (r : Result ℕ WireError) → first ≤ given → IfOk r (λ m. m ≡ given) → given2 ≡ given_after given r
+    → first_given (given_by first given) r ≡ given_by first given2
+first-known first given given2 (Err e) least number after = first-none (given_by first given) ∙ ap (given_by first) (sym after)
+  where
+    first-none : (link : Option ℕ) → first_given link (Err e) ≡ link
+    first-none None = refl
+    first-none (Some n) = refl
+first-known first given given2 (Ok m) least number after = by (nat_lt first given) refl
+  where
+    now : given_by first given2 ≡ Some first
+    now = here-given first given2 (omega (arith, least, after))
+
+    by : (b : Bool) → nat_lt first given ≡ b → first_given (given_by first given) (Ok m) ≡ given_by first given2
+    by true is =
+        let less : first < given = grind (arith, nat_tests, is) in
+        ap (λ l. first_given l (Ok m)) (here-given first given less) ∙ sym now
+    by false is =
+        let most : given ≤ first = grind (arith, nat_tests, is) in
+        let same : m ≡ first = omega (arith, number, least, most) in
+        ap (λ l. first_given l (Ok m)) (not-given first given most) ∙ ap (λ k. Some k) same ∙ sym now
+
+pub given-known : (known : Option Recording) (short : Bool) (link : Option ℕ) (given given2 : ℕ) (role : Role) (r : Result ℕ WireError) → IfOk r (λ m. m ≡ given) → given2 ≡ given_after given r
+    → IsKnown known short link given role → IsKnown known short (first_given link r) given2 role
+given-known known short link given given2 role r number after k = λ recording is.
+    let it = k recording is in
+    (it.0, least r number after it.1, (λ whole. ap (λ l. first_given l r) (it.2 whole) ∙ first-known recording.first given given2 r it.1 number after))
+  where
+    least : {first : ℕ} (r : Result ℕ WireError) → IfOk r (λ m. m ≡ given) → given2 ≡ given_after given r → first ≤ given → first ≤ given2
+    least (Ok m) number after le = omega (arith, after, le)
+    least (Err e) number after le = omega (arith, after, le)
+
+same-known : (known : Option Recording) (short : Bool) (link : Option ℕ) (given given2 : ℕ) (role : Role) → given2 ≡ given → IsKnown known short link given role → IsKnown known short link given2 role
+same-known known short link given given2 role same k = subst (λ (n : ℕ). IsKnown known short link n role) (sym same) k
+
+whole-known : (known : Option Recording) (short short2 : Bool) (link : Option ℕ) (given : ℕ) (role : Role) → short ≡ false → IsKnown known short link given role → IsKnown known short2 link given role
+whole-known known short short2 link given role whole k = λ recording is.
+    let it = k recording is in
+    (it.0, it.1, (λ w. it.2 whole))
+
+module _ (known : Option Recording) (short : Bool) (link : Option ℕ) (counts counts2 : Counts) (role : Role) (k : IsKnown known short link counts.given role) where
+  pub kept-known : counts2 ≡ counts → IsKnown known short link counts2.given role
+  kept-known same = same-known known short link counts.given counts2.given role (ap (λ c. c.given) same) k
+
+  pub read-known : (quiets : ℕ) → counts2 ≡ record counts { quiets = quiets } → IsKnown known short link counts2.given role
+  read-known quiets same = same-known known short link counts.given counts2.given role (ap (λ c. c.given) same) k
+
+  pub it-kept-known : (m : ℕ) (short2 : Bool) → is_recorded short link m ≡ true → counts2 ≡ counts → IsKnown known short2 link counts2.given role
+  it-kept-known m short2 it same = whole-known known short short2 link counts2.given role (recorded-whole short link m it) (kept-known same)
+
+  pub it-read-known : (m : ℕ) (short2 : Bool) → is_recorded short link m ≡ true → (quiets : ℕ) → counts2 ≡ record counts { quiets = quiets } → IsKnown known short2 link counts2.given role
+  it-read-known m short2 it quiets same = whole-known known short short2 link counts2.given role (recorded-whole short link m it) (read-known quiets same)
+
+pub it-given : (short : Bool) (link : Option ℕ) (m : ℕ) (short2 : Bool) (given given2 : ℕ) → is_recorded short link m ≡ true → given2 ≡ given → IsGiven short given link → IsGiven short2 given2 link
+it-given short link m short2 given given2 it same within = λ n whole is. omega (arith, same, within n (recorded-whole short link m it) is)
+
+-- ---- what is written
+
+records-some : (state : ℕ → Link) (link : Option ℕ) (recording : Recording) (given : ℕ) (role : Role) (log : List Entry) (old new : List ℕ) → recording.first < given
+    → (role ≡ recording.role) → link ≡ given_by recording.first given → ((n : ℕ) (entries : List LinkEntry) → link ≡ Some n → (state n).log ≡ Some entries → log ≡ log_said entries)
+    → Writes role log old new → RecordsLink (state recording.first) recording.role old new
+records-some state link recording given role log old new less same is told writes = record {
+  log = log;
+  told = λ entries. told recording.first entries (is ∙ here-given recording.first given less);
+  writes = subst (λ (r : Role). Writes r log old new) same writes;
+}
+
+pub records-known : {E : Type 0} (known : Option Recording) (short : Bool) (link : Option ℕ) (given : ℕ) (role : Role) (state : ℕ → Link) (log : List Entry) (old new : List ℕ) (r : Result (Unit {0}) E) → short ≡ false
+    → IsKnown known short link given role → ((n : ℕ) (entries : List LinkEntry) → short ≡ false → link ≡ Some n → (state n).log ≡ Some entries → log ≡ log_said entries)
+    → OnOk r (Writes role log old new) → OnOk r (RecordsKnown known state given old new)
+records-known known short link given role state log old new (Ok one) whole k told writes = λ recording is less.
+    let it = k recording is in
+    records-some state link recording given role log old new less it.0 (it.2 whole) (λ n entries. told n entries whole) writes
+records-known known short link given role state log old new (Err e) whole k told writes = tt

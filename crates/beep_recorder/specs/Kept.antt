@@ -1,6 +1,6 @@
 -- What a recorder holds while no entry was lost: the log of one link since it was given.
 -- The code compares no logs; it adds an entry after each call of the link.
-use Rattle.std.specs.Prelude.{◌≡◌, ◌==◌, ◌&&◌, ℕ, ◌<◌, Bool, false, not, Option, Some, None, List, [], Result, Ok, Err}
+use Rattle.std.specs.Prelude.{◌≡◌, ◌==◌, ◌&&◌, nat_lt, ℕ, ◌<◌, ◌≤◌, Bool, false, not, if◌then◌else◌, Option, Some, None, List, [], Result, Ok, Err}
 use Rattle.beep_journal.specs.declared.role.Role.{Role}
 use Rattle.beep_journal.specs.Log.{Entry}
 use Rattle.beep_wires.specs.Log.{Entry as LinkEntry}
@@ -35,7 +35,34 @@ Records state link role old new =
     (n : ℕ) (entries : List LinkEntry) → link ≡ Some n → (state n).log ≡ Some entries
     → Writes role (log_said entries) old new
 
+-- the octets gained are a record at this end of a link: of some log, and of the link's own where
+-- that is known
+pub record RecordsLink (link : Link) (role : Role) (old new : List ℕ) : Type 0 where
+  pub log : List Entry
+  pub told : (entries : List LinkEntry) → link.log ≡ Some entries → log ≡ log_said entries
+  pub writes : Writes role log old new
+
 -- ---- which link is recorded
+
+-- what is recorded: the link of this number, once it is given, at this end
+pub record Recording : Type 0 where
+  pub first : ℕ
+  pub role : Role
+
+-- the link of this number, where it was given by now
+abbrev pub given_by : ℕ → ℕ → Option ℕ
+given_by first given = if nat_lt first given then Some first else None
+
+-- where it is known what is recorded, that is it
+abbrev pub IsKnown : Option Recording → Bool → Option ℕ → ℕ → Role → Type 0
+IsKnown known short link given role = (recording : Recording) → known ≡ Some recording
+    → (role ≡ recording.role) × (recording.first ≤ given)
+    × (short ≡ false → link ≡ given_by recording.first given)
+
+-- where it is known what is recorded, and its link was given, the octets gained are its record
+abbrev pub RecordsKnown : Option Recording → (ℕ → Link) → ℕ → List ℕ → List ℕ → Type 0
+RecordsKnown known state given old new = (recording : Recording) → known ≡ Some recording
+    → recording.first < given → RecordsLink (state recording.first) recording.role old new
 
 -- calls of this link are kept
 abbrev pub is_recorded : Bool → Option ℕ → ℕ → Bool

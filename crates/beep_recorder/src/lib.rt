@@ -5,7 +5,9 @@
 #![tactic(auto)]
 
 mod keep;
+mod known;
 pub mod laws;
 mod recorder;
 
+pub use known::Known;
 pub use recorder::Recorder;

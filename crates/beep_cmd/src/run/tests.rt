@@ -395,4 +395,5 @@ fn lines_are_written_once_their_frames_are_read(rt: HostRuntime) -> Result<(), F
 
 mod links;
 mod pairs;
+mod recorded;
 mod records;

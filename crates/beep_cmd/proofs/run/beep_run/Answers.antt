@@ -1,5 +1,6 @@
-use Rattle.std.proofs.Common.{◌≡◌, ◌⊎◌, Some, None, map, refl, ap, ◌∙◌, subst, arith}
+use Rattle.std.proofs.Common.{◌≡◌, ◌⊎◌, true, Some, None, map, refl, ap, sym, ◌∙◌, subst, arith}
 use Rattle.std.specs.String.{string_bytes}
+use Rattle.std.proofs.KnownBytes.{Appends-nil}
 use Rattle.beep_words.specs.declared.command.ShowSettings.{ShowSettings as Settings}
 use Rattle.beep_words.specs.declared.command.PairSettings.{PairSettings}
 use Rattle.beep_settings.specs.declared.settings.Settings.{Settings as EndSettings}
@@ -14,6 +15,7 @@ use Rattle.beep_cmd.specs.Pair.{Paired}
 use Rattle.beep_link.specs.Causes.{Seen, WhereTold}
 use Rattle.beep_journal.specs.declared.role.Role.{Role}
 use Rattle.beep_ends.specs.Logs.{IsLawfulOn, terms_by}
+use Rattle.beep_cmd.specs.Recording.{ListenRecorded, record_starved}
 use Rattle.beep_cmd.specs.Show.{Run, run_of}
 use Rattle.beep_cmd.proofs.CommandLemmas.{listens, no_command, none_listen, none_pair, none_replay, none_send, none_show, not_listen, not_pair, not_replay, not_send, not_show, not_unlinked, other_replay, other_show, same_listen, same_pair, same_send, same_show, sends, some_command}
 use Rattle.beep_cmd.proofs.CompleteLemmas.{complete, shown_as}
@@ -38,7 +40,10 @@ pub listen-requires : goal.listen-requires
 listen-requires g c =
     let a = c.in-Ok-Some-Listen in
     let w : IsListen a.settings (map string_bytes c.args.words.now) = (a.ensures.ok (Command.Listen a.settings)).0 (a.field-0-is ∙ ap Some a.field-0-0-is) in
-    record { fit = usable_fit a.settings (listen_is_usable a.settings _ w) }
+    record {
+      fit = usable_fit a.settings (listen_is_usable a.settings _ w);
+      lone = w.lone;
+    }
 
 pub pair-requires-clause-fit : goal.pair-requires-clause-fit
 pair-requires-clause-fit g c =
@@ -65,6 +70,7 @@ returns-in-Ok-Some-Show g c =
       replay_complete = λ octets w left is_lawful no_fault. absurd (other w);
       sent = λ settings w. absurd (other_send settings w);
       listened = λ settings w. absurd (other_listen settings w);
+      listen_recorded = λ settings w recording. absurd (other_listen settings w);
       paired = λ settings w. absurd (other_pair settings w);
       pair_complete = λ settings w is_runnable no_fault. absurd (other_pair settings w);
       usage = λ one. absurd (shown_not a.settings c.show.result _ c.show.ensures.shown one);
@@ -104,6 +110,7 @@ returns-in-Ok-Some-Replay g c =
       replay_complete = λ octets w left is_lawful no_fault. lawful octets _ c.replay.result left is_lawful no_fault c.replay.ensures.replayed;
       sent = λ settings w. absurd (other_send settings w);
       listened = λ settings w. absurd (other_listen settings w);
+      listen_recorded = λ settings w recording. absurd (other_listen settings w);
       paired = λ settings w. absurd (other_pair settings w);
       pair_complete = λ settings w is_runnable no_fault. absurd (other_pair settings w);
       usage = λ one. absurd (replayed_not c.replay.result _ c.replay.ensures.replayed one);
@@ -144,6 +151,7 @@ returns-in-Ok-Some-Send g c =
       replay_complete = λ octets w left is_lawful no_fault. absurd (of.not_replay w);
       sent = λ settings w. subst (λ (s : EndSettings). Sent s before after c.send.result run) (same settings is w) c.send.ensures.sent;
       listened = λ settings w. absurd (other settings w);
+      listen_recorded = λ settings w recording. absurd (other settings w);
       paired = λ settings w. absurd (of.not_pair settings w);
       pair_complete = λ settings w is_runnable no_fault. absurd (of.not_pair settings w);
       usage = λ one. absurd (sent_not a.settings before after c.send.result run c.send.ensures.sent one);
@@ -184,6 +192,8 @@ returns-in-Ok-Some-Listen g c =
       replay_complete = λ octets w left is_lawful no_fault. absurd (of.not_replay w);
       sent = λ settings w. absurd (other settings w);
       listened = λ settings w. subst (λ (s : EndSettings). Listened s before after c.listen.result run) (same settings is w) (c.listen.ensures.listened (g.I.Source.state c.args.input.now));
+      listen_recorded = λ settings w recording. subst (λ (s : EndSettings). ListenRecorded s before after c.listen.result run.sink run.sink_after) (same settings is w)
+          (c.listen.ensures.recorded (subst (λ (s : EndSettings). s.recording ≡ true) (sym (same settings is w)) recording));
       paired = λ settings w. absurd (of.not_pair settings w);
       pair_complete = λ settings w is_runnable no_fault. absurd (of.not_pair settings w);
       usage = λ one. absurd (listened_not a.settings before after c.listen.result run (c.listen.ensures.listened (g.I.Source.state c.args.input.now)) one);
@@ -226,6 +236,7 @@ returns-in-Ok-Some-Pair g c =
       replay_complete = λ octets w left is_lawful no_fault. absurd (replay w);
       sent = λ settings w. absurd (send settings w);
       listened = λ settings w. absurd (listen settings w);
+      listen_recorded = λ settings w recording. absurd (listen settings w);
       paired = by;
       pair_complete = λ settings w is_runnable no_fault. runnable_complete settings run c.pair.result is_runnable no_fault (by settings w);
       usage = λ one. absurd (paired_not a.settings c.pair.result run c.pair.ensures.paired one);
@@ -266,6 +277,7 @@ returns-in-Ok-None g c =
       replay_complete = λ octets w left is_lawful no_fault. absurd (replay w);
       sent = λ settings w. absurd (send settings w);
       listened = λ settings w. absurd (listen settings w);
+      listen_recorded = λ settings w recording. absurd (listen settings w);
       paired = λ settings w. absurd (pair settings w);
       pair_complete = λ settings w is_runnable no_fault. absurd (pair settings w);
       usage = λ one command w. none command w;
@@ -300,6 +312,7 @@ returns-in-Err g c =
       replay_complete = λ octets w left is_lawful no_fault. absurd (of.not_replay w);
       sent = λ settings w. starved_at_once settings _ _ _;
       listened = λ settings w. listen_starved refl;
+      listen_recorded = λ settings w recording. record_starved refl (Appends-nil (g.O.Sink.state c.args.output.now).written);
       paired = λ settings w. absurd (of.not_pair settings w);
       pair_complete = λ settings w is_runnable no_fault. absurd (of.not_pair settings w);
       usage = λ one. absurd (omega (arith, one));

@@ -1,7 +1,9 @@
-use Rattle.std.proofs.Common.{refl}
+use Rattle.std.proofs.Common.{inl, refl}
 use Rattle.beep_cmd.specs.Ends.{ended_status, ended_line, over, IsDialOf}
+use Rattle.beep_cmd.specs.Recorded.{lined}
 use Rattle.beep_cmd.specs.Show.{run_of}
 use Rattle.beep_cmd.proofs.EndsLemmas.{sent, unsent}
+use Rattle.beep_cmd.proofs.RecordedLemmas.{sent_recorded}
 use Rattle.beep_cmd.proofs.ServingLemmas.{asks_none}
 use Rattle.beep_cmd.proofs.send.send.Goals as goal
 
@@ -16,7 +18,12 @@ returns-in-Ok-read_lines-clause-sent g c =
     let gives = c.in-Ok-read_lines.ensures.ok in
     let cause = c.send_lines-ended.result in
     sent c.args.settings.now _ _ (run_of (g.I.Source.state c.args.input.now) (g.I.Source.state c.read_lines.new.input) (g.O.Sink.state c.args.output.now) (g.O.Sink.state c.finish.new.output)) gives.octets gives.consumed (ended_status cause) (ended_line cause) c.finish.result
-    (over gives.ended c.in-Ok-read_lines.lines gives.are_lines cause c.send_lines-ended.ensures.caused refl refl) c.finish.ensures.told
+    (over gives.ended c.in-Ok-read_lines.lines gives.are_lines cause c.send_lines-ended.ensures.unwritten c.send_lines-ended.ensures.caused refl (lined (inl c.if-settings.false) refl)) c.finish.ensures.told
+
+pub returns-then-settings-clause-sent : goal.returns-then-settings-clause-sent
+returns-then-settings-clause-sent g c =
+    let gives = c.in-Ok-read_lines.ensures.ok in
+    sent_recorded c.args.settings.now _ _ c.record_send.result (run_of (g.I.Source.state c.args.input.now) (g.I.Source.state c.read_lines.new.input) (g.O.Sink.state c.args.output.now) (g.O.Sink.state c.record_send.new.output)) gives.octets gives.consumed c.if-settings.true gives.ended c.in-Ok-read_lines.lines gives.are_lines c.record_send.ensures.told
 
 pub returns-clause-sent : goal.returns-clause-sent
 returns-clause-sent g c =

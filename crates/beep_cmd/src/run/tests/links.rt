@@ -6,7 +6,7 @@ use super::*;
 use beep_memory::{Give, Gives};
 
 /// What a listener says. `|` parts the pieces of reads.
-const LISTENER: &str =
+pub(super) const LISTENER: &str =
     "RPY 0 0 . 0 122\r\nContent-Type: application/beep+xml\r\n\r\n<greeting><profile \
      uri='http://xml.resource.org/profiles/syslog/RAW' /></greeting>\r\nEND\r\n|\
      RPY 0 1 . 122 101\r\nContent-Type: application/beep+xml\r\n\r\n<profile \
@@ -16,7 +16,7 @@ const LISTENER: &str =
      RPY 0 3 . 269 46\r\nContent-Type: application/beep+xml\r\n\r\n<ok />\r\nEND\r\n";
 
 /// What a sender of `LINES` says, likewise.
-const SENDER: &str =
+pub(super) const SENDER: &str =
     "RPY 0 0 . 0 52\r\nContent-Type: application/beep+xml\r\n\r\n<greeting />\r\nEND\r\n|\
      MSG 0 1 . 52 127\r\nContent-Type: application/beep+xml\r\n\r\n<start number='1'><profile \
      uri='http://xml.resource.org/profiles/syslog/RAW' /></start>\r\nEND\r\n|\
@@ -31,12 +31,13 @@ const SENDER: &str =
      <close number='0' code='200' />\r\nEND\r\n";
 
 /// The lines, each ended by LF.
-const LINES: &str = "<34>Oct 11 22:14:15 mymachine su: 'su root' failed for lonvick on /dev/pts/8\n\
+pub(super) const LINES: &str =
+    "<34>Oct 11 22:14:15 mymachine su: 'su root' failed for lonvick on /dev/pts/8\n\
      <13>Oct 11 22:14:16 mymachine sshd: session opened\n\
      <165>Oct 11 22:14:17 mymachine cron: job done\n";
 
 /// A listener that starts the channel, asks for nothing and closes it with code 421.
-const CLOSER: &str =
+pub(super) const CLOSER: &str =
     "RPY 0 0 . 0 122\r\nContent-Type: application/beep+xml\r\n\r\n<greeting><profile \
      uri='http://xml.resource.org/profiles/syslog/RAW' /></greeting>\r\nEND\r\n|\
      RPY 0 1 . 122 101\r\nContent-Type: application/beep+xml\r\n\r\n<profile \
@@ -45,7 +46,7 @@ const CLOSER: &str =
      <close number='1' code='421' />\r\nEND\r\n|~";
 
 /// A listener that offers COOKED alone.
-const COOKED: &str =
+pub(super) const COOKED: &str =
     "RPY 0 0 . 0 125\r\nContent-Type: application/beep+xml\r\n\r\n<greeting><profile \
      uri='http://xml.resource.org/profiles/syslog/COOKED' /></greeting>\r\nEND\r\n|\
      ERR 0 1 . 125 92\r\nContent-Type: application/beep+xml\r\n\r\n\
@@ -81,7 +82,7 @@ fn add_link(alloc: Global, wires: &mut MemWires, text: &str) -> Result<(), Fail>
 }
 
 /// The links of the peers.
-fn links_of(alloc: Global, peers: &str, fails: Fails) -> Result<MemWires, Fail> {
+pub(super) fn links_of(alloc: Global, peers: &str, fails: Fails) -> Result<MemWires, Fail> {
     let mut wires = MemWires::new(alloc, fails);
     for peer in peers.split("^") {
         if !peer.is_empty() {
@@ -92,7 +93,7 @@ fn links_of(alloc: Global, peers: &str, fails: Fails) -> Result<MemWires, Fail> 
 }
 
 /// Makes a sink, runs the call over these links, and hands on the status and the sink.
-fn run_over(
+pub(super) fn run_over(
     alloc: Global,
     words: &str,
     input: &str,
@@ -319,6 +320,12 @@ fn options_of_an_end_are_read(rt: HostRuntime) -> Result<(), Fail> {
         ("send --port", "! usage\n"),
         ("send --raw-uri \u{e9}", "! usage\n"),
         ("listen listen", "! usage\n"),
+        ("send --record yes", "! wire fault\n"),
+        ("listen --record yes --sessions 1", "! wire fault\n"),
+        ("listen --record no --sessions 2", "! wire fault\n"),
+        ("listen --record yes --sessions 2", "! usage\n"),
+        ("listen --record", "! usage\n"),
+        ("send --record true", "! usage\n"),
     ];
     for (words, output) in rows {
         let status = if output == "! usage\n" { 1 } else { 6 };

@@ -1,0 +1,156 @@
+-- How a run that is recorded ends.
+use Rattle.std.proofs.Common.{◌≡◌, ◌≢◌, ◌⊎◌, inl, inr, ℕ, ◌+◌, ◌≤◌, true, List, [], ◌∷◌, ◌++◌, codes, Some, None, refl, sym, ap, ◌∙◌, subst, arith, append_assoc}
+use Rattle.std.proofs.lemmas.List.{append-nil}
+use Rattle.std.specs.Fmt.{decimal}
+use Rattle.std.specs.Io.KnownBytes.{Appends, Consumes}
+use Rattle.beep_journal.specs.declared.role.Role.{Role}
+use Rattle.beep_record.specs.Record.{first_line, log_text, record_text}
+use Rattle.beep_record.specs.declared.limits.TheConstants.{MAX_STATUS}
+use Rattle.beep_wires.specs.Counts.{Rose}
+use Rattle.beep_wires.specs.States.{SourceState, SinkState}
+use Rattle.beep_wires.specs.Links.{Link, Ask, dial, accept}
+use Rattle.beep_settings.specs.declared.settings.Settings.{Settings}
+use Rattle.beep_link.specs.declared.ended.Ended.{Ended}
+use Rattle.beep_link.specs.Causes.{Seen, WhereTold}
+use Rattle.beep_ends.specs.Logs.{IsLawfulOn, terms_by}
+use Rattle.beep_recorder.specs.Kept.{RecordsLink}
+use Rattle.beep_runs.specs.Runs.{AsksThis, IsRecorded, NotGiven, Ran}
+use Rattle.beep_input.specs.Whole.{HasEnded}
+use Rattle.beep_input.specs.Lines.{AreLines}
+use Rattle.beep_cmd.specs.Show.{Run, run_of}
+use Rattle.beep_cmd.specs.Recorded.{IsEnding, IsRecordOf, lined, recorded}
+use Rattle.beep_cmd.specs.Recording.{EndsRecorded, ListenRecorded, record_told, record_starved, TellsRecord, TellsWhole, whole_record, no_record}
+use Rattle.beep_cmd.specs.Ends.{AcceptsAtMost, asking, AsksOnly, DialsOnce, ended_line, ended_status, IsAcceptOf, IsDialOf, ListenCause, Listened, listen_starved, listen_told, listen_unwritten, over, SendCause, Sent, send_starved, session, SessionCause, Tells, whole_line, line_begun, WritesLawfully}
+use Rattle.beep_cmd.proofs.EndsLemmas.{sent}
+use Rattle.beep_cmd.proofs.ServingLemmas.{asks_once, each_none, each_of_it, session_cause}
+
+-- ---- a record and its status
+
+regroup : (b s d e : List ℕ) → ((b ++ s) ++ d) ++ e ≡ b ++ ((s ++ d) ++ e)
+regroup b s d e = ap (λ x. x ++ e) (append_assoc b s d) ∙ append_assoc b (s ++ d) e
+
+pub record_tells : (role : Role) (link : Link) (status result : ℕ) (front text : List ℕ) (old new : SinkState) → status ≤ MAX_STATUS → RecordsLink link role [] front
+    → text ≡ (front ++ codes "S " ++ decimal status) ++ 10 ∷ [] → Tells status text result old new → TellsWhole role link status result old new
+record_tells role link status result front text old new within r is tells =
+    let body = first_line role ++ log_text r.writes.lines in
+    let whole : front ≡ body = r.writes.text_is ∙ append-nil body in
+    whole_record text (record {
+      log = r.log;
+      told = r.told;
+      lines = r.writes.lines;
+      is_record = record { log = r.writes.is_record.log; status = within };
+      flat_is = r.writes.flat_is;
+      same = r.writes.same;
+      text_is = is ∙ ap (λ (x : List ℕ). (x ++ codes "S " ++ decimal status) ++ 10 ∷ []) whole ∙ regroup body (codes "S ") (decimal status) (10 ∷ []);
+    }) tells
+
+-- each status is one that a record can tell
+pub status_within : (cause : Ended) → ended_status cause ≤ MAX_STATUS
+status_within Ended.Released = omega arith
+status_within (Ended.Broken rule place) = omega arith
+status_within Ended.WriteFault = omega arith
+status_within Ended.WireFault = omega arith
+status_within Ended.NoMemory = omega arith
+status_within (Ended.Refused code) = omega arith
+status_within (Ended.Cut left) = omega arith
+status_within (Ended.Idle reads) = omega arith
+status_within (Ended.Spent octets) = omega arith
+
+pub tells_record : (role : Role) (link : Link) (cause : Ended) (result : ℕ) (old new : SinkState) → cause ≢ Ended.NoMemory → TellsWhole role link (ended_status cause) result old new → TellsRecord role link cause result old new
+tells_record role link Ended.Released result old new some t = t
+tells_record role link (Ended.Broken rule place) result old new some t = t
+tells_record role link Ended.WriteFault result old new some t = t
+tells_record role link Ended.WireFault result old new some t = t
+tells_record role link Ended.NoMemory result old new some t = absurd (some refl)
+tells_record role link (Ended.Refused code) result old new some t = t
+tells_record role link (Ended.Cut left) result old new some t = t
+tells_record role link (Ended.Idle reads) result old new some t = t
+tells_record role link (Ended.Spent octets) result old new some t = t
+
+-- ---- what a run shows
+
+module _ (role : Role) (settings : Settings) (cause : Ended) (before after : Seen) (r : Ran role settings cause before after) where
+  pub cause_of : SessionCause cause role settings before after
+  cause_of = session_cause role settings before after before.counts.given refl r.given r.fresh r.last r.is_fresh r.shut before.counts.quiets (omega arith) cause r.caused r.told
+
+  pub lawful_of : WritesLawfully role settings before after
+  lawful_of = each_of_it role settings before after before.counts.given refl r.given r.fresh r.last r.is_fresh r.shut before.counts.quiets (omega arith) (λ link. WhereTold (IsLawfulOn (terms_by role settings)) link.log) r.lawful
+
+pub not_given_lawful : (role : Role) (settings : Settings) (cause : Ended) (old new : ℕ) (before after : Seen) → NotGiven cause old new before after → WritesLawfully role settings before after
+not_given_lawful role settings cause old new before after n = each_none (λ link. WhereTold (IsLawfulOn (terms_by role settings)) link.log) before after n.given
+
+pub send_asks : (settings : Settings) (before after : Seen) (host : List ℕ) → (is : IsDialOf settings (dial host settings.port)) → AsksThis (dial host settings.port) before after → DialsOnce settings before after
+send_asks settings before after host is a = asks_once (IsDialOf settings) (dial host settings.port) is a.0 before.asked after.asked a.1
+
+pub listen_asks : (settings : Settings) (before after : Seen) → settings.sessions ≡ 1 → AsksThis (accept settings.port) before after → AcceptsAtMost settings before after
+listen_asks settings before after one a =
+    subst (λ (n : ℕ). AsksOnly (IsAcceptOf settings) n before.asked after.asked) (sym one) (asks_once (IsAcceptOf settings) (accept settings.port) refl a.0 before.asked after.asked a.1)
+
+-- ---- how it ends
+
+seven_five : (n : ℕ) → n ≡ 7 → n ≡ 5 → ⊥
+seven_five n a b = absurd (omega (arith, a, b))
+
+module _ (Cause : Ended → Type 0) (role : Role) (before after : Seen) (result : ℕ) (old new : SinkState) where
+  whole_of : (cause : Ended) → cause ≢ Ended.WriteFault → cause ≢ Ended.NoMemory → Cause cause → after.counts.given ≡ before.counts.given + 1
+      → TellsWhole role (after.state before.counts.given) (ended_status cause) result old new → EndsRecorded Cause role before after result old new
+  whole_of cause n m c one (whole_record text is tells) = record_told cause n m c text (recorded refl one is) tells
+  whole_of cause n m c one (no_record is none) = record_starved is none
+
+  -- a link was given
+  pub ends_recorded : (cause : Ended) → cause ≢ Ended.WriteFault → Cause cause → after.counts.given ≡ before.counts.given + 1 → TellsRecord role (after.state before.counts.given) cause result old new
+      → EndsRecorded Cause role before after result old new
+  ends_recorded Ended.Released n c one t = whole_of Ended.Released n (λ e. cc) c one t
+  ends_recorded (Ended.Broken rule place) n c one t = whole_of (Ended.Broken rule place) n (λ e. cc) c one t
+  ends_recorded Ended.WriteFault n c one t = absurd (n refl)
+  ends_recorded Ended.WireFault n c one t = whole_of Ended.WireFault n (λ e. cc) c one t
+  ends_recorded Ended.NoMemory n c one t = record_starved t.0 t.1
+  ends_recorded (Ended.Refused code) n c one t = whole_of (Ended.Refused code) n (λ e. cc) c one t
+  ends_recorded (Ended.Cut left) n c one t = whole_of (Ended.Cut left) n (λ e. cc) c one t
+  ends_recorded (Ended.Idle reads) n c one t = whole_of (Ended.Idle reads) n (λ e. cc) c one t
+  ends_recorded (Ended.Spent octets) n c one t = whole_of (Ended.Spent octets) n (λ e. cc) c one t
+
+  untold : result ≡ 7 → Tells 7 [] result old new → Appends old.written new.written []
+  untold is (whole_line e appended) = appended
+  untold is (line_begun e rose prefix) = absurd (seven_five result is e)
+
+  -- no link was given
+  pub ends_unlinked : (cause : Ended) (a b : ℕ) → NotGiven cause a b before after → (Rose a b → Cause Ended.WireFault) → Tells (ended_status cause) (ended_line cause) result old new
+      → (ended_line cause ≡ [] → (result ≡ ended_status cause) × (new.faults ≡ old.faults)) → EndsRecorded Cause role before after result old new
+  ends_unlinked cause a b g asked tells none = elim g.why as (λ _. EndsRecorded Cause role before after result old new) [
+    | inl wire ↦ record_told Ended.WireFault (λ e. cc) (λ e. cc) (asked wire.1) (ended_line Ended.WireFault) (lined (inr g.given) refl)
+        (subst (λ (c : Ended). Tells (ended_status c) (ended_line c) result old new) wire.0 tells)
+    | inr short ↦
+        let is : result ≡ 7 = (subst (λ (c : Ended). ended_line c ≡ [] → (result ≡ ended_status c) × (new.faults ≡ old.faults)) short none refl).0 in
+        record_starved is (untold is (subst (λ (c : Ended). Tells (ended_status c) (ended_line c) result old new) short tells))
+  ]
+
+-- the record of a run, whose octets began with none
+pub record_is : (role : Role) (cause : Ended) (before after : Seen) (old new : List ℕ) → old ≡ [] → IsRecorded role cause before after old new → cause ≢ Ended.NoMemory
+    → RecordsLink (after.state before.counts.given) role [] new
+record_is role cause before after old new empty r some = subst (λ (x : List ℕ). RecordsLink (after.state before.counts.given) role x new) empty (r.whole some)
+
+-- ---- `send` and `listen`
+
+pub sent_recorded : (settings : Settings) (before after : Seen) (result : ℕ) (run : Run) (octets : List ℕ) → Consumes run.source.left run.source_after.left octets → settings.recording ≡ true
+    → HasEnded run.source_after → (lines : List (List ℕ)) → AreLines lines octets
+    → EndsRecorded (λ cause. SendCause cause settings before after) Role.Initiator before after result run.sink run.sink_after → Sent settings before after result run
+sent_recorded settings before after result run octets consumed recording ended lines are (record_told cause n m c text ending tells) =
+    sent settings before after run octets consumed (ended_status cause) text result
+    (over ended lines are cause n c refl (subst (λ b. IsEnding b Role.Initiator before after (ended_status cause) (ended_line cause) text) (sym recording) ending)) tells
+sent_recorded settings before after result run octets consumed recording ended lines are (record_starved is none) =
+    send_starved is (record { octets = octets; text = []; consumed = consumed; appended = none; holds = refl })
+
+pub listened_recorded : (settings : Settings) (before after : Seen) (result : ℕ) (source : SourceState) (sink sink_after : SinkState) → ListenRecorded settings before after result sink sink_after
+    → Listened settings before after result (run_of source source sink sink_after)
+listened_recorded settings before after result source sink sink_after (record_told cause n m c text ending (whole_line is appended)) = listen_told cause n m c is
+listened_recorded settings before after result source sink sink_after (record_told cause n m c text ending (line_begun is rose prefix)) = listen_unwritten is rose
+listened_recorded settings before after result source sink sink_after (record_starved is none) = listen_starved is
+
+-- the causes of a run over one link
+pub send_caused : (settings : Settings) (cause : Ended) (before after : Seen) → Ran Role.Initiator settings cause before after → SendCause cause settings before after
+send_caused settings cause before after r = session (cause_of Role.Initiator settings cause before after r) (λ e. r.given)
+
+pub listen_caused : (settings : Settings) (cause : Ended) (before after : Seen) → settings.sessions ≡ 1 → Ran Role.Listener settings cause before after → ListenCause cause settings before after
+listen_caused settings cause before after one r =
+    session (cause_of Role.Listener settings cause before after r) (λ e. r.given ∙ ap (λ (n : ℕ). before.counts.given + n) (sym one))

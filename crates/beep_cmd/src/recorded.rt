@@ -1,0 +1,139 @@
+//! Runs of `send` and `listen` whose link is recorded (docs/FORMATS.md, "Records").
+ghost use Rattle.std.specs.Prelude.{◌≡◌, ◌≢◌, ◌≤◌, []};
+ghost use Rattle.beep_journal.specs.declared.role.Role.{Role as RoleValue};
+ghost use Rattle.beep_ends.specs.Ends.{AreFit};
+ghost use Rattle.beep_link.specs.declared.ended.Ended.{Ended as EndedValue};
+ghost use Rattle.beep_wires.specs.Links.{Link};
+ghost use Rattle.beep_record.specs.declared.limits.TheConstants.{MAX_STATUS};
+ghost use Rattle.beep_recorder.specs.Kept.{RecordsLink};
+ghost use Rattle.beep_cmd.specs.Ends.{AcceptsAtMost, DialsOnce, ended_status, ListenCause, seen_of, SendCause, WritesLawfully};
+ghost use Rattle.beep_cmd.specs.Recording.{EndsRecorded, ListenRecorded, TellsRecord, TellsWhole};
+
+use crate::closing::{finish, tell};
+use crate::text::{LAST_ROOM, append_numbered};
+use beep_ends::Ended;
+use beep_octets::Octets;
+use beep_runs::{listen_recorded, send_recorded};
+use beep_settings::Settings;
+use beep_wires::{Sink, Wires};
+use prof_raw::Entries;
+use std::alloc::Global;
+
+/// Dials, sends lines over a link that is recorded, and writes its record.
+pub(crate) fn record_send<O: Sink, W: Wires>(
+    alloc: Global,
+    settings: &Settings,
+    lines: &Entries,
+    last: &mut Octets,
+    output: &mut O,
+    wires: &mut W,
+) -> u8
+    requires fit { AreFit settings.now }
+    requires empty { last.old.octets ≡ [] }
+    requires room { LAST_ROOM ≤ last.old.spare }
+    ensures told { EndsRecorded (λ cause. SendCause cause settings.now
+        (seen_of (W.state wires.old) (W.counts wires.old)
+        (W.asked wires.old) (W.lent wires.old))
+        (seen_of (W.state wires.new) (W.counts wires.new)
+        (W.asked wires.new) (W.lent wires.new))) RoleValue.Initiator
+        (seen_of (W.state wires.old) (W.counts wires.old)
+        (W.asked wires.old) (W.lent wires.old))
+        (seen_of (W.state wires.new) (W.counts wires.new)
+        (W.asked wires.new) (W.lent wires.new))
+        result (O.state output.old) (O.state output.new) }
+    ensures lawful { WritesLawfully RoleValue.Initiator settings.now
+        (seen_of (W.state wires.old) (W.counts wires.old)
+        (W.asked wires.old) (W.lent wires.old))
+        (seen_of (W.state wires.new) (W.counts wires.new)
+        (W.asked wires.new) (W.lent wires.new)) }
+    ensures asks { DialsOnce settings.now
+        (seen_of (W.state wires.old) (W.counts wires.old)
+        (W.asked wires.old) (W.lent wires.old))
+        (seen_of (W.state wires.new) (W.counts wires.new)
+        (W.asked wires.new) (W.lent wires.new)) }
+{
+    let mut out = Octets::new(alloc);
+    match send_recorded(alloc, settings, lines, wires, &mut out) {
+        Ok(ended) => tell_record(&mut out, ended, output),
+        Err(ended) => finish(last, ended, output),
+    }
+}
+
+/// Accepts one link, listens on it while it is recorded, and writes its record.
+pub(crate) fn record_listen<O: Sink, W: Wires>(
+    alloc: Global,
+    settings: &Settings,
+    last: &mut Octets,
+    output: &mut O,
+    wires: &mut W,
+) -> u8
+    requires fit { AreFit settings.now }
+    requires one { settings.now.sessions ≡ 1 }
+    requires empty { last.old.octets ≡ [] }
+    requires room { LAST_ROOM ≤ last.old.spare }
+    ensures told { ListenRecorded settings.now
+        (seen_of (W.state wires.old) (W.counts wires.old)
+        (W.asked wires.old) (W.lent wires.old))
+        (seen_of (W.state wires.new) (W.counts wires.new)
+        (W.asked wires.new) (W.lent wires.new))
+        result (O.state output.old) (O.state output.new) }
+    ensures lawful { WritesLawfully RoleValue.Listener settings.now
+        (seen_of (W.state wires.old) (W.counts wires.old)
+        (W.asked wires.old) (W.lent wires.old))
+        (seen_of (W.state wires.new) (W.counts wires.new)
+        (W.asked wires.new) (W.lent wires.new)) }
+    ensures asks { AcceptsAtMost settings.now
+        (seen_of (W.state wires.old) (W.counts wires.old)
+        (W.asked wires.old) (W.lent wires.old))
+        (seen_of (W.state wires.new) (W.counts wires.new)
+        (W.asked wires.new) (W.lent wires.new)) }
+{
+    let mut out = Octets::new(alloc);
+    match listen_recorded(alloc, settings, wires, &mut out) {
+        Ok(ended) => tell_record(&mut out, ended, output),
+        Err(ended) => finish(last, ended, output),
+    }
+}
+
+/// Writes a record with the status of what ended its run, and answers the status. For want of
+/// memory nothing is written.
+fn tell_record<O: Sink>(out: &mut Octets, ended: Ended, output: &mut O) -> u8
+    ensures { (role : RoleValue) (link : Link)
+        → (ended ≢ EndedValue.NoMemory → RecordsLink link role [] out.old.octets)
+        → TellsRecord role link ended result (O.state output.old) (O.state output.new) }
+{
+    match ended {
+        Ended::NoMemory => 7,
+        _ => tell_whole(out, status_of(ended), output),
+    }
+}
+
+/// Writes a record with a status, and answers it, or 5, or 7 where the status finds no room.
+fn tell_whole<O: Sink>(out: &mut Octets, status: u8, output: &mut O) -> u8
+    ensures { (role : RoleValue) (link : Link) → status ≤ MAX_STATUS
+        → RecordsLink link role [] out.old.octets
+        → TellsWhole role link status result (O.state output.old) (O.state output.new) }
+{
+    let Ok(()) = out.reserve(LAST_ROOM) else {
+        return 7;
+    };
+    append_numbered(out, b"S ", u64::from(status));
+    tell(out, status, output)
+}
+
+/// The status of what ended a session.
+fn status_of(ended: Ended) -> u8
+    ensures { result ≡ ended_status ended }
+{
+    match ended {
+        Ended::Released => 0,
+        Ended::Broken(_, _) => 3,
+        Ended::WriteFault => 5,
+        Ended::WireFault => 6,
+        Ended::NoMemory => 7,
+        Ended::Refused(_) => 8,
+        Ended::Cut(_) => 9,
+        Ended::Idle(_) => 10,
+        Ended::Spent(_) => 11,
+    }
+}

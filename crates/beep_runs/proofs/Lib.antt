@@ -1,0 +1,4 @@
+-- Proofs.
+mod GotLemmas
+mod ReplayLemmas
+mod RunLemmas

@@ -1,0 +1,70 @@
+-- What became of a link that was asked for, used and shut.
+use Rattle.std.proofs.Common.{◌≡◌, ◌≢◌, ◌⊎◌, inl, inr, ℕ, ◌+◌, ◌<◌, ◌≤◌, false, List, Option, None, Some, refl, sym, ap, ◌∙◌, subst, arith}
+use Rattle.beep_wires.specs.Links.{Link, Counts, IsFresh, SameBeside}
+use Rattle.beep_journal.specs.declared.role.Role.{Role}
+use Rattle.beep_lawful.specs.declared.terms.Terms.{Terms}
+use Rattle.beep_settings.specs.declared.settings.Settings.{Settings}
+use Rattle.beep_wires.specs.Log.{Entry}
+use Rattle.beep_link.specs.declared.ended.Ended.{Ended}
+use Rattle.beep_link.specs.Causes.{IsCaused, Keeps, Look, Seen, WhereTold}
+use Rattle.beep_ends.specs.Ends.{reads_of}
+use Rattle.beep_ends.specs.Logs.{IsLawfulOn, Shows, terms_by}
+use Rattle.beep_recorder.specs.Kept.{Recording, RecordsKnown, RecordsLink}
+use Rattle.beep_runs.specs.Runs.{IsRecorded, Ran}
+
+-- what a log shows of any end it shows of want of memory
+starved : (terms : Terms) (cause : Ended) (log : List Entry) → Shows terms cause log → Shows terms Ended.NoMemory log
+starved terms Ended.Released log s = inl s.sound
+starved terms (Ended.Broken rule place) log s = inr s.1
+starved terms Ended.WriteFault log s = inr s
+starved terms Ended.WireFault log s = inl s
+starved terms Ended.NoMemory log s = s
+starved terms (Ended.Refused code) log s = inr s
+starved terms (Ended.Cut left) log s = inl s.sound
+starved terms (Ended.Idle reads) log s = inl s
+starved terms (Ended.Spent octets) log s = inl s
+
+starved-told : (terms : Terms) (cause : Ended) (log : Option (List Entry)) → WhereTold (Shows terms cause) log → WhereTold (Shows terms Ended.NoMemory) log
+starved-told terms cause None s = tt
+starved-told terms cause (Some log) s = starved terms cause log s
+
+module _ (role : Role) (settings : Settings) (cause : Ended) (before given used after : Seen) (link : ℕ) (is : link ≡ before.counts.given)
+    (fresh : IsFresh (given.state link)) (others : SameBeside link before.state given.state) (one : given.counts.given ≡ before.counts.given + 1) (quiets : given.counts.quiets ≡ before.counts.quiets)
+    (keeps : Keeps link given used) (caused : IsCaused cause (reads_of settings) (record { link = given.state link; quiets = given.counts.quiets }) (record { link = used.state link; quiets = used.counts.quiets }))
+    (lawful : WhereTold (IsLawfulOn (terms_by role settings)) (used.state link).log) (told : WhereTold (Shows (terms_by role settings) cause) (used.state link).log)
+    (shut : after.state link ≡ record (used.state link) { is_open = false }) (beside : SameBeside link used.state after.state) (counts : after.counts ≡ used.counts) where
+  ran-by : (result : Ended) → IsCaused result (reads_of settings) (record { link = given.state link; quiets = given.counts.quiets }) (record { link = used.state link; quiets = used.counts.quiets })
+      → WhereTold (Shows (terms_by role settings) result) (used.state link).log → Ran role settings result before after
+  ran-by result c t = record {
+    fresh = given.state link;
+    last = used.state link;
+    is_fresh = fresh;
+    caused = subst (λ (q : ℕ). IsCaused result (reads_of settings) (record { link = given.state link; quiets = before.counts.quiets }) (record { link = used.state link; quiets = q }))
+        (ap (λ (k : Counts). k.quiets) (sym counts))
+        (subst (λ (q : ℕ). IsCaused result (reads_of settings) (record { link = given.state link; quiets = q }) (record { link = used.state link; quiets = used.counts.quiets })) quiets c);
+    lawful = lawful;
+    told = t;
+    shut = subst (λ (n : ℕ). after.state n ≡ record (used.state link) { is_open = false }) is shut;
+    given = ap (λ (k : Counts). k.given) counts ∙ keeps.given ∙ one;
+    others = subst (λ (n : ℕ). SameBeside n before.state after.state) is (λ n away. beside n away ∙ keeps.others n away ∙ others n away);
+  }
+
+  -- what ended the session ended the run, or memory ran out as the record was made
+  pub ran : (result : Ended) → (result ≡ cause) ⊎ (result ≡ Ended.NoMemory) → Ran role settings result before after
+  ran result = elim [
+    | inl same ↦ subst (λ (e : Ended). Ran role settings e before after) (sym same) (ran-by cause caused told)
+    | inr short ↦ subst (λ (e : Ended). Ran role settings e before after) (sym short) (ran-by Ended.NoMemory tt (starved-told (terms_by role settings) cause (used.state link).log told))
+  ]
+
+  -- the record is of the link that was given
+  pub recorded : (known : Option Recording) (result : Ended) (old new : List ℕ) → known ≡ Some (record { first = before.counts.given; role = role })
+      → (result ≢ Ended.NoMemory → RecordsKnown known after.state after.counts.given old new) → (result ≡ Ended.NoMemory → new ≡ old) → IsRecorded role result before after old new
+  recorded known result old new k whole none_of = record {
+    whole = λ some. whole some (record { first = before.counts.given; role = role }) k
+        (let more : after.counts.given ≡ before.counts.given + 1 = ap (λ (c : Counts). c.given) counts ∙ keeps.given ∙ one in omega (arith, more));
+    none = none_of;
+  }
+
+-- what holds of links as a recorder has them holds of the links that were lent to it
+pub moved : {A : Type 0} (P : A → A → Type 0) (before before2 after after2 : A) → before2 ≡ before → after ≡ after2 → P before2 after2 → P before after
+moved P before before2 after after2 same back p = subst (λ x. P before x) (sym back) (subst (λ x. P x after2) same p)

@@ -1,0 +1,282 @@
+//! One session over a link that is recorded.
+ghost use Rattle.std.specs.Prelude.{◌≡◌, ◌≢◌, ◌⊎◌, ℕ, List, Some, chars, IfOk, IfErr};
+ghost use Rattle.beep_journal.specs.declared.role.Role.{Role as RoleValue};
+ghost use Rattle.beep_link.specs.declared.ended.Ended.{Ended as EndedValue};
+ghost use Rattle.beep_wires.specs.Links.{accept, dial};
+ghost use Rattle.beep_ends.specs.Ends.{AreFit};
+ghost use Rattle.beep_recorder.specs.Kept.{Recording, RecordsKnown};
+ghost use Rattle.beep_runs.specs.Runs.{AsksThis, IsRecorded, NotGiven, Ran, seen_of};
+
+use beep_ends::{Ended, listen_end, send_end};
+use beep_octets::{NoMemory, Octets};
+use beep_record::Role;
+use beep_recorder::{Known, Recorder};
+use beep_settings::Settings;
+use beep_wires::{NullSink, WireError, Wires};
+use prof_raw::Entries;
+use std::alloc::Global;
+use std::marker::Brand;
+
+/// Dials, and sends lines over the link, whose record `out` gains. It answers what ended the
+/// session, which is want of memory where the record found no room; else why no link was given.
+pub fn send_recorded<W: Wires>(
+    alloc: Global,
+    settings: &Settings,
+    lines: &Entries,
+    wires: &mut W,
+    out: &mut Octets,
+) -> Result<Ended, Ended>
+    requires fit { AreFit settings.now }
+    ensures ran { IfOk result (λ ended. Ran RoleValue.Initiator settings.now ended
+        (seen_of (W.state wires.old) (W.counts wires.old)
+        (W.asked wires.old) (W.lent wires.old))
+        (seen_of (W.state wires.new) (W.counts wires.new)
+        (W.asked wires.new) (W.lent wires.new))) }
+    ensures recorded { IfOk result (λ ended. IsRecorded RoleValue.Initiator ended
+        (seen_of (W.state wires.old) (W.counts wires.old)
+        (W.asked wires.old) (W.lent wires.old))
+        (seen_of (W.state wires.new) (W.counts wires.new)
+        (W.asked wires.new) (W.lent wires.new)) out.old.octets out.new.octets) }
+    ensures failed { IfErr result (λ ended. NotGiven ended
+        (W.counts wires.old).dials (W.counts wires.new).dials
+        (seen_of (W.state wires.old) (W.counts wires.old)
+        (W.asked wires.old) (W.lent wires.old))
+        (seen_of (W.state wires.new) (W.counts wires.new)
+        (W.asked wires.new) (W.lent wires.new))) }
+    ensures asks { (host : List ℕ) × (chars host ≡ settings.now.host)
+        × AsksThis (dial host settings.now.port)
+        (seen_of (W.state wires.old) (W.counts wires.old)
+        (W.asked wires.old) (W.lent wires.old))
+        (seen_of (W.state wires.new) (W.counts wires.new)
+        (W.asked wires.new) (W.lent wires.new)) }
+    ensures unwritten { IfOk result (λ ended. ended ≢ EndedValue.WriteFault) }
+{
+    send_over::<W, Brand>(alloc, settings, lines, wires, out)
+}
+
+/// The same, where it is known in proofs which link is recorded.
+fn send_over<W: Wires, K: Known>(
+    alloc: Global,
+    settings: &Settings,
+    lines: &Entries,
+    wires: &mut W,
+    out: &mut Octets,
+) -> Result<Ended, Ended>
+    requires fit { AreFit settings.now }
+    requires known { K.known
+        ≡ Some (record { first = (W.counts wires.old).given; role = RoleValue.Initiator }) }
+    ensures ran { IfOk result (λ ended. Ran RoleValue.Initiator settings.now ended
+        (seen_of (W.state wires.old) (W.counts wires.old)
+        (W.asked wires.old) (W.lent wires.old))
+        (seen_of (W.state wires.new) (W.counts wires.new)
+        (W.asked wires.new) (W.lent wires.new))) }
+    ensures recorded { IfOk result (λ ended. IsRecorded RoleValue.Initiator ended
+        (seen_of (W.state wires.old) (W.counts wires.old)
+        (W.asked wires.old) (W.lent wires.old))
+        (seen_of (W.state wires.new) (W.counts wires.new)
+        (W.asked wires.new) (W.lent wires.new)) out.old.octets out.new.octets) }
+    ensures failed { IfErr result (λ ended. NotGiven ended
+        (W.counts wires.old).dials (W.counts wires.new).dials
+        (seen_of (W.state wires.old) (W.counts wires.old)
+        (W.asked wires.old) (W.lent wires.old))
+        (seen_of (W.state wires.new) (W.counts wires.new)
+        (W.asked wires.new) (W.lent wires.new))) }
+    ensures asks { (host : List ℕ) × (chars host ≡ settings.now.host)
+        × AsksThis (dial host settings.now.port)
+        (seen_of (W.state wires.old) (W.counts wires.old)
+        (W.asked wires.old) (W.lent wires.old))
+        (seen_of (W.state wires.new) (W.counts wires.new)
+        (W.asked wires.new) (W.lent wires.new)) }
+    ensures unwritten { IfOk result (λ ended. ended ≢ EndedValue.WriteFault) }
+{
+    let mut recorder = Recorder::<'_, W, K>::known(alloc, wires, Role::Initiator);
+    let answer = send_through(alloc, settings, lines, &mut recorder, out);
+    let _wires = recorder.into_wires();
+    answer
+}
+
+/// The same over links that are recorded.
+fn send_through<W: Wires, K: Known>(
+    alloc: Global,
+    settings: &Settings,
+    lines: &Entries,
+    recorder: &mut Recorder<'_, W, K>,
+    out: &mut Octets,
+) -> Result<Ended, Ended>
+    requires fit { AreFit settings.now }
+    requires known { K.known
+        ≡ Some (record { first = (W.counts recorder.old.wires.now).given; role = RoleValue.Initiator }) }
+    ensures same_reference { recorder.new.wires.ghost_name ≡ recorder.old.wires.ghost_name }
+    ensures ran { IfOk result (λ ended. Ran RoleValue.Initiator settings.now ended
+        (seen_of (W.state recorder.old.wires.now) (W.counts recorder.old.wires.now)
+        (W.asked recorder.old.wires.now) (W.lent recorder.old.wires.now))
+        (seen_of (W.state recorder.new.wires.now) (W.counts recorder.new.wires.now)
+        (W.asked recorder.new.wires.now) (W.lent recorder.new.wires.now))) }
+    ensures recorded { IfOk result (λ ended. IsRecorded RoleValue.Initiator ended
+        (seen_of (W.state recorder.old.wires.now) (W.counts recorder.old.wires.now)
+        (W.asked recorder.old.wires.now) (W.lent recorder.old.wires.now))
+        (seen_of (W.state recorder.new.wires.now) (W.counts recorder.new.wires.now)
+        (W.asked recorder.new.wires.now) (W.lent recorder.new.wires.now)) out.old.octets out.new.octets) }
+    ensures failed { IfErr result (λ ended. NotGiven ended
+        (W.counts recorder.old.wires.now).dials (W.counts recorder.new.wires.now).dials
+        (seen_of (W.state recorder.old.wires.now) (W.counts recorder.old.wires.now)
+        (W.asked recorder.old.wires.now) (W.lent recorder.old.wires.now))
+        (seen_of (W.state recorder.new.wires.now) (W.counts recorder.new.wires.now)
+        (W.asked recorder.new.wires.now) (W.lent recorder.new.wires.now))) }
+    ensures asks { (host : List ℕ) × (chars host ≡ settings.now.host)
+        × AsksThis (dial host settings.now.port)
+        (seen_of (W.state recorder.old.wires.now) (W.counts recorder.old.wires.now)
+        (W.asked recorder.old.wires.now) (W.lent recorder.old.wires.now))
+        (seen_of (W.state recorder.new.wires.now) (W.counts recorder.new.wires.now)
+        (W.asked recorder.new.wires.now) (W.lent recorder.new.wires.now)) }
+    ensures unwritten { IfOk result (λ ended. ended ≢ EndedValue.WriteFault) }
+{
+    let link = match recorder.dial(settings.host.as_str(), settings.port) {
+        Ok(link) => link,
+        Err(WireError::Failed) => return Err(Ended::WireFault),
+        Err(WireError::NoMemory) => return Err(Ended::NoMemory),
+    };
+    let ended = send_end(alloc, recorder, link, settings, lines);
+    recorder.shut(link);
+    Ok(put_record(recorder, ended, out))
+}
+
+/// Accepts a link, and listens on it: the lines that come are written nowhere. Else as
+/// [`send_recorded`].
+pub fn listen_recorded<W: Wires>(
+    alloc: Global,
+    settings: &Settings,
+    wires: &mut W,
+    out: &mut Octets,
+) -> Result<Ended, Ended>
+    requires fit { AreFit settings.now }
+    ensures ran { IfOk result (λ ended. Ran RoleValue.Listener settings.now ended
+        (seen_of (W.state wires.old) (W.counts wires.old)
+        (W.asked wires.old) (W.lent wires.old))
+        (seen_of (W.state wires.new) (W.counts wires.new)
+        (W.asked wires.new) (W.lent wires.new))) }
+    ensures recorded { IfOk result (λ ended. IsRecorded RoleValue.Listener ended
+        (seen_of (W.state wires.old) (W.counts wires.old)
+        (W.asked wires.old) (W.lent wires.old))
+        (seen_of (W.state wires.new) (W.counts wires.new)
+        (W.asked wires.new) (W.lent wires.new)) out.old.octets out.new.octets) }
+    ensures failed { IfErr result (λ ended. NotGiven ended
+        (W.counts wires.old).accepts (W.counts wires.new).accepts
+        (seen_of (W.state wires.old) (W.counts wires.old)
+        (W.asked wires.old) (W.lent wires.old))
+        (seen_of (W.state wires.new) (W.counts wires.new)
+        (W.asked wires.new) (W.lent wires.new))) }
+    ensures asks { AsksThis (accept settings.now.port)
+        (seen_of (W.state wires.old) (W.counts wires.old)
+        (W.asked wires.old) (W.lent wires.old))
+        (seen_of (W.state wires.new) (W.counts wires.new)
+        (W.asked wires.new) (W.lent wires.new)) }
+    ensures unwritten { IfOk result (λ ended. ended ≢ EndedValue.WriteFault) }
+{
+    listen_over::<W, Brand>(alloc, settings, wires, out)
+}
+
+/// The same, where it is known in proofs which link is recorded.
+fn listen_over<W: Wires, K: Known>(
+    alloc: Global,
+    settings: &Settings,
+    wires: &mut W,
+    out: &mut Octets,
+) -> Result<Ended, Ended>
+    requires fit { AreFit settings.now }
+    requires known { K.known
+        ≡ Some (record { first = (W.counts wires.old).given; role = RoleValue.Listener }) }
+    ensures ran { IfOk result (λ ended. Ran RoleValue.Listener settings.now ended
+        (seen_of (W.state wires.old) (W.counts wires.old)
+        (W.asked wires.old) (W.lent wires.old))
+        (seen_of (W.state wires.new) (W.counts wires.new)
+        (W.asked wires.new) (W.lent wires.new))) }
+    ensures recorded { IfOk result (λ ended. IsRecorded RoleValue.Listener ended
+        (seen_of (W.state wires.old) (W.counts wires.old)
+        (W.asked wires.old) (W.lent wires.old))
+        (seen_of (W.state wires.new) (W.counts wires.new)
+        (W.asked wires.new) (W.lent wires.new)) out.old.octets out.new.octets) }
+    ensures failed { IfErr result (λ ended. NotGiven ended
+        (W.counts wires.old).accepts (W.counts wires.new).accepts
+        (seen_of (W.state wires.old) (W.counts wires.old)
+        (W.asked wires.old) (W.lent wires.old))
+        (seen_of (W.state wires.new) (W.counts wires.new)
+        (W.asked wires.new) (W.lent wires.new))) }
+    ensures asks { AsksThis (accept settings.now.port)
+        (seen_of (W.state wires.old) (W.counts wires.old)
+        (W.asked wires.old) (W.lent wires.old))
+        (seen_of (W.state wires.new) (W.counts wires.new)
+        (W.asked wires.new) (W.lent wires.new)) }
+    ensures unwritten { IfOk result (λ ended. ended ≢ EndedValue.WriteFault) }
+{
+    let mut recorder = Recorder::<'_, W, K>::known(alloc, wires, Role::Listener);
+    let answer = listen_through(alloc, settings, &mut recorder, out);
+    let _wires = recorder.into_wires();
+    answer
+}
+
+/// The same over links that are recorded.
+fn listen_through<W: Wires, K: Known>(
+    alloc: Global,
+    settings: &Settings,
+    recorder: &mut Recorder<'_, W, K>,
+    out: &mut Octets,
+) -> Result<Ended, Ended>
+    requires fit { AreFit settings.now }
+    requires known { K.known
+        ≡ Some (record { first = (W.counts recorder.old.wires.now).given; role = RoleValue.Listener }) }
+    ensures same_reference { recorder.new.wires.ghost_name ≡ recorder.old.wires.ghost_name }
+    ensures ran { IfOk result (λ ended. Ran RoleValue.Listener settings.now ended
+        (seen_of (W.state recorder.old.wires.now) (W.counts recorder.old.wires.now)
+        (W.asked recorder.old.wires.now) (W.lent recorder.old.wires.now))
+        (seen_of (W.state recorder.new.wires.now) (W.counts recorder.new.wires.now)
+        (W.asked recorder.new.wires.now) (W.lent recorder.new.wires.now))) }
+    ensures recorded { IfOk result (λ ended. IsRecorded RoleValue.Listener ended
+        (seen_of (W.state recorder.old.wires.now) (W.counts recorder.old.wires.now)
+        (W.asked recorder.old.wires.now) (W.lent recorder.old.wires.now))
+        (seen_of (W.state recorder.new.wires.now) (W.counts recorder.new.wires.now)
+        (W.asked recorder.new.wires.now) (W.lent recorder.new.wires.now)) out.old.octets out.new.octets) }
+    ensures failed { IfErr result (λ ended. NotGiven ended
+        (W.counts recorder.old.wires.now).accepts (W.counts recorder.new.wires.now).accepts
+        (seen_of (W.state recorder.old.wires.now) (W.counts recorder.old.wires.now)
+        (W.asked recorder.old.wires.now) (W.lent recorder.old.wires.now))
+        (seen_of (W.state recorder.new.wires.now) (W.counts recorder.new.wires.now)
+        (W.asked recorder.new.wires.now) (W.lent recorder.new.wires.now))) }
+    ensures asks { AsksThis (accept settings.now.port)
+        (seen_of (W.state recorder.old.wires.now) (W.counts recorder.old.wires.now)
+        (W.asked recorder.old.wires.now) (W.lent recorder.old.wires.now))
+        (seen_of (W.state recorder.new.wires.now) (W.counts recorder.new.wires.now)
+        (W.asked recorder.new.wires.now) (W.lent recorder.new.wires.now)) }
+    ensures unwritten { IfOk result (λ ended. ended ≢ EndedValue.WriteFault) }
+{
+    let link = match recorder.accept(settings.port) {
+        Ok(link) => link,
+        Err(WireError::Failed) => return Err(Ended::WireFault),
+        Err(WireError::NoMemory) => return Err(Ended::NoMemory),
+    };
+    let mut none = NullSink;
+    let ended = listen_end(alloc, recorder, link, settings, &mut none);
+    recorder.shut(link);
+    Ok(put_record(recorder, ended, out))
+}
+
+/// Makes the record, and answers what ended the run.
+fn put_record<W: Wires, K: Known>(
+    recorder: &Recorder<'_, W, K>,
+    ended: Ended,
+    out: &mut Octets,
+) -> Ended
+    ensures ended { (result ≡ ended) ⊎ (result ≡ EndedValue.NoMemory) }
+    ensures whole { result ≢ EndedValue.NoMemory → RecordsKnown K.known
+        (W.state recorder.now.wires.now) (W.counts recorder.now.wires.now).given
+        out.old.octets out.new.octets }
+    ensures none { result ≡ EndedValue.NoMemory → out.new.octets ≡ out.old.octets }
+{
+    match ended {
+        Ended::NoMemory => Ended::NoMemory,
+        _ => match recorder.put_record(out) {
+            Ok(()) => ended,
+            Err(NoMemory) => Ended::NoMemory,
+        },
+    }
+}
