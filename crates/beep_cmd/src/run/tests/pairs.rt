@@ -188,6 +188,8 @@ fn a_fault_ends_a_pair(rt: HostRuntime) -> Result<(), Fail> {
         ("pair", 4096, None, Some(0), "", 5),
         ("pair", 4, None, Some(1), "A se", 5),
         ("pair", 4096, Some(0), Some(0), "", 5),
+        ("pair --seed 0", 4096, None, Some(0), "", 5),
+        ("pair --seed 0", 4, None, Some(1), "seed", 5),
     ];
     for (words, write_piece, failing_read, failing_write, output, status) in rows {
         let plan = Plan {
@@ -200,6 +202,50 @@ fn a_fault_ends_a_pair(rt: HostRuntime) -> Result<(), Fail> {
         let (answer, sink) = run(rt.alloc(), words, lines, plan)?;
         assert_eq!(rt; answer, status, "at {plan:?}");
         assert_eq!(rt; sink.written(), output.as_bytes(), "at {plan:?}");
+    }
+    Ok(())
+}
+
+/// The summary of a run, but for its line of frames.
+fn without_frames(alloc: Global, text: &str) -> Result<String, Fail> {
+    let mut kept = String::new(alloc);
+    for line in text.lines() {
+        if !line.starts_with("frames ") {
+            kept.push_str(line)?;
+            kept.push_str("\n")?;
+        }
+    }
+    Ok(kept)
+}
+
+// The sums of a thousand requests of `3 * ((N + 617 * i) mod 1000)` octets and of as many replies of
+// 16; the input isn't read, so it may be no schedule and its reads may fail.
+#[test]
+fn a_seed_makes_its_schedule_and_its_summary(rt: HostRuntime) -> Result<(), Fail> {
+    let counts = "asks 1000 octets 1498500\nreplies 1000 octets 16000\n\
+         taken 2000 octets 1514500\nstill yes\n";
+    let rows = [
+        ("pair --seed 0", "seed 0 events 9027\n"),
+        ("pair --seed 4294967295", "seed 4294967295 events 9027\n"),
+    ];
+    for (words, first) in rows {
+        let plan = Plan {
+            read_piece: 4096,
+            write_piece: 4096,
+            failing_read: Some(0),
+            failing_write: None,
+        };
+        let (answer, sink) = run(rt.alloc(), words, b"no schedule", plan)?;
+        let (again, other) = run(rt.alloc(), words, b"", plan)?;
+        assert_eq!(rt; (answer, again), (0, 0), "{words}");
+        assert_eq!(rt; sink.written(), other.written(), "{words}");
+        let Ok(text) = str::from_utf8(sink.written()) else {
+            return Err("no text".into());
+        };
+        let wanted = joined(rt.alloc(), first, counts)?;
+        let kept = without_frames(rt.alloc(), text)?;
+        assert_eq!(rt; kept.as_bytes(), wanted.as_slice(), "{words}");
+        assert_eq!(rt; text.matches("\nframes ").count(), 1, "{words}");
     }
     Ok(())
 }
