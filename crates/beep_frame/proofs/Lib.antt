@@ -2,6 +2,7 @@ pub mod RunLemmas
 pub mod ExcludedLemmas
 pub mod FindLemmas
 pub mod PartLemmas
+pub mod HeaderLemmas
 pub mod LineLemmas
 pub mod WholeLemmas
 pub mod StreamLemmas

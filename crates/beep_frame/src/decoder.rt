@@ -1,6 +1,5 @@
 //! A decoder that finds the frames of a stream and keeps the payload of one, however the stream is
-//! cut
-//! into reads (RFC 3080, section 2.2.1; RFC 3081, section 3.1).
+//! cut into reads (RFC 3080, section 2.2.1; RFC 3081, section 3.1).
 ghost use Rattle.std.specs.Prelude.{◌≡◌, ◌⊎◌, ℕ, ◌<◌, ◌≤◌, None, List, [], ◌∷◌, ◌++◌, length, true, IfOk, IsTrue};
 ghost use Rattle.beep_frame.specs.Frame.{Frame, framed};
 ghost use Rattle.beep_frame.specs.declared.head.Head.{Head as header_type};
@@ -57,8 +56,7 @@ impl Decoder {
     ghost use Rattle.beep_frame.specs.Keeping.{Keeping};
 
     /// A decoder of a stream of which no octet has come, that takes payloads of at most `max`
-    /// octets. It
-    /// takes room for one of them, and no memory later.
+    /// octets. It takes room for one of them, and no memory later.
     pub fn new(alloc: Global, max: u32) -> Result<Decoder, NoMemory>
         ensures stands { IfOk result (λ decoder. WasFed decoder nothing_fed) }
         ensures max { IfOk result (λ decoder. decoder.tracker.max ≡ max) }

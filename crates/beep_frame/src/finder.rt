@@ -9,6 +9,7 @@ ghost use Rattle.beep_frame.specs.declared.line.Line.{Line as line_type};
 use crate::head::Head;
 use crate::line::{Line, LineTurn};
 use crate::seq::Seq;
+use crate::whole::whole_header;
 
 /// Where in a frame the next octet stands.
 #[derive(Clone, Copy, Debug, PartialEq, Eq)]
@@ -58,7 +59,7 @@ pub(crate) fn find(place: &mut Place, line: &mut Line, bytes: &[u8]) -> (usize, 
     }
 }
 
-/// Goes on in a line.
+/// Goes on in a line. A header that has come whole is read at once.
 fn find_line(line: &mut Line, bytes: &[u8]) -> (usize, Found)
     ensures within { result.0 ≤ length bytes.now }
     ensures progress { 0 < length bytes.now → 0 < result.0 }
@@ -66,6 +67,11 @@ fn find_line(line: &mut Line, bytes: &[u8]) -> (usize, Found)
         → At Place.Line line.old rest known
         → Finds result.1 Place.Line line.new rest known bytes.now result.0 }
 {
+    if line.is_at_start() {
+        if let Some((head, rest)) = whole_header(bytes) {
+            return (bytes.len() - rest.len(), Found::Head(head));
+        }
+    }
     let (count, turn) = read_line(line, bytes);
     match turn {
         LineTurn::Inside => (count, Found::More),

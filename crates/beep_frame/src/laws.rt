@@ -1,6 +1,5 @@
 //! What the definitions mean, as facts that hold of all octets and of every history: each function
-//! does
-//! nothing, and its contract is the fact. Who believes them need not read the definitions.
+//! does nothing, and its contract is the fact. Who believes them need not read the definitions.
 ghost use Rattle.beep_frame.specs.Fed.{Fed};
 ghost use Rattle.beep_frame.specs.Decoding.{WasFed};
 ghost use Rattle.beep_frame.specs.Laws.{OneReading, NoneBeginsAnother, StaysAlive, Means, ReadAsItsFrame, BeginsAStream};

@@ -19,6 +19,7 @@ mod spelling;
 mod step;
 mod tag;
 mod tracker;
+mod whole;
 
 pub use beep_octets::{NoMemory, Octets};
 pub use decoder::{Decoder, FrameRef};

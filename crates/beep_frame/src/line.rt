@@ -2,11 +2,9 @@
 //! RFC 3081, section 3.1).
 //!
 //! A line is a list of parts, which its keyword fixes. Each part is a fixed octet, one of two
-//! flags,
-//! or a number with the octet that ends it, so that each octet either goes on with its part,
-//! completes
-//! it, or can't stand there. The first octet alone decides the keyword.
-ghost use Rattle.std.specs.Prelude.{◌≡◌, ◌<◌, ◌≤◌, length};
+//! flags, or a number with the octet that ends it, so that each octet either goes on with its part,
+//! completes it, or can't stand there. The first octet alone decides the keyword.
+ghost use Rattle.std.specs.Prelude.{◌≡◌, ◌<◌, ◌≤◌, ◌==◌, length};
 ghost use Rattle.beep_frame.specs.Machine.{parts_of, keyword_by, digit_turn_of, number_turn_of, octet_turn_of, part_turn};
 
 use crate::head::{Head, MAX_NUMBER};
@@ -72,7 +70,7 @@ pub(crate) struct Line {
     values: [u32; MAX_PARTS],
 }
 
-const SPACE: u8 = b' ';
+pub(crate) const SPACE: u8 = b' ';
 
 const ANY: Part = Part::Number {
     max: u32::MAX,
@@ -174,7 +172,7 @@ fn digit_turn(max: u32, number: u32, byte: u8) -> PartTurn
     PartTurn::Digit(next as u32)
 }
 
-fn number_turn(max: u32, end: u8, number: Option<u32>, byte: u8) -> PartTurn
+pub(crate) fn number_turn(max: u32, end: u8, number: Option<u32>, byte: u8) -> PartTurn
     ensures { result ≡ number_turn_of max end number byte }
 {
     match number {
@@ -220,6 +218,13 @@ impl Line {
             number: None,
             values: [0; MAX_PARTS],
         }
+    }
+
+    /// Whether no octet of it has come.
+    pub(crate) fn is_at_start(&self) -> bool
+        ensures { result ≡ (self.now.at == 0) }
+    {
+        self.at == 0
     }
 
     /// Takes the next octet.

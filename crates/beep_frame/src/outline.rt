@@ -1,6 +1,5 @@
 //! The plain reading of a short list of octets (RFC 3080, section 2.2.1; RFC 3081, section 3.1):
-//! all
-//! of its frames, what is left, and where it dies. Its contract is the definition of a stream.
+//! all of its frames, what is left, and where it dies. Its contract is the definition of a stream.
 ghost use Rattle.std.specs.Prelude.{◌≡◌, ◌+◌, ◌≤◌, length, take, drop, IfOk, OnOk};
 
 use crate::head::{Head, MAX_NUMBER};

@@ -1,6 +1,5 @@
 //! Writing frames (RFC 3080, section 2.2.1; RFC 3081, section 3.1): each octet goes into room that
-//! was
-//! taken before, once.
+//! was taken before, once.
 ghost use Rattle.std.specs.Prelude.{◌≡◌, ◌+◌, ◌≤◌, ◌++◌, [], ◌∷◌, length};
 ghost use Rattle.beep_octets.specs.Held.{GrowsBy};
 ghost use Rattle.beep_frame.specs.Frame.{framed, seq_frame};

@@ -1,6 +1,5 @@
 //! Following a stream from frame to frame, however it is cut into reads: where the next octet
-//! stands,
-//! and how many came (RFC 3080, section 2.2.1; RFC 3081, section 3.1). No octet is kept.
+//! stands, and how many came (RFC 3080, section 2.2.1; RFC 3081, section 3.1). No octet is kept.
 //!
 //! ```text
 //!          header, size above 0        last octet of the payload

@@ -1,3 +1,5 @@
+use Rattle.std.proofs.Common.{sym, ◌∙◌}
+use Rattle.beep_frame.proofs.HeaderLemmas.{at_once}
 use Rattle.beep_frame.proofs.FindLemmas.{line_more, line_head, line_seq, line_bad}
 use Rattle.beep_frame.proofs.finder.find_line.Goals as goal
 
@@ -16,3 +18,7 @@ returns-in-Seq-clause-found c =
 pub returns-in-Dead-clause-found : goal.returns-in-Dead-clause-found
 returns-in-Dead-clause-found c =
     λ rest known at. line_bad c.args.line.now rest c.args.bytes.now known c.read_line-count.result.0 at (rw c.in-Dead.is at c.read_line-count.ensures.turn) c.read_line-count.ensures.within (rw c.in-Dead.is at c.read_line-count.ensures.used)
+
+pub returns-in-Some-clause-found : goal.returns-in-Some-clause-found
+returns-in-Some-clause-found c =
+    λ rest known at. at_once c.args.line.now rest c.args.bytes.now c.in-Some.rest.now known c.in-Some.head (sym c.is_at_start.ensures ∙ c.if-is_at_start.true) at c.in-Some.ensures.0 c.in-Some.ensures.1
