@@ -1,6 +1,6 @@
 //! Which channels can send and which owe a SEQ, one flag a channel.
 ghost use Rattle.std.specs.Prelude.{◌≡◌, ◌<◌, ◌≤◌, slice_set, vec_len, vec_capacity};
-ghost use Rattle.std.specs.List.{insert, position};
+ghost use Rattle.std.specs.List.{insert};
 ghost use Rattle.beep_lives.specs.Lives.{can_send, owes_seq};
 
 use beep_channel::Channel;
@@ -23,13 +23,6 @@ pub(crate) fn owes_seq(channel: &Channel) -> bool
     ensures { result ≡ owes_seq channel.now }
 {
     channel.seq_due().is_some()
-}
-
-/// The place of the first flag that is set.
-pub(crate) fn first(flags: &[bool]) -> Option<usize>
-    ensures { result ≡ position (λ flag. flag) flags.now }
-{
-    flags.iter().position(|flag| *flag)
 }
 
 /// Puts an item at a place, in the room that is there.

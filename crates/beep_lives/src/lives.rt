@@ -22,24 +22,26 @@ ghost use Rattle.beep_turns.specs.declared.turns.TheConstants.{MAX_CHANNELS};
 ghost use Rattle.beep_lives.specs.Lives.{live_at, numbers, can_send, owes_seq, IsFirstOf, runs_of, receiving_of, has_begun, lives_judged};
 ghost use Rattle.beep_lives.specs.Edits.{Begins, Arrives, Obeys, Sends, Tells, Gives, Takes, KeepsHeld, UsesRoom, AreNew, Edits, EditsWhere, Joins, Leaves};
 
-use crate::flags::{first, note, owes_seq, put};
+use crate::flags::{note, owes_seq, put};
 use beep_channel::{AskError, Channel};
 use beep_frame::{Head, Kind, Rule, Seq};
 use beep_inbox::Part;
 use beep_octets::{NoMemory, Octets};
 use beep_outbox::GiveError;
 use beep_seq::BadAck;
-use beep_turns::{MAX_CHANNELS, Turns};
+use beep_turns::{MAX_CHANNELS, Turns, first};
 use std::alloc::Global;
 use std::marker::Model;
 
-/// Channel zero and at most `MAX_CHANNELS` other live channels. Their list is made at once.
+/// Channel zero and at most `MAX_CHANNELS` other live channels. Their list is made at once. The
+/// place of the channel that was looked up last for a change is looked at first.
 #[derive(Drop)]
 pub struct Lives {
     turns: Turns,
     channels: Vec<Channel>,
     ready: Vec<bool>,
     due: Vec<bool>,
+    last: usize,
 }
 
 impl Model for Lives {
@@ -81,6 +83,7 @@ impl Lives {
             channels,
             ready,
             due,
+            last: 0,
         })
     }
 
@@ -91,7 +94,7 @@ impl Lives {
         ensures some { IfSome result (λ i. IsLiveAt number i self.now) }
         ensures none { IfNone result (live_at number self.now ≡ None) }
     {
-        self.turns.find(number)
+        self.turns.find_near(number, self.last)
     }
 
     /// Whether channel zero or another of this number lives.
@@ -171,6 +174,7 @@ impl Lives {
         let Some(i) = self.find(head.channel) else {
             unreachable!()
         };
+        self.last = i;
         let channel = &mut self.channels[i];
         channel.begin(head);
         note(&mut self.ready, &mut self.due, i, channel);
@@ -288,9 +292,10 @@ impl Lives {
         let Some(number) = self.turns.next(self.ready.as_slice()) else {
             return None
         };
-        let Some(i) = self.turns.find(number) else {
+        let Some(i) = self.turns.find_near(number, self.last) else {
             unreachable!()
         };
+        self.last = i;
         let channel = &mut self.channels[i];
         let head = channel.cut(max, out);
         note(&mut self.ready, &mut self.due, i, channel);
@@ -342,6 +347,7 @@ impl Lives {
         let Some(i) = self.find(number) else {
             unreachable!()
         };
+        self.last = i;
         let channel = &mut self.channels[i];
         let position = channel.give_ask(octets);
         note(&mut self.ready, &mut self.due, i, channel);
@@ -374,6 +380,7 @@ impl Lives {
         let Some(i) = self.find(number) else {
             unreachable!()
         };
+        self.last = i;
         let channel = &mut self.channels[i];
         let given = channel.give_reply(kind, octets);
         note(&mut self.ready, &mut self.due, i, channel);

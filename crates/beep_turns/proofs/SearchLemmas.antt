@@ -1,5 +1,6 @@
 -- What a search by halves finds in a list of numbers that ascends.
-use Rattle.std.proofs.Common.{◌≡◌, ℕ, zero, suc, ◌+◌, ◌<◌, ◌≤◌, ◌==◌, nat_lt, Bool, true, false, ◌||◌, List, [], ◌∷◌, length, get_or, Option, None, Some, refl, sym, ap, ◌∙◌, subst, arith}
+use Rattle.std.proofs.Common.{◌≡◌, ℕ, zero, suc, ◌+◌, ◌<◌, ◌≤◌, ◌==◌, nat_lt, Bool, true, false, ◌||◌, List, [], ◌∷◌, length, get_or, Option, None, Some, refl, sym, ap, ◌∙◌, subst, arith, slice_get}
+use Rattle.std.proofs.lemmas.Option.{get_or_from_slice_get, slice_get_within}
 use Rattle.std.proofs.lemmas.Bool.{ltb-true, ltb-false}
 use Rattle.std.proofs.lemmas.Bool.Decides.{nat_tests}
 use Rattle.std.specs.List.{list_any, position}
@@ -70,3 +71,7 @@ rising ns asc i j before within = of (nat_lt i j) refl
     of false e =
         let equal : i ≡ j = let most = ltb-false i j e in omega (arith, most, before) in
         subst (λ (k : ℕ). get_or ns i 0 ≤ get_or ns k 0) equal (omega arith)
+
+-- a number that was read at a place is found there
+pub read-there : (ns : List ℕ) (x i n : ℕ) → IsAscending 0 ns → slice_get ns i ≡ Some n → n ≡ x → position (λ m. m == x) ns ≡ Some i
+read-there ns x i n asc read here = found-at ns x i asc (slice_get_within ns i n read) (get_or_from_slice_get ns i n 0 read ∙ here)

@@ -3,6 +3,7 @@ ghost use Rattle.std.specs.Prelude.{◌≡◌, ◌<◌, ◌≤◌, ◌==◌, [],
 ghost use Rattle.std.specs.List.{list_any, position, count_by};
 ghost use Rattle.beep_turns.specs.Order.{IsAscending, insert, without, first_true, IsLeastReady};
 
+use crate::flags::first;
 use beep_octets::NoMemory;
 use std::alloc::Global;
 use std::marker::Model;
@@ -65,6 +66,16 @@ impl Turns {
         }
     }
 
+    /// The place of a channel, where a guess of it is looked at first.
+    pub fn find_near(&self, channel: u32, guess: usize) -> Option<usize>
+        ensures { result ≡ position (λ n. n == channel) self.now }
+    {
+        match self.place(guess) {
+            Some(number) if number == channel => Some(guess),
+            Some(_) | None => self.find(channel),
+        }
+    }
+
     /// Adds a channel at its ascending place. It takes no memory.
     pub fn add(&mut self, channel: u32)
         requires room { length self.old ≤ MAX_CHANNELS }
@@ -108,13 +119,6 @@ impl Turns {
         };
         Some(self.channels[place])
     }
-}
-
-/// The first flag that is set.
-fn first(flags: &[bool]) -> Option<usize>
-    ensures { result ≡ position (λ flag. flag) flags.now }
-{
-    flags.iter().position(|flag| *flag)
 }
 
 #[cfg(test)]

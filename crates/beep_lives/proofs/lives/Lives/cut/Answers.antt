@@ -19,36 +19,36 @@ returns-in_default-clause-none c =
 pub unreachable-requires : goal.unreachable-requires
 unreachable-requires c =
     let items : List Live = c.self.inside.channels.items in
-    turn-found items c.self.inside.turns c.next.new.self c.self.inside.ready.items c.self.inside.due.items c.as_slice.result.now c.in-Some.number c.next.result c.find.result
-    c.self.invariant.0 c.as_slice.ensures.value c.next.ensures.value c.in-Some.is c.next.ensures.kept c.find.ensures c.in_default-find.is
+    turn-found items c.self.inside.turns c.next.new.self c.self.inside.ready.items c.self.inside.due.items c.as_slice.result.now c.in-Some.number c.next.result c.find_near.result
+    c.self.invariant.0 c.as_slice.ensures.value c.next.ensures.value c.in-Some.is c.next.ensures.kept c.find_near.ensures c.in_default-find_near.is
 
 pub cut-head-requires-clause-ready : goal.cut-head-requires-clause-ready
 cut-head-requires-clause-ready c =
     let items : List Live = c.self.inside.channels.items in
     let b : Live = c.index_mut-channel.result.now in
-    let t : HasTurn c.in-Some.number c.in-Some-find.i items =
-    turn-here items c.self.inside.turns c.next.new.self c.self.inside.ready.items c.self.inside.due.items c.as_slice.result.now c.in-Some.number c.next.result c.find.result
-    c.self.invariant.0 c.as_slice.ensures.value c.next.ensures.value c.in-Some.is c.next.ensures.kept c.find.ensures c.in-Some-find.i c.in-Some-find.is in
-    let read : slice_get items c.in-Some-find.i ≡ Some b = read-at can_send items c.in-Some-find.i b t.set c.index_mut-channel.ensures.value in
-    let h : IsHere c.in-Some.number c.in-Some-find.i items b = here-at c.in-Some.number c.in-Some-find.i items b t.place read in
-    passes can_send c.in-Some-find.i items b t.set read
+    let t : HasTurn c.in-Some.number c.in-Some-find_near.i items =
+    turn-here items c.self.inside.turns c.next.new.self c.self.inside.ready.items c.self.inside.due.items c.as_slice.result.now c.in-Some.number c.next.result c.find_near.result
+    c.self.invariant.0 c.as_slice.ensures.value c.next.ensures.value c.in-Some.is c.next.ensures.kept c.find_near.ensures c.in-Some-find_near.i c.in-Some-find_near.is in
+    let read : slice_get items c.in-Some-find_near.i ≡ Some b = read-at can_send items c.in-Some-find_near.i b t.set c.index_mut-channel.ensures.value in
+    let h : IsHere c.in-Some.number c.in-Some-find_near.i items b = here-at c.in-Some.number c.in-Some-find_near.i items b t.place read in
+    passes can_send c.in-Some-find_near.i items b t.set read
 
 pub invariant_of-self-2 : goal.invariant_of-self-2
 invariant_of-self-2 c =
     let items : List Live = c.self.inside.channels.items in
     let b : Live = c.index_mut-channel.result.now in
-    let t : HasTurn c.in-Some.number c.in-Some-find.i items =
-    turn-here items c.self.inside.turns c.next.new.self c.self.inside.ready.items c.self.inside.due.items c.as_slice.result.now c.in-Some.number c.next.result c.find.result
-    c.self.invariant.0 c.as_slice.ensures.value c.next.ensures.value c.in-Some.is c.next.ensures.kept c.find.ensures c.in-Some-find.i c.in-Some-find.is in
-    let read : slice_get items c.in-Some-find.i ≡ Some b = read-at can_send items c.in-Some-find.i b t.set c.index_mut-channel.ensures.value in
-    let h : IsHere c.in-Some.number c.in-Some-find.i items b = here-at c.in-Some.number c.in-Some-find.i items b t.place read in
+    let t : HasTurn c.in-Some.number c.in-Some-find_near.i items =
+    turn-here items c.self.inside.turns c.next.new.self c.self.inside.ready.items c.self.inside.due.items c.as_slice.result.now c.in-Some.number c.next.result c.find_near.result
+    c.self.invariant.0 c.as_slice.ensures.value c.next.ensures.value c.in-Some.is c.next.ensures.kept c.find_near.ensures c.in-Some-find_near.i c.in-Some-find_near.is in
+    let read : slice_get items c.in-Some-find_near.i ≡ Some b = read-at can_send items c.in-Some-find_near.i b t.set c.index_mut-channel.ensures.value in
+    let h : IsHere c.in-Some.number c.in-Some-find_near.i items b = here-at c.in-Some.number c.in-Some-find_near.i items b t.place read in
     let k : AreKept c.next.new.self items c.self.inside.ready.items c.self.inside.due.items =
     subst (λ (ns : List ℕ). AreKept ns items c.self.inside.ready.items c.self.inside.due.items) (sym c.next.ensures.kept) c.self.invariant.0 in
     let ready_room = c.note.ensures.ready_room in
     let due_room = c.note.ensures.due_room in
     let ready_was = c.self.invariant.2 in
     let due_was = c.self.invariant.3 in (
-      kept c.in-Some.number c.in-Some-find.i c.next.new.self items c.self.inside.ready.items c.self.inside.due.items b c.cut-head.new.self c.note.new.ready.items c.note.new.due.items
+      kept c.in-Some.number c.in-Some-find_near.i c.next.new.self items c.self.inside.ready.items c.self.inside.due.items b c.cut-head.new.self c.note.new.ready.items c.note.new.due.items
           k h c.cut-head.ensures.same.number c.note.ensures.ready c.note.ensures.due,
       c.self.invariant.1,
       omega (arith, ready_room, ready_was),
@@ -59,19 +59,19 @@ pub returns-clause-some : goal.returns-clause-some
 returns-clause-some c =
     let items : List Live = c.self.inside.channels.items in
     let b : Live = c.index_mut-channel.result.now in
-    let t : HasTurn c.in-Some.number c.in-Some-find.i items =
-    turn-here items c.self.inside.turns c.next.new.self c.self.inside.ready.items c.self.inside.due.items c.as_slice.result.now c.in-Some.number c.next.result c.find.result
-    c.self.invariant.0 c.as_slice.ensures.value c.next.ensures.value c.in-Some.is c.next.ensures.kept c.find.ensures c.in-Some-find.i c.in-Some-find.is in
-    let read : slice_get items c.in-Some-find.i ≡ Some b = read-at can_send items c.in-Some-find.i b t.set c.index_mut-channel.ensures.value in
-    let h : IsHere c.in-Some.number c.in-Some-find.i items b = here-at c.in-Some.number c.in-Some-find.i items b t.place read in
+    let t : HasTurn c.in-Some.number c.in-Some-find_near.i items =
+    turn-here items c.self.inside.turns c.next.new.self c.self.inside.ready.items c.self.inside.due.items c.as_slice.result.now c.in-Some.number c.next.result c.find_near.result
+    c.self.invariant.0 c.as_slice.ensures.value c.next.ensures.value c.in-Some.is c.next.ensures.kept c.find_near.ensures c.in-Some-find_near.i c.in-Some-find_near.is in
+    let read : slice_get items c.in-Some-find_near.i ≡ Some b = read-at can_send items c.in-Some-find_near.i b t.set c.index_mut-channel.ensures.value in
+    let h : IsHere c.in-Some.number c.in-Some-find_near.i items b = here-at c.in-Some.number c.in-Some-find_near.i items b t.place read in
     let head : Head = c.cut-head.result in
     let payload : List ℕ = take head.size (first_octets b.held.queue) in (
       payload,
       c.cut-head.ensures.appended,
-      subst (λ (n : ℕ). Edits n (Sends c.args.max head payload) c.args.self.now (slice_set items c.in-Some-find.i c.cut-head.new.self)) (sym (cut-number c.args.max b.held c.cut-head.result c.cut-head.ensures.value ∙ h.number_is))
-          (edited c.in-Some.number c.in-Some-find.i (Sends c.args.max head payload) c.args.self.now items b c.cut-head.new.self c.self.view_is h c.cut-head.ensures.same.number
+      subst (λ (n : ℕ). Edits n (Sends c.args.max head payload) c.args.self.now (slice_set items c.in-Some-find_near.i c.cut-head.new.self)) (sym (cut-number c.args.max b.held c.cut-head.result c.cut-head.ensures.value ∙ h.number_is))
+          (edited c.in-Some.number c.in-Some-find_near.i (Sends c.args.max head payload) c.args.self.now items b c.cut-head.new.self c.self.view_is h c.cut-head.ensures.same.number
           (record {
-            ready = passes can_send c.in-Some-find.i items b t.set read;
+            ready = passes can_send c.in-Some-find_near.i items b t.set read;
             is = c.cut-head.ensures.value;
             next = c.cut-head.ensures.next;
             under = c.cut-head.ensures.under;
@@ -84,12 +84,12 @@ pub returns-clause-first : goal.returns-clause-first
 returns-clause-first c =
     let items : List Live = c.self.inside.channels.items in
     let b : Live = c.index_mut-channel.result.now in
-    let t : HasTurn c.in-Some.number c.in-Some-find.i items =
-    turn-here items c.self.inside.turns c.next.new.self c.self.inside.ready.items c.self.inside.due.items c.as_slice.result.now c.in-Some.number c.next.result c.find.result
-    c.self.invariant.0 c.as_slice.ensures.value c.next.ensures.value c.in-Some.is c.next.ensures.kept c.find.ensures c.in-Some-find.i c.in-Some-find.is in
-    let read : slice_get items c.in-Some-find.i ≡ Some b = read-at can_send items c.in-Some-find.i b t.set c.index_mut-channel.ensures.value in
-    let h : IsHere c.in-Some.number c.in-Some-find.i items b = here-at c.in-Some.number c.in-Some-find.i items b t.place read in
-    is-first can_send c.cut-head.result.channel c.in-Some-find.i c.args.self.now items b c.self.view_is t.set read (sym (cut-number c.args.max b.held c.cut-head.result c.cut-head.ensures.value))
+    let t : HasTurn c.in-Some.number c.in-Some-find_near.i items =
+    turn-here items c.self.inside.turns c.next.new.self c.self.inside.ready.items c.self.inside.due.items c.as_slice.result.now c.in-Some.number c.next.result c.find_near.result
+    c.self.invariant.0 c.as_slice.ensures.value c.next.ensures.value c.in-Some.is c.next.ensures.kept c.find_near.ensures c.in-Some-find_near.i c.in-Some-find_near.is in
+    let read : slice_get items c.in-Some-find_near.i ≡ Some b = read-at can_send items c.in-Some-find_near.i b t.set c.index_mut-channel.ensures.value in
+    let h : IsHere c.in-Some.number c.in-Some-find_near.i items b = here-at c.in-Some.number c.in-Some-find_near.i items b t.place read in
+    is-first can_send c.cut-head.result.channel c.in-Some-find_near.i c.args.self.now items b c.self.view_is t.set read (sym (cut-number c.args.max b.held c.cut-head.result c.cut-head.ensures.value))
 
 pub returns-clause-none : goal.returns-clause-none
 returns-clause-none c =
