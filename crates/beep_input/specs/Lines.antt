@@ -1,4 +1,5 @@
--- The lines of an input: what stands between its LFs, without the CR at an end, but for empty lines.
+-- The lines of an input: what stands between its LFs, without the CR at an end, but for empty
+-- lines.
 -- The code goes from one LF to the next; here the input is cut whole.
 -- Choice: empty lines are dropped (docs/DECISIONS.md, "Lines of an input").
 use Rattle.std.specs.Prelude.{◌≡◌, ℕ, ◌+◌, ◌-◌, ◌≤◌, Bool, ◌==◌, ◌&&◌, nat_lt, get_or, Option, None, Some, List, [], ◌∷◌, ◌++◌, length, take, map, if◌then◌else◌}
@@ -37,7 +38,8 @@ lines_of octets = filter has_some (map without_cr (pieces_at_lf octets))
 
 -- ---- what isn't sent
 
--- the number of the first piece whose line is longer than any that is sent, counted from this one on
+-- the number of the first piece whose line is longer than any that is sent, counted from this one
+-- on
 abbrev pub first_long : ℕ → List (List ℕ) → Option ℕ
 first_long number [] = None
 first_long number (piece ∷ pieces) = if nat_lt ENTRY_MAX (length (without_cr piece))

@@ -1,5 +1,5 @@
--- The sessions of two ends, the octets on the wires between them, and what each call of a step makes
--- of one of them (RFC 3080, sections 2.1 to 2.3; RFC 3081, section 3.1).
+-- The sessions of two ends, the octets on the wires between them, and what each call of a step
+-- makes of one of them (RFC 3080, sections 2.1 to 2.3; RFC 3081, section 3.1).
 -- Each speaks of every journal for which the session stood: none is kept.
 use Rattle.std.specs.Prelude.{◌≡◌, ℕ, ◌+◌, ◌%◌, ◌<◌, ◌≤◌, nat_lt, min, map, if◌then◌else◌, Bool, true, false, List, [], ◌∷◌, ◌++◌, length, take, drop, Option, None, Some}
 use Rattle.std.specs.List.{range_with_len}

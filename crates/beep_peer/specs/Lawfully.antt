@@ -29,8 +29,8 @@ pub record IsLawfulPeer (terms : Terms) (fed rest : List ℕ) (journal : List It
   pub upright : IsUpright terms journal peer.lives peer.management
   pub lawful : IsLawful terms none_tunes journal
 
--- the frame of an end that was upright has gone: where it ends no message of channel zero the end is
--- so still, and else what is left may go after that message
+-- the frame of an end that was upright has gone: where it ends no message of channel zero the end
+-- is so still, and else what is left may go after that message
 pub record GoesUprightly (terms : Terms) (journal : List Item) (head : Head) (payload : List ℕ)
     (channels : List Live) (m : Managed) : Type 0 where
   pub quiet : ends_zero (passed Side.Sent head payload) ≡ false

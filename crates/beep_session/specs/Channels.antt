@@ -53,8 +53,8 @@ pub record Gives (number : ℕ) (kind : Kind) (octets : List ℕ) (old new : Hel
   pub kept : new.peer.management ≡ old.peer.management
   pub same : IsOfPeer old new
 
--- a close of this number was given to channel zero, and nothing else was given or taken; the answers
--- that wait stay
+-- a close of this number was given to channel zero, and nothing else was given or taken; the
+-- answers that wait stay
 pub record Closes (number : ℕ) (old new : Held) : Type 0 where
   pub closes : (fed rest : List ℕ) (journal : List Item) (given taken : Marks)
       → IsPeer old.limits.window fed rest journal given taken old.peer

@@ -42,8 +42,8 @@ pub record HasArrived (number size : ℕ) (octets fed : List ℕ) (journal : Lis
   pub gains : Gains size octets fed journal (passed Side.Received head payload ∷ gained) given
       taken peer
 
--- the last of these octets ended the last frame of a message of channel zero, which waits; none that
--- they brought before is a frame above channel zero
+-- the last of these octets ended the last frame of a message of channel zero, which waits; none
+-- that they brought before is a frame above channel zero
 pub record ZeroWaits (size : ℕ) (octets fed : List ℕ) (journal : List Item) (given taken : Marks)
     (peer : Peer) : Type 0 where
   pub gained : List Item

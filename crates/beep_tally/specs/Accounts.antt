@@ -49,16 +49,32 @@ counted octets ended count = record {
 -- a message of so many octets was given by an end
 abbrev pub given_by : End → ℕ → Account → Account
 given_by End.A octets account =
-    record account { from_a = record account.from_a { given = counted octets true account.from_a.given } }
+    record account {
+      from_a = record account.from_a {
+        given = counted octets true account.from_a.given;
+      };
+    }
 given_by End.B octets account =
-    record account { from_b = record account.from_b { given = counted octets true account.from_b.given } }
+    record account {
+      from_b = record account.from_b {
+        given = counted octets true account.from_b.given;
+      };
+    }
 
 -- so many octets of what the other end gave were taken by an end, with an end of a message or none
 abbrev pub taken_by : End → ℕ → Bool → Account → Account
 taken_by End.A octets ended account =
-    record account { from_b = record account.from_b { taken = counted octets ended account.from_b.taken } }
+    record account {
+      from_b = record account.from_b {
+        taken = counted octets ended account.from_b.taken;
+      };
+    }
 taken_by End.B octets ended account =
-    record account { from_a = record account.from_a { taken = counted octets ended account.from_a.taken } }
+    record account {
+      from_a = record account.from_a {
+        taken = counted octets ended account.from_a.taken;
+      };
+    }
 
 -- ---- all lives
 
@@ -106,7 +122,8 @@ fresh at number life = staged_at at Stage.Live (record {
 -- the account stands before that of the next life of a number at an end
 abbrev pub goes_before : End → ℕ → Account → Bool
 goes_before at number account = nat_lt account.number number
-    || ((account.number == number) && (if is_before_stage (stage_at at account) then false else true))
+    || ((account.number == number)
+    && (if is_before_stage (stage_at at account) then false else true))
 
 abbrev pub next_life : ℕ → Account → ℕ
 next_life number account =

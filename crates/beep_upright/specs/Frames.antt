@@ -1,5 +1,5 @@
--- A journal of frames and SEQs, each number of which is in its range (RFC 3080, section 2.2.1.1; RFC
--- 3081, section 3.1).
+-- A journal of frames and SEQs, each number of which is in its range (RFC 3080, section 2.2.1.1;
+-- RFC 3081, section 3.1).
 -- The code keeps no journal: what arrives was read as a frame, and what goes out is one.
 use Rattle.std.specs.Prelude.{List, [], ◌∷◌}
 use Rattle.beep_frame.specs.Frame.{framed, IsHead, IsFrame, IsSeq}

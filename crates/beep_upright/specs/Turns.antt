@@ -51,7 +51,8 @@ turns (kind ∷ kinds) acts requests =
     if is_msg kind then asks (first_said acts) ∷ turns kinds (after_first acts) requests
     else answers kind (first_said requests) ∷ turns kinds acts (after_first requests)
 
--- the request says a start, or the reply grants one, of a number of which another request is a close
+-- the request says a start, or the reply grants one, of a number of which another request is a
+-- close
 abbrev pub is_start_for : Turn → Option Form → Bool
 is_start_for (asks form) closing =
     list_any (λ number. is_close_of number closing) (number_started form)

@@ -107,8 +107,8 @@ WasQuiet forms journal position (Some (fault code note)) = Unit {0}
 abbrev pub is_of_close : ℕ → Kept → Bool
 is_of_close number kept = is_close_of 0 kept.said || closes_one number kept
 
--- a reply of this kind that was given and has not wholly passed: where it grants a close, it may go,
--- and nothing is asked in the lives that end by it, where so much is asked of each number
+-- a reply of this kind that was given and has not wholly passed: where it grants a close, it may
+-- go, and nothing is asked in the lives that end by it, where so much is asked of each number
 pub record IsLetGo (forms : List (Option Form)) (journal : List Item) (asks : ℕ → ℕ)
     (position : ℕ) (kind : Kind) (kept : Kept) : Type 0 where
   pub quiet : same_kind Kind.Rpy kind ≡ true → WasQuiet forms journal position kept.said

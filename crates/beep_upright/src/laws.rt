@@ -68,9 +68,9 @@ pub fn a_frame_that_goes_out_is_lawful()
         (passed Side.Sent head payload ∷ began Side.Sent head ∷ journal) }
 {}
 
-/// Each number of a frame or a SEQ that goes out is in its range, where the journal so far is lawful
-/// and each item of it came or went in a frame or a SEQ (RFC 3080, section 2.2.1.1; RFC 3081,
-/// section 3.1).
+/// Each number of a frame or a SEQ that goes out is in its range, where the journal so far is
+/// lawful and each item of it came or went in a frame or a SEQ (RFC 3080, section 2.2.1.1; RFC
+/// 3081, section 3.1).
 pub fn what_goes_out_is_a_frame_or_a_seq()
     ensures frame { (terms : Terms) (most : ℕ) (journal : List Item) (given taken : Marks)
         (old new : List Live) (head : Head) (payload : List ℕ)

@@ -126,8 +126,9 @@ impl Session {
         ensures upright { KeepsUpright self.old self.new }
         ensures stuck { IfSome result (λ part.
             IsStuck self.new.peer.lives self.new.peer.management) }
-        ensures part { IfSome result (λ part. IsTaken part (inbox_of (live_at n self.old.peer.lives))
-            (inbox_of (live_at n self.new.peer.lives)) buf.old buf.new) }
+        ensures part { IfSome result (λ part. IsTaken part
+            (inbox_of (live_at n self.old.peer.lives)) (inbox_of (live_at n self.new.peer.lives))
+            buf.old buf.new) }
         ensures none { IfNone result (inbox_of (live_at n self.old.peer.lives) ≡ []) }
         ensures kept { IfNone result (self.new ≡ self.old) }
         ensures buffer { IfNone result (buf.new ≡ buf.old) }

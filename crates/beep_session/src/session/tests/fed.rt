@@ -15,8 +15,8 @@ use std::test::Fail;
 /// A listener with this window, and what it hears and says: `hear HEADER <ELEMENT` hears one frame
 /// with a message of channel zero, `starts HEADER NUMBER` one with the start of a channel, `frame
 /// HEADER PAYLOAD` one with this payload, `seq SEQ` one SEQ, `head HEADER` a header and `rest
-/// PAYLOAD` what follows it; `start`, `close`, `ask` and `release` are its own acts; `say HEADER` is
-/// what goes out next. In brackets stands as what a message was settled, how hearing it ends, or
+/// PAYLOAD` what follows it; `start`, `close`, `ask` and `release` are its own acts; `say HEADER`
+/// is what goes out next. In brackets stands as what a message was settled, how hearing it ends, or
 /// what an act is answered.
 struct Script(u32, &'static str);
 
