@@ -15,7 +15,7 @@ use Rattle.beep_frame.proofs.LawLemmas.{stays_alive, is_one_reading}
 use Rattle.beep_wires.specs.Counts.{Rose}
 use Rattle.beep_wires.specs.States.{SourceState}
 use Rattle.beep_words.specs.declared.command.ShowSettings.{ShowSettings as Settings}
-use Rattle.beep_cmd.specs.Show.{IsRead, IsPlain, NoFault, IsReport, whole, broken, read_fault, cut, spent, Run, Shown, report, write_fault, no_memory}
+use Rattle.beep_show.specs.Show.{IsRead, IsPlain, NoFault, IsReport, whole, broken, read_fault, cut, spent, Run, Shown, report, write_fault, no_memory}
 
 -- ---- no header of whole frames has a size above their limit
 

@@ -10,8 +10,8 @@ use Rattle.beep_settings.specs.declared.settings.Settings.{Settings}
 use Rattle.beep_input.specs.Lines.{IsUnlisted}
 use Rattle.beep_input.specs.declared.lines.Unlisted.{Unlisted}
 use Rattle.beep_cmd.specs.Serving.{unlisted_line, unlisted_status}
-use Rattle.beep_cmd.specs.Texts.{bad_line, read_fault_line}
-use Rattle.beep_cmd.specs.Show.{Run, run_of}
+use Rattle.beep_show.specs.Texts.{bad_line, read_fault_line}
+use Rattle.beep_show.specs.Show.{Run, run_of}
 use Rattle.beep_cmd.specs.Ends.{ended_status, ended_line, ListenCause, IsSendReport, bad_input, unread_input, Sent, send_told, send_begun, send_starved, Listened, listen_told, listen_unwritten, listen_starved, Tells, whole_line, line_begun}
 
 -- ---- `send`

@@ -9,8 +9,8 @@ use Rattle.beep_frame.specs.Spelling.{header, header_line, seq_line, keyword, sp
 use Rattle.beep_wires.specs.Counts.{Rose}
 use Rattle.beep_wires.specs.States.{SourceState}
 use Rattle.beep_words.specs.declared.command.ShowSettings.{ShowSettings as Settings}
-use Rattle.beep_cmd.specs.Texts.{frame_line, IsEntry, alone, with_element, AreLines, totals, totals_line, read_fault_line, broken_line, cut_line, spent_line}
-use Rattle.beep_cmd.specs.Show.{IsRead, IsText, IsWhole, IsCut, IsSpent, IsFault, IsReport, whole, broken, read_fault, cut, spent, BeginsLines, IsShort, in_lines, in_report}
+use Rattle.beep_show.specs.Texts.{frame_line, IsEntry, alone, with_element, AreLines, totals, totals_line, read_fault_line, broken_line, cut_line, spent_line}
+use Rattle.beep_show.specs.Show.{IsRead, IsText, IsWhole, IsCut, IsSpent, IsFault, IsReport, whole, broken, read_fault, cut, spent, BeginsLines, IsShort, in_lines, in_report}
 use Rattle.beep_cmd.proofs.CompleteLemmas.{first_size}
 
 -- ---- a header whose size is above the limit is named

@@ -19,7 +19,7 @@ use Rattle.beep_record.proofs.LawLemmas.{one_log, no_place}
 use Rattle.beep_wires.specs.Counts.{Rose}
 use Rattle.beep_wires.specs.States.{SourceState}
 use Rattle.beep_input.specs.declared.whole.TheConstants.{MAX_INPUT}
-use Rattle.beep_cmd.specs.Show.{NoFault, Run}
+use Rattle.beep_show.specs.Show.{NoFault, Run}
 use Rattle.beep_cmd.specs.Replay.{IsSession, IsJudgement, fine, peer_fault, own_fault, bad, IsReplayReport, judged, long, unread, Replayed, reported, cut_short, starved, IsLawful}
 use Rattle.beep_cmd.specs.Judging.{verdict_status, verdict_line, ReportsLog}
 use Rattle.beep_cmd.proofs.PlaceLemmas.{place_within}

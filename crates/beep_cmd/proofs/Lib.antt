@@ -1,12 +1,6 @@
 mod CommandLemmas
-mod EntryLemmas
-mod ListingLemmas
-mod PieceLemmas
-mod PassLemmas
-mod GoLemmas
 mod PlaceLemmas
 mod JudgeLemmas
-mod EndLemmas
 mod CompleteLemmas
 mod ExcludedLemmas
 mod ServingLemmas

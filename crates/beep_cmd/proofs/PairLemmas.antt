@@ -10,8 +10,8 @@ use Rattle.beep_input.specs.Whole.{IsGathered}
 use Rattle.beep_input.specs.Lines.{line_after}
 use Rattle.beep_words.specs.declared.command.PairSettings.{PairSettings}
 use Rattle.beep_words.specs.Usable.{IsPairUsable}
-use Rattle.beep_cmd.specs.Show.{NoFault, Run}
-use Rattle.beep_cmd.specs.Texts.{bad_line}
+use Rattle.beep_show.specs.Show.{NoFault, Run}
+use Rattle.beep_show.specs.Texts.{bad_line}
 use Rattle.beep_pair.specs.Command.{Sums}
 use Rattle.beep_cmd.specs.Pairing.{TellsPair, TellsSchedule}
 use Rattle.beep_cmd.specs.Pair.{limits_of, IsPairing, runs, bad_schedule, ReadsSchedule, whole, long, unread, IsPairReport, read, made, Paired, told, cut_short, starved, IsSchedule, IsRunnable, by_seed, by_input}

@@ -12,12 +12,12 @@ use Rattle.beep_wires.specs.Links.{Link, Ask, dial, accept}
 use Rattle.beep_settings.specs.declared.settings.Settings.{Settings}
 use Rattle.beep_link.specs.declared.ended.Ended.{Ended}
 use Rattle.beep_link.specs.Causes.{Seen, WhereTold}
-use Rattle.beep_ends.specs.Logs.{IsLawfulOn, terms_by}
+use Rattle.beep_steps.specs.Logs.{IsLawfulOn, terms_by}
 use Rattle.beep_recorder.specs.Kept.{RecordsLink}
 use Rattle.beep_runs.specs.Runs.{AsksThis, IsRecorded, NotGiven, Ran}
 use Rattle.beep_input.specs.Whole.{HasEnded}
 use Rattle.beep_input.specs.Lines.{AreLines}
-use Rattle.beep_cmd.specs.Show.{Run, run_of}
+use Rattle.beep_show.specs.Show.{Run, run_of}
 use Rattle.beep_cmd.specs.Recorded.{IsEnding, IsRecordOf, lined, recorded}
 use Rattle.beep_cmd.specs.Recording.{EndsRecorded, ListenRecorded, record_told, record_starved, TellsRecord, TellsWhole, whole_record, no_record}
 use Rattle.beep_cmd.specs.Ends.{AcceptsAtMost, asking, AsksOnly, DialsOnce, ended_line, ended_status, IsAcceptOf, IsDialOf, ListenCause, Listened, listen_starved, listen_told, listen_unwritten, over, SendCause, Sent, send_starved, session, SessionCause, Tells, whole_line, line_begun, WritesLawfully}

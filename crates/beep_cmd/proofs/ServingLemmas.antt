@@ -10,7 +10,7 @@ use Rattle.beep_wires.specs.Links.{Link, Ask, Asked, IsFresh, Asks, asked_by}
 use Rattle.beep_link.specs.declared.ended.Ended.{Ended}
 use Rattle.beep_link.specs.Causes.{HasRead, IsCaused, IsQuiet, IsUnused, Seen, WhereTold}
 use Rattle.beep_journal.specs.declared.role.Role.{Role}
-use Rattle.beep_ends.specs.Logs.{Shows, terms_by}
+use Rattle.beep_steps.specs.Logs.{Shows, terms_by}
 use Rattle.beep_settings.specs.declared.settings.Settings.{Settings}
 use Rattle.beep_cmd.specs.Ends.{HasRisen, OneOf, EachOf, ShowsIn, SessionCause, AsksOnly}
 use Rattle.beep_cmd.specs.Serving.{ends_run, first_of, GoesOn}

@@ -6,8 +6,8 @@ use Rattle.beep_wires.specs.States.{SourceState}
 use Rattle.beep_words.specs.declared.command.ShowSettings.{ShowSettings}
 use Rattle.beep_words.specs.declared.command.PairSettings.{PairSettings}
 use Rattle.beep_settings.specs.declared.settings.Settings.{Settings}
-use Rattle.beep_cmd.specs.Show as show
-use Rattle.beep_cmd.specs.Show.{Run, Shown, IsReport}
+use Rattle.beep_show.specs.Show as show
+use Rattle.beep_show.specs.Show.{Run, Shown, IsReport}
 use Rattle.beep_cmd.specs.Replay as replay
 use Rattle.beep_cmd.specs.Replay.{Replayed, IsReplayReport, IsJudgement}
 use Rattle.beep_cmd.specs.Pair as pair

@@ -12,12 +12,12 @@ use Rattle.beep_wires.specs.Links.{Link, Counts, Ask, accept, dial, Asked}
 use Rattle.beep_link.specs.declared.ended.Ended.{Ended}
 use Rattle.beep_link.specs.Causes.{HasRead, IsQuiet, Seen, WhereTold}
 use Rattle.beep_journal.specs.declared.role.Role.{Role}
-use Rattle.beep_ends.specs.Logs.{IsLawfulOn, Shows, terms_by}
+use Rattle.beep_steps.specs.Logs.{IsLawfulOn, Shows, terms_by}
 use Rattle.beep_settings.specs.declared.settings.Settings.{Settings}
 use Rattle.beep_input.specs.Whole.{HasEnded}
 use Rattle.beep_input.specs.Lines.{AreLines, IsBad}
-use Rattle.beep_cmd.specs.Texts.{bad_line, broken_line, cut_line, idle_line, read_fault_line, refused_line, spent_line, wire_fault_line}
-use Rattle.beep_cmd.specs.Show.{Run, Saw}
+use Rattle.beep_show.specs.Texts.{bad_line, broken_line, cut_line, idle_line, read_fault_line, refused_line, spent_line, wire_fault_line}
+use Rattle.beep_show.specs.Show.{Run, Saw}
 use Rattle.beep_cmd.specs.Recorded.{IsEnding}
 pub use Rattle.beep_runs.specs.Runs.{seen_of}
 
@@ -181,7 +181,8 @@ pub data Sent (settings : Settings) (before after : Seen) (status : ℕ) (run : 
 
 -- what a run of `listen` that ended so shows: 5, where a write failed; 7, where it was out of
 -- memory; else what ended its first session that wasn't released, or the last accept
-pub data Listened (settings : Settings) (before after : Seen) (status : ℕ) (run : Run) : Type 0 where
+pub data Listened (settings : Settings) (before after : Seen) (status : ℕ) (run : Run)
+    : Type 0 where
   listen_told : (cause : Ended) → cause ≢ Ended.WriteFault → cause ≢ Ended.NoMemory
       → ListenCause cause settings before after → status ≡ ended_status cause
       → Listened settings before after status run
@@ -193,6 +194,7 @@ pub data Listened (settings : Settings) (before after : Seen) (status : ℕ) (ru
 
 -- a last line was written, and the status is its own; or its write failed, and the status is 5
 pub data Tells (status : ℕ) (line : List ℕ) (result : ℕ) (old new : SinkState) : Type 0 where
-  whole_line : result ≡ status → Appends old.written new.written line → Tells status line result old new
+  whole_line : result ≡ status → Appends old.written new.written line
+      → Tells status line result old new
   line_begun : result ≡ 5 → Rose old.faults new.faults → AppendsPrefix old.written new.written line
       → Tells status line result old new

@@ -6,7 +6,7 @@ use Rattle.beep_journal.specs.Log.{Entry}
 use Rattle.beep_record.specs.declared.verdict.Verdict.{Verdict}
 use Rattle.beep_record.specs.Verdicts.{Replays}
 use Rattle.beep_wires.specs.States.{SourceState}
-use Rattle.beep_cmd.specs.Texts.{broken_line, written_line}
+use Rattle.beep_show.specs.Texts.{broken_line, written_line}
 use Rattle.beep_cmd.specs.Replay.{IsReplayReport}
 
 -- the status of a verdict

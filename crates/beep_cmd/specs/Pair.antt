@@ -1,6 +1,6 @@
--- What `pair` says of a schedule, status by status: the report of its run between two ends in memory,
--- or its first bad line. With a seed nothing is read, and it is the summary of the report of the
--- schedule that the number makes.
+-- What `pair` says of a schedule, status by status: the report of its run between two ends in
+-- memory, or its first bad line. With a seed nothing is read, and it is the summary of the report
+-- of the schedule that the number makes.
 -- What holds of the world that a run leads to is part of its report (`Reported` of beep_pair).
 use Rattle.std.specs.Prelude.{◌≡◌, ℕ, ◌≤◌, List, [], ◌++◌, length, Option, None, Some}
 use Rattle.beep_wires.specs.Counts.{Rose}
@@ -14,8 +14,8 @@ use Rattle.beep_schedule.specs.Schedule.{Says}
 use Rattle.beep_schedule.specs.Refused.{IsBadAt}
 use Rattle.beep_pair.specs.Command.{Reports, Sums}
 use Rattle.beep_words.specs.declared.command.PairSettings.{PairSettings}
-use Rattle.beep_cmd.specs.Texts.{bad_line, read_fault_line}
-use Rattle.beep_cmd.specs.Show.{Run, Saw}
+use Rattle.beep_show.specs.Texts.{bad_line, read_fault_line}
+use Rattle.beep_show.specs.Show.{Run, Saw}
 
 -- what both ends set for themselves
 abbrev pub limits_of : PairSettings → Limits
@@ -54,8 +54,8 @@ pub data ReadsSchedule (settings : PairSettings) (old new : SourceState) (octets
 
 -- ---- all reports
 
--- without a seed the input is read; with one it isn't, and status 0 has the summary of the report of
--- the schedule that the number makes
+-- without a seed the input is read; with one it isn't, and status 0 has the summary of the report
+-- of the schedule that the number makes
 pub data IsPairReport (settings : PairSettings) (old new : SourceState) (octets text : List ℕ)
     (status : ℕ) : Type 0 where
   read : settings.seed ≡ None → ReadsSchedule settings old new octets text status

@@ -11,8 +11,8 @@ use Rattle.beep_record.specs.Record.{Says, Stops}
 use Rattle.beep_wires.specs.Counts.{Rose}
 use Rattle.beep_wires.specs.States.{SourceState}
 use Rattle.beep_input.specs.declared.whole.TheConstants.{MAX_INPUT}
-use Rattle.beep_cmd.specs.Texts.{bad_line, broken_line, written_line, read_fault_line}
-use Rattle.beep_cmd.specs.Show.{Run, Saw}
+use Rattle.beep_show.specs.Texts.{bad_line, broken_line, written_line, read_fault_line}
+use Rattle.beep_show.specs.Show.{Run, Saw}
 use Rattle.beep_input.specs.Whole.{HasEnded}
 
 -- the octets are a record within the limit, whose log shows this session; no start is tuning

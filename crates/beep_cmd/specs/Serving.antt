@@ -7,7 +7,7 @@ use Rattle.beep_link.specs.Causes.{Seen}
 use Rattle.beep_settings.specs.declared.settings.Settings.{Settings}
 use Rattle.beep_input.specs.declared.lines.Unlisted.{Unlisted}
 use Rattle.beep_journal.specs.declared.role.Role.{Role}
-use Rattle.beep_cmd.specs.Texts.{bad_line, read_fault_line}
+use Rattle.beep_show.specs.Texts.{bad_line, read_fault_line}
 use Rattle.beep_cmd.specs.Ends.{AsksOnly, IsAcceptOf, SessionCause}
 
 -- the first of two ends that isn't a release

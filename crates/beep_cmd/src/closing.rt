@@ -3,10 +3,10 @@ ghost use Rattle.std.specs.Prelude.{◌≡◌, ◌≤◌, ◌++◌, []};
 ghost use Rattle.beep_cmd.specs.Ends.{ended_line, ended_status, Tells};
 ghost use Rattle.beep_cmd.specs.Serving.{unlisted_line, unlisted_status};
 
-use crate::text::{LAST_ROOM, append_broken, append_idle, append_numbered, append_refused};
 use beep_ends::Ended;
 use beep_input::Unlisted;
 use beep_octets::Octets;
+use beep_show::{LAST_ROOM, append_broken, append_idle, append_numbered, append_refused};
 use beep_wires::{Failed, Sink, write_all};
 
 /// Writes the last line of what ended a session, in room that was taken before, and answers the

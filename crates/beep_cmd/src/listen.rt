@@ -1,20 +1,20 @@
 //! The command `listen`: a collector of syslog over BEEP.
 ghost use Rattle.std.specs.Prelude.{◌≡◌, ◌≤◌, ℕ, true, IfOk, IfErr};
 ghost use Rattle.beep_journal.specs.declared.role.Role.{Role as RoleValue};
-ghost use Rattle.beep_ends.specs.Ends.{AreFit};
+ghost use Rattle.beep_steps.specs.Ends.{AreFit};
 ghost use Rattle.beep_link.specs.Causes.{IsWritten};
 ghost use Rattle.beep_wires.specs.States.{SourceState};
 ghost use Rattle.beep_cmd.specs.Ends.{AcceptsAtMost, ListenCause, Listened, seen_of, WritesLawfully};
 ghost use Rattle.beep_cmd.specs.Serving.{ends_run, first_of, NotAccepted, Served};
 ghost use Rattle.beep_cmd.specs.Recording.{ListenRecorded};
-ghost use Rattle.beep_cmd.specs.Show.{run_of};
+ghost use Rattle.beep_show.specs.Show.{run_of};
 
 use crate::closing::finish;
 use crate::recorded::record_listen;
-use crate::text::LAST_ROOM;
 use beep_ends::{Ended, listen_end};
 use beep_octets::Octets;
 use beep_settings::Settings;
+use beep_show::LAST_ROOM;
 use beep_wires::{Sink, WireError, Wires};
 use std::alloc::Global;
 

@@ -8,13 +8,13 @@ ghost use Rattle.beep_words.specs.declared.command.PairSettings.{PairSettings as
 ghost use Rattle.beep_pair.specs.Command.{Sums};
 ghost use Rattle.beep_cmd.specs.Pair.{limits_of, Paired, IsPairing};
 ghost use Rattle.beep_cmd.specs.Pairing.{TellsPair, TellsSchedule};
-ghost use Rattle.beep_cmd.specs.Show.{run_of};
+ghost use Rattle.beep_show.specs.Show.{run_of};
 
-use crate::text::{LAST_ROOM, append_numbered};
 use beep_input::{MAX_INPUT, Unread, line_past, read_input};
 use beep_octets::{NoMemory, Octets};
 use beep_pair::{Limits, Outcome, report, summary};
 use beep_schedule::laws::a_schedule_has_no_bad_line;
+use beep_show::{LAST_ROOM, append_numbered};
 use beep_wires::{Failed, Sink, Source, write_all};
 use beep_words::PairSettings;
 use std::alloc::Global;

@@ -1,7 +1,7 @@
 //! Runs of `send` and `listen` whose link is recorded (docs/FORMATS.md, "Records").
 ghost use Rattle.std.specs.Prelude.{◌≡◌, ◌≢◌, ◌≤◌, []};
 ghost use Rattle.beep_journal.specs.declared.role.Role.{Role as RoleValue};
-ghost use Rattle.beep_ends.specs.Ends.{AreFit};
+ghost use Rattle.beep_steps.specs.Ends.{AreFit};
 ghost use Rattle.beep_link.specs.declared.ended.Ended.{Ended as EndedValue};
 ghost use Rattle.beep_wires.specs.Links.{Link};
 ghost use Rattle.beep_record.specs.declared.limits.TheConstants.{MAX_STATUS};
@@ -10,11 +10,11 @@ ghost use Rattle.beep_cmd.specs.Ends.{AcceptsAtMost, DialsOnce, ended_status, Li
 ghost use Rattle.beep_cmd.specs.Recording.{EndsRecorded, ListenRecorded, TellsRecord, TellsWhole};
 
 use crate::closing::{finish, tell};
-use crate::text::{LAST_ROOM, append_numbered};
 use beep_ends::Ended;
 use beep_octets::Octets;
 use beep_runs::{listen_recorded, send_recorded};
 use beep_settings::Settings;
+use beep_show::{LAST_ROOM, append_numbered};
 use beep_wires::{Sink, Wires};
 use prof_raw::Entries;
 use std::alloc::Global;

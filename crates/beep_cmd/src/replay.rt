@@ -5,12 +5,12 @@ ghost use Rattle.beep_input.specs.Whole.{ReadsFew};
 ghost use Rattle.beep_input.specs.declared.whole.TheConstants.{MAX_INPUT};
 ghost use Rattle.beep_cmd.specs.Judging.{ReportsLog, ReportsInput, verdict_status, verdict_line};
 ghost use Rattle.beep_cmd.specs.Replay.{Replayed, IsJudgement};
-ghost use Rattle.beep_cmd.specs.Show.{run_of};
+ghost use Rattle.beep_show.specs.Show.{run_of};
 
-use crate::text::{LAST_ROOM, append_broken, append_numbered, append_written};
 use beep_input::{MAX_INPUT, Unread, read_input};
 use beep_octets::{NoMemory, Octets};
 use beep_record::{Log, RecordError, Verdict, read_record};
+use beep_show::{LAST_ROOM, append_broken, append_numbered, append_written};
 use beep_wires::{Failed, Sink, Source, write_all};
 use std::alloc::Global;
 

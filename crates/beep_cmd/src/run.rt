@@ -7,7 +7,7 @@ ghost use Rattle.beep_settings.specs.declared.settings.Settings.{Settings as end
 ghost use Rattle.beep_input.specs.declared.whole.TheConstants.{MAX_INPUT};
 ghost use Rattle.beep_journal.specs.declared.role.Role.{Role as RoleValue};
 ghost use Rattle.beep_wires.specs.States.{SourceState};
-ghost use Rattle.beep_cmd.specs.Show.{Shown, Refused, IsPlain, NoFault, run_of};
+ghost use Rattle.beep_show.specs.Show.{Shown, Refused, IsPlain, NoFault, run_of};
 ghost use Rattle.beep_cmd.specs.Replay.{Replayed, IsLawful};
 ghost use Rattle.beep_cmd.specs.Pair.{Paired, IsRunnable};
 ghost use Rattle.beep_cmd.specs.Ends.{AcceptsAtMost, DialsOnce, Listened, seen_of, Sent, WritesLawfully};
@@ -17,8 +17,8 @@ use crate::listen::listen;
 use crate::pair::pair;
 use crate::replay::replay;
 use crate::send::send;
-use crate::show::show;
 use beep_octets::NoMemory;
+use beep_show::show;
 use beep_wires::{Failed, Sink, Source, Wires, write_all};
 use beep_words::{Command, command_of};
 use std::alloc::Global;

@@ -1,19 +1,19 @@
 //! The command `send`: the lines of an input go to a collector.
 ghost use Rattle.std.specs.Prelude.{◌≡◌, ◌≢◌, ◌+◌, ◌≤◌, ℕ, false, [], IfErr};
 ghost use Rattle.beep_journal.specs.declared.role.Role.{Role as RoleValue};
-ghost use Rattle.beep_ends.specs.Ends.{AreFit};
+ghost use Rattle.beep_steps.specs.Ends.{AreFit};
 ghost use Rattle.beep_input.specs.declared.whole.TheConstants.{MAX_INPUT};
 ghost use Rattle.beep_link.specs.declared.ended.Ended.{Ended as EndedValue};
 ghost use Rattle.beep_cmd.specs.Ends.{DialsOnce, seen_of, SendCause, Sent, WritesLawfully};
-ghost use Rattle.beep_cmd.specs.Show.{run_of};
+ghost use Rattle.beep_show.specs.Show.{run_of};
 
 use crate::closing::{finish, finish_unlisted};
 use crate::recorded::record_send;
-use crate::text::LAST_ROOM;
 use beep_ends::{Ended, send_end};
 use beep_input::read_lines;
 use beep_octets::Octets;
 use beep_settings::Settings;
+use beep_show::LAST_ROOM;
 use beep_wires::{Sink, Source, WireError, Wires};
 use prof_raw::Entries;
 use std::alloc::Global;

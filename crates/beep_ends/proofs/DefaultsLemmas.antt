@@ -6,7 +6,7 @@ use Rattle.beep_answering.specs.Sent.{is_uri}
 use Rattle.beep_settings.specs.declared.settings.Settings.{Settings}
 use Rattle.beep_settings.specs.declared.settings.TheConstants.{RAW_URI}
 use Rattle.beep_settings.specs.Defaults.{default_settings}
-use Rattle.beep_ends.specs.Ends.{AreFit}
+use Rattle.beep_steps.specs.Ends.{AreFit}
 use Rattle.beep_ends.proofs.NoteLemmas.{plain}
 
 pub fit-defaults : (s : Settings) → s ≡ default_settings → (idle octets : ℕ) → AreFit (record s { idle = idle; octets = octets })

@@ -2,19 +2,18 @@
 use Rattle.std.proofs.Common.{◌≡◌, ◌∙◌, refl, sym, ap, subst, ℕ, ◌<◌, ◌^◌, ◌==◌, Bool, true, false, not, ◌&&◌, if◌then◌else◌, List, [], ◌∷◌, ◌++◌, map, flat_map, append-nil, append_assoc, arith}
 use Rattle.std.proofs.lemmas.List.{map-append}
 use Rattle.std.proofs.lemmas.Grind.{flat_map-append}
-use Rattle.std.proofs.lemmas.Bool.Decides.{nat_tests}
 use Rattle.beep_frame.specs.declared.head.Head.{Head}
 use Rattle.beep_frame.specs.declared.kind.Kind.{Kind}
 use Rattle.beep_frame.specs.declared.tag.Tag.{Tag}
 use Rattle.beep_frame.specs.Frame.{is_ans, same_kind}
 use Rattle.beep_history.specs.declared.journal.Side.{Side}
-use Rattle.beep_history.specs.Journal.{Item, began, passed, told}
+use Rattle.beep_history.specs.Journal.{Item, passed}
 use Rattle.beep_history.specs.Marks.{Mark, octet, end, marks, frame_marks, tag_of, position_of, mark_modulo_2_64, modulo_2_64}
-use Rattle.beep_history.specs.Messages.{same_tag, left_from, cut_from, gathered}
+use Rattle.beep_history.specs.Messages.{same_tag, left_from, cut_from}
 use Rattle.beep_journal.specs.Lives.{lives}
 use Rattle.beep_journal.specs.Zero.{events}
 use Rattle.beep_journal.specs.Life.{history, is_there, life, life_now, life_under_way}
-use Rattle.beep_journal.proofs.JournalLemmas.{above-there, above-history, above-others}
+use Rattle.beep_journal.proofs.JournalLemmas.{above-there, above-others}
 use Rattle.beep_journal.proofs.MomentLemmas.{same-number, equal-number}
 use Rattle.beep_inbox.specs.Runs.{marks_with}
 use Rattle.beep_speaking.specs.declared.emit.Emit.{Emit}
@@ -26,10 +25,12 @@ use Rattle.beep_talk.specs.Talk.{has_profile}
 use Rattle.beep_mime.specs.Split.{body_of as body_of_message}
 use Rattle.prof_raw.specs.Entries.{entries_of}
 use Rattle.prof_raw.specs.Line.{line_of}
-use Rattle.beep_script.specs.Lines.{lines, heard, heard_at, ends_answer, entries_in, content_with, Heard}
-use Rattle.beep_ends.specs.Listening.{Says, IsServed, ServedAt, AreGathered, ArePruned, Gathers, Takes, so_far, first_answer, arrived_marks}
+use Rattle.beep_script.specs.Lines.{lines, heard, heard_at, ends_answer, entries_in, content_with}
+use Rattle.beep_steps.specs.Steps.{Says, arrived_marks}
+use Rattle.beep_ends.specs.Listening.{IsServed, ServedAt, AreGathered, ArePruned, Gathers, Takes, so_far, first_answer}
 use Rattle.beep_history.proofs.MessagesLemmas.{marks-left}
-use Rattle.beep_ends.proofs.StepLemmas.{Steps, Rests, dead-answer}
+use Rattle.beep_steps.proofs.StepLemmas.{Steps, dead-answer}
+use Rattle.beep_steps.proofs.ArrivedLemmas.{own-marks, turn}
 
 -- ---- what stays
 
@@ -109,7 +110,7 @@ module _ (t : Tag) where
         by true = refl
         by false = refl
 
-frame-with : (u : Tag) (head : Head) (payload : List ℕ) → frame_marks u head payload ≡ marks_with u payload (not head.more)
+pub frame-with : (u : Tag) (head : Head) (payload : List ℕ) → frame_marks u head payload ≡ marks_with u payload (not head.more)
 frame-with u head payload = by head.more
   where
     by : (m : Bool) → map (octet u) payload ++ (if m then [] else end u ∷ []) ≡ map (octet u) payload ++ (if not m then end u ∷ [] else [])
@@ -117,9 +118,6 @@ frame-with u head payload = by head.more
     by false = refl
 
 -- ---- a frame arrives
-
-pub turn : (a b : ℕ) → (a == b) ≡ false → (b == a) ≡ false
-turn a b e = grind (arith, nat_tests)
 
 ans-same : (k : Kind) → same_kind k Kind.Ans ≡ is_ans k
 ans-same Kind.Msg = refl
@@ -163,19 +161,6 @@ module _ (plan : PlainPlan) (head : Head) (payload : List ℕ) (journal : List I
   goes : Bool
   goes = life_under_way head.channel Side.Received journal == life_now head.channel journal
 
-  carried : (past : List Item) → marks Side.Received (passed Side.Received head payload ∷ past) ≡ marks Side.Received past ++ frame_marks (tag_of Side.Received past head) head payload
-  carried past = rw above refl
-
-  pub own-marks : is_there head.channel journal ≡ true → marks Side.Received (history head.channel now) ≡ marks Side.Received (history head.channel journal) ++ arrived_marks head payload journal
-  own-marks there = by (life_under_way head.channel Side.Received journal == life_now head.channel journal) refl
-    where
-      by : (g : Bool) → (life_under_way head.channel Side.Received journal == life_now head.channel journal) ≡ g
-          → marks Side.Received (history head.channel now) ≡ marks Side.Received (history head.channel journal) ++ arrived_marks head payload journal
-      by true e = ap (marks Side.Received) (above-history Side.Received head payload journal above true e) ∙ carried (history head.channel journal)
-          ∙ ap (λ f. marks Side.Received (history head.channel journal) ++ f) (sym (rw (there, e) refl))
-      by false e = ap (marks Side.Received) (above-history Side.Received head payload journal above false e) ∙ sym (append-nil (marks Side.Received (history head.channel journal)))
-          ∙ ap (λ f. marks Side.Received (history head.channel journal) ++ f) (sym (rw (there, e) refl))
-
   arrived-is : is_there head.channel journal ≡ true → (life_under_way head.channel Side.Received journal == life_now head.channel journal) ≡ true
       → arrived_marks head payload journal ≡ frame_marks its_tag head payload
   arrived-is there e = rw (there, e) refl
@@ -197,7 +182,7 @@ module _ (plan : PlainPlan) (head : Head) (payload : List ℕ) (journal : List I
       by true = refl
       by false = ap (λ v. end v ∷ []) e
 
-  small : ServedAt plan (passed Side.Received head payload) journal → map mark_modulo_2_64 (arrived_marks head payload journal) ≡ arrived_marks head payload journal
+  pub small : ServedAt plan (passed Side.Received head payload) journal → map mark_modulo_2_64 (arrived_marks head payload journal) ≡ arrived_marks head payload journal
   small served = by (is_there head.channel journal) (life_under_way head.channel Side.Received journal == life_now head.channel journal) (λ there. tag-small (served above there).1)
     where
       by : (th g : Bool) → (th ≡ true → modulo_2_64 its_tag ≡ its_tag) → map mark_modulo_2_64 (if th && g then frame_marks its_tag head payload else []) ≡ (if th && g then frame_marks its_tag head payload else [])
@@ -282,7 +267,7 @@ module _ (plan : PlainPlan) (head : Head) (payload : List ℕ) (journal : List I
       by-there true e = by-goes e (life_under_way head.channel Side.Received journal == life_now head.channel journal) refl
       by-there false e = rw (dead-answer plan head journal (dead-now e), e) refl
 
-  heard-lines : ServedAt plan (passed Side.Received head payload) journal → lines plan now ≡ lines plan journal ++ flat_map lines_of
+  pub heard-lines : ServedAt plan (passed Side.Received head payload) journal → lines plan now ≡ lines plan journal ++ flat_map lines_of
       (cut_from (so_far head.channel head.ansno journal) (first_answer head.ansno) (arrived_marks head payload journal))
   heard-lines served =
       ap (flat_map line_of) (flat_map-append (λ answer. entries_of (body_of_message answer.content)) (heard plan journal) (heard_at plan (passed Side.Received head payload) journal))
@@ -302,13 +287,6 @@ module _ (plan : PlainPlan) (head : Head) (payload : List ℕ) (journal : List I
           (t.own served.1 (subst (λ m. is_there m journal ≡ true) same there) a
           ∙ ap (left_from (so_far head.channel a journal) (first_answer a)) (small served.0)
           ∙ sym (left-append (first_answer a) [] (marks Side.Received (history head.channel journal)) (arrived_marks head payload journal))
-          ∙ ap (left_from [] (first_answer a)) (sym (own-marks (subst (λ m. is_there m journal ≡ true) same there))))
+          ∙ ap (left_from [] (first_answer a)) (sym (own-marks head payload journal above (subst (λ m. is_there m journal ≡ true) same there))))
       by-own served n a up there false e =
           t.others served.1 n a up e there ∙ ap (λ past. left_from [] (first_answer a) (marks Side.Received past)) (sym (above-others Side.Received head payload journal above n (turn n head.channel e)))
-
--- ---- a part is taken
-
--- the part of an answer to the first request goes on with its body, or ends it; another changes none
-pub record PartOf (head : Head) (part : List Mark) (old new : List Body) : Type 0 where
-  pub own : (ansno : ℕ) → body_of head.channel ansno new ≡ left_from (body_of head.channel ansno old) (first_answer ansno) part
-  pub others : (number ansno : ℕ) → (number == head.channel) ≡ false → body_of number ansno new ≡ body_of number ansno old

@@ -1,12 +1,12 @@
 -- Proofs.
-mod CallLemmas
 mod DefaultsLemmas
-pub mod FitLemmas
-mod NoteLemmas
-mod OnLemmas
-mod StepLemmas
 mod GatherLemmas
-mod TakenLemmas
-mod GoLemmas
-mod PruneLemmas
+mod GivesLemmas
+mod HearLemmas
 mod ListenLemmas
+mod NoteLemmas
+mod PartLemmas
+mod PruneLemmas
+mod SenderLemmas
+pub mod ServingLemmas
+mod TextLemmas

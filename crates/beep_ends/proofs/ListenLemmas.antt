@@ -1,23 +1,33 @@
 -- What a listener stands for, as its session goes on.
-use Rattle.std.proofs.Common.{◌≡◌, ◌∙◌, refl, sym, ap, subst, ℕ, ◌==◌, Bool, true, false, not, ◌&&◌, List, [], ◌++◌, Some, Option}
-use Rattle.std.specs.Prelude.{is_some}
-use Rattle.beep_history.specs.Journal.{Item}
+use Rattle.std.proofs.Common.{◌≡◌, ◌∙◌, refl, sym, ap, subst, ℕ, ◌==◌, Bool, true, false, not, ◌&&◌, ◌||◌, List, [], ◌∷◌, None}
+use Rattle.std.specs.Prelude.{is_some, IfOk, Result, Ok, Err}
+use Rattle.beep_history.specs.Journal.{opening}
+use Rattle.beep_mgmt.specs.Message.{message_said}
+use Rattle.beep_text.specs.Said.{element_said}
+use Rattle.beep_journal.specs.Lives.{Event, is_live}
+use Rattle.beep_journal.specs.Zero.{zero_events}
+use Rattle.beep_journal.specs.declared.role.Role.{Role}
 use Rattle.beep_journal.specs.Life.{is_there}
 use Rattle.beep_journal.specs.Log.{Moment}
-use Rattle.beep_channel.specs.Held.{Live}
 use Rattle.beep_lives.specs.Lives.{live_at}
 use Rattle.beep_speaking.specs.declared.emit.Emit.{Emit}
 use Rattle.beep_session.specs.Session.{Held}
-use Rattle.beep_session.specs.Lawfully.{terms_of}
-use Rattle.beep_talk.specs.Plan.{PlainPlan}
+use Rattle.beep_session.specs.Lawfully.{terms_of, IsLawfulSession}
+use Rattle.beep_session.specs.declared.limits.Limits.{Limits}
+use Rattle.beep_settings.specs.declared.settings.Settings.{Settings}
+use Rattle.beep_standing.specs.Standing.{Marks, no_marks}
+use Rattle.beep_talk.specs.declared.plan.Command.{Command}
 use Rattle.beep_lines.specs.declared.bodies.Body.{Body}
-use Rattle.beep_lines.specs.Bodies.{body_of}
-use Rattle.beep_ends.specs.Logs.{AreTaken, StandsOn, StaysOn}
-use Rattle.beep_ends.specs.Listening.{AreGathered, ArePruned, Gathers, IsServed, Listens, Says, Spoke, first_uri, is_zero_frame, plan_of}
+use Rattle.beep_steps.specs.Ends.{limits_of}
+use Rattle.beep_steps.specs.Logs.{StandsOn, StaysOn, terms_by}
+use Rattle.beep_steps.specs.Steps.{Spoke, is_zero_frame}
+use Rattle.beep_ends.specs.Listening.{AreGathered, ArePruned, Gathers, Listens, ListensDry, first_uri, listener_plan, plan_of}
 use Rattle.beep_ends.specs.Pruning.{HasPruned, has_life}
-use Rattle.beep_ends.proofs.StepLemmas.{Steps, said-steps, said-there}
+use Rattle.beep_steps.proofs.StepLemmas.{said-steps, said-there}
 use Rattle.beep_ends.proofs.GatherLemmas.{gathers-steps, pruned-there, said-served}
-use Rattle.beep_ends.proofs.GoLemmas.{same-journal}
+use Rattle.beep_steps.proofs.GoLemmas.{same-journal}
+use Rattle.beep_logged.proofs.ReadLemmas.{first-logged}
+use Rattle.beep_steps.proofs.TakenLemmas.{from-all}
 
 -- the same plan
 pub same-plan : (old new : Held) → terms_of new ≡ terms_of old → new.offers ≡ old.offers → plan_of new ≡ plan_of old
@@ -72,3 +82,55 @@ zero-listens old new bodies now buffer text before after l said s same p =
       });
       pruned = prunes-all new after s.on bodies now p;
     }
+
+-- ---- before the first octet
+
+-- the implied request says nothing
+says-nothing : message_said [] ≡ None
+unfolding message_said element_said
+says-nothing = refl
+
+no-events : zero_events opening ≡ []
+no-events = rw says-nothing refl
+
+abbrev begins-so : (session : Held) (given : Marks) → IsLawfulSession session [] [] [] given no_marks → StandsOn session []
+begins-so session given s = record { fed = []; rest = []; journal = []; given = given; taken = no_marks; stands = s; framed = tt; logged = first-logged (terms_of session) }
+
+pub begins-listening : (session : Held) (given : Marks) → IsLawfulSession session [] [] [] given no_marks → ListensDry session [] [] [] []
+begins-listening session given s =
+    let on = begins-so session given s in
+    record {
+      listens = record {
+        on = on;
+        taken = from-all session.limits.window [] given no_marks session.peer.lives s.stands.holds.live (λ n above there. absurd (none-there n above there));
+        gathers = record { gathered = λ served n a above there. absurd (none-there n above there); lines = λ served. refl };
+        pruned = λ n a above none. refl;
+      };
+      dry = refl;
+    }
+  where
+    or-none : (z : Bool) → z ≡ false → (z || false) ≡ false
+    or-none true e = absurd (let h : true ≡ false = e in cc)
+    or-none false e = refl
+
+    none-there : (n : ℕ) → (n == 0) ≡ false → is_there n [] ≡ true → ⊥
+    none-there n above there = let h : false ≡ true = sym (ap (λ (es : List Event). n == 0 || is_live n es) no-events ∙ or-none (n == 0) above) ∙ there in cc
+
+pub dry-as : (session now : Held) (bodies : List Body) (buffer : List ℕ) → ListensDry session [] [] [] [] → now ≡ session → bodies ≡ [] → buffer ≡ [] → ListensDry now bodies buffer [] []
+dry-as session now bodies buffer s same b l =
+    subst (λ x. ListensDry x bodies buffer [] []) (sym same) (subst (λ x. ListensDry session x buffer [] []) (sym b) (subst (λ x. ListensDry session [] x [] []) (sym l) s))
+
+pub begun-plan : (session : Held) (settings : Settings) → terms_of session ≡ terms_by Role.Listener settings → session.offers ≡ record { uri = settings.raw_uri; tuning = false } ∷ []
+    → plan_of session ≡ listener_plan settings
+begun-plan session settings t o =
+    ap (λ x. record { command = Command.Listen; terms = x; offers = session.offers; raw_uri = first_uri session.offers; lines = [] }) t
+    ∙ ap (λ x. record { command = Command.Listen; terms = terms_by Role.Listener settings; offers = x; raw_uri = first_uri x; lines = [] }) o
+
+pub terms-begun : (session : Held) (settings : Settings) → session.role ≡ Role.Listener → session.limits ≡ limits_of settings → terms_of session ≡ terms_by Role.Listener settings
+terms-begun session settings r l = ap (λ (x : Role). record { role = x; window = session.limits.window; piece = session.limits.piece }) r
+    ∙ ap (λ (x : Limits). record { role = Role.Listener; window = x.window; piece = x.piece }) l
+
+-- what holds of three holds of one
+pub ok-three : {A E : Type 0} (result : Result A E) (P Q R S : A → Type 0) → ((a : A) → P a → Q a → R a → S a) → IfOk result P → IfOk result Q → IfOk result R → IfOk result S
+ok-three (Ok value) P Q R S f p q r = f value p q r
+ok-three (Err error) P Q R S f p q r = p

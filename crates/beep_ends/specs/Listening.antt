@@ -2,39 +2,39 @@
 -- octets so far of each answer that has come in part, and the lines of those that are whole (RFC
 -- 3195, section 3).
 -- The code keeps no journal, no marks, and no list of the answers that are whole.
-use Rattle.std.specs.Prelude.{◌≡◌, ℕ, ◌+◌, ◌<◌, ◌^◌, ◌==◌, Bool, true, false, ◌&&◌, if◌then◌else◌, List, [], ◌∷◌, ◌++◌, flat_map, length, map, ◌≤◌, Some}
-use Rattle.std.specs.List.{list_any}
+use Rattle.std.specs.Prelude.{◌≡◌, ℕ, ◌+◌, ◌<◌, ◌≤◌, ◌^◌, ◌==◌, Bool, true, false, ◌&&◌, List, [], ◌∷◌, ◌++◌, flat_map, length, map}
 use Rattle.beep_frame.specs.declared.head.Head.{Head}
 use Rattle.beep_frame.specs.declared.kind.Kind.{Kind}
 use Rattle.beep_frame.specs.declared.tag.Tag.{Tag}
+use Rattle.beep_frame.specs.Frame.{same_kind}
 use Rattle.beep_history.specs.declared.journal.Side.{Side}
 use Rattle.beep_history.specs.Journal.{Item, began, passed, told}
-use Rattle.beep_history.specs.Marks.{Mark, frame_marks, marks, mark_modulo_2_64, position_of, tag_of}
+use Rattle.beep_history.specs.Marks.{Mark, marks, mark_modulo_2_64, position_of}
 use Rattle.beep_history.specs.Messages.{cut_from, left_from}
 use Rattle.beep_journal.specs.Broken.{none_tunes}
 use Rattle.beep_journal.specs.Journal.{Past, Shows}
-use Rattle.beep_journal.specs.Life.{history, is_there, life_now, life_under_way}
+use Rattle.beep_journal.specs.declared.role.Role.{Role}
+use Rattle.beep_journal.specs.Life.{history, is_released, is_there, life_now}
 use Rattle.beep_journal.specs.Log.{Moment}
+use Rattle.beep_inbox.specs.declared.part.Part.{Part}
+use Rattle.beep_inbox.specs.Laws.{part_marks}
 use Rattle.beep_decide.specs.Decide.{PlainOffer}
-use Rattle.beep_inbox.specs.Runs.{marks_of as untaken_marks}
-use Rattle.beep_channel.specs.Held.{Live}
-use Rattle.beep_lives.specs.Lives.{live_at}
-use Rattle.beep_hearing.specs.Hears.{ends_zero, is_above}
-use Rattle.beep_speaking.specs.declared.emit.Emit.{Emit}
-use Rattle.beep_session.specs.Looks.{IsTakenAt}
 use Rattle.beep_session.specs.Session.{Held}
 use Rattle.beep_session.specs.Lawfully.{terms_of}
 use Rattle.beep_talk.specs.declared.plan.Command.{Command}
 use Rattle.beep_talk.specs.Plan.{PlainPlan}
-use Rattle.beep_talk.specs.Talk.{has_profile}
+pub use Rattle.beep_served.specs.Served.{ServedAt, IsServed}
 use Rattle.beep_script.specs.EachEnd.{AreWritten}
 use Rattle.beep_script.specs.Lines.{lines}
 use Rattle.beep_lines.specs.declared.bodies.Body.{Body}
 use Rattle.beep_lines.specs.Bodies.{body_of}
 use Rattle.beep_lines.specs.Lines.{lines_of}
 use Rattle.beep_link.specs.declared.ended.Ended.{Ended}
-use Rattle.beep_ends.specs.declared.hearing.Came.{Came as CameValue}
-use Rattle.beep_ends.specs.Logs.{AreTaken, StandsOn, WaitsOn}
+use Rattle.beep_settings.specs.declared.settings.Settings.{Settings}
+use Rattle.beep_wires.specs.Log.{Entry}
+use Rattle.beep_steps.specs.Logs.{moments, terms_by, AreTaken, Shows as ShowsEnd, StandsOn, WaitsOn}
+use Rattle.beep_steps.specs.Serving.{ServesOn, ShowsServing}
+use Rattle.beep_steps.specs.Steps.{arrived_marks, IsUntaken}
 
 -- ---- what is written
 
@@ -53,21 +53,15 @@ plan_of session = record {
   lines = [];
 }
 
--- a frame that passes above channel zero in a live life is of one that began with the profile, and
--- its request has a position that a call tells
-abbrev pub ServedAt : PlainPlan → Item → List Item → Type 0
-ServedAt plan (began by head) journal = Unit {0}
-ServedAt plan (passed Side.Received head payload) journal = (head.channel == 0) ≡ false
-    → is_there head.channel journal ≡ true
-    → (has_profile plan.raw_uri head.channel (life_now head.channel journal) journal ≡ true)
-    × (position_of Side.Received (history head.channel journal) head < 2 ^ 64)
-ServedAt plan (passed Side.Sent head payload) journal = Unit {0}
-ServedAt plan (told by seq) journal = Unit {0}
-
--- each frame did
-abbrev pub IsServed : PlainPlan → List Item → Type 0
-IsServed plan [] = Unit {0}
-IsServed plan (item ∷ journal) = ServedAt plan item journal × IsServed plan journal
+-- what a listener is to do by these settings
+abbrev pub listener_plan : Settings → PlainPlan
+listener_plan settings = record {
+  command = Command.Listen;
+  terms = terms_by Role.Listener settings;
+  offers = record { uri = settings.raw_uri; tuning = false } ∷ [];
+  raw_uri = settings.raw_uri;
+  lines = [];
+}
 
 -- all lines were written where the session ended so, or else a beginning of them
 abbrev pub is_whole : Ended → Bool
@@ -86,11 +80,31 @@ abbrev pub WritesLines : PlainPlan → Bool → List Moment → List ℕ → Typ
 WritesLines plan whole log text = (past : Past) → Shows none_tunes log past
     → IsServed plan past.journal → AreWritten whole (lines plan past.journal) text
 
+-- what the log of a link shows of a listener that ended so, and what it wrote
+pub record TellsLines (plan : PlainPlan) (cause : Ended) (log : List Entry) (text : List ℕ)
+    : Type 0 where
+  pub shows : ShowsEnd plan.terms cause log
+  pub lines : WritesLines plan (is_whole cause) (moments log) text
+
+-- the same, of an end that served its profile alone
+abbrev pub TellsServed : PlainPlan → Ended → List Entry → List ℕ → Type 0
+TellsServed plan cause log text = TellsLines plan cause log text × ShowsServing plan (moments log)
+
+-- what was written is the lines of the session that a log shows, or a beginning of them, whatever
+-- came
+abbrev pub AreLinesOf : PlainPlan → Bool → List Moment → List ℕ → Type 0
+AreLinesOf plan whole log text = (past : Past) → Shows none_tunes log past
+    → AreWritten whole (lines plan past.journal) text
+
 -- ---- what is kept
 
 -- what an answer of this number to the first request is marked with
 abbrev pub first_answer : ℕ → Tag
 first_answer ansno = record { kind = Kind.Ans; request = 0; ansno = ansno }
+
+-- it is that of an answer to the first request
+abbrev pub is_first : Tag → Bool
+is_first tag = same_kind tag.kind Kind.Ans && tag.request == 0
 
 -- the octets so far of an answer to the first request of the live life of a number
 abbrev pub so_far : ℕ → ℕ → List Item → List ℕ
@@ -122,30 +136,26 @@ pub record Listens (session : Held) (bodies : List Body) (buffer : List ℕ) (lo
   pub gathers : Gathers (plan_of session) bodies buffer text on.journal
   pub pruned : ArePruned on.journal bodies
 
--- ---- what goes out, and what comes
+-- the same between two reads: no line is gathered that isn't written
+pub record ListensDry (session : Held) (bodies : List Body) (buffer : List ℕ) (log : List Moment)
+    (text : List ℕ) : Type 0 where
+  pub listens : Listens session bodies buffer log text
+  pub dry : buffer ≡ []
 
--- what an emit adds to a journal
-abbrev pub Says : Emit → List Item → List Item → Type 0
-Says (Emit.Seq seq) old new = new ≡ told Side.Sent seq ∷ old
-Says (Emit.Data head) old new =
-    (payload : List ℕ) × (new ≡ passed Side.Sent head payload ∷ began Side.Sent head ∷ old)
-Says Emit.Nothing old new = new ≡ old
+-- the same, of a session that served its profile alone
+abbrev pub ListensServed : Held → List Body → List ℕ → List Moment → List ℕ → Type 0
+ListensServed session bodies buffer log text =
+    ListensDry session bodies buffer log text × ServesOn (plan_of session) session log
 
--- it is a frame of channel zero
-abbrev pub is_zero_frame : Emit → Bool
-is_zero_frame (Emit.Seq seq) = false
-is_zero_frame (Emit.Data head) = head.channel == 0
-is_zero_frame Emit.Nothing = false
+-- the same while a message of channel zero waits
+pub record ListensWaiting (session : Held) (bodies : List Body) (buffer : List ℕ)
+    (log : List Moment) (text : List ℕ) : Type 0 where
+  pub on : WaitsOn session log
+  pub taken : AreTaken session
+  pub gathers : Gathers (plan_of session) bodies buffer text on.journal
+  pub pruned : ArePruned on.journal bodies
 
 -- ---- a frame that arrives
-
--- the marks that a frame above zero adds to those of its live life
-abbrev pub arrived_marks : Head → List ℕ → List Item → List Mark
-arrived_marks head payload journal =
-    if is_there head.channel journal
-    && life_under_way head.channel Side.Received journal == life_now head.channel journal
-    then frame_marks (tag_of Side.Received (history head.channel journal) head) head payload
-    else []
 
 -- of the frame that arrived last these marks were taken: the bodies have their octets, and the
 -- lines those of the answer that they end
@@ -161,64 +171,34 @@ pub record Takes (plan : PlainPlan) (bodies : List Body) (buffer text : List ℕ
       (cut_from (so_far head.channel head.ansno journal) (first_answer head.ansno) front)
       ≡ text ++ buffer
 
--- a session said this, and stands for what the log shows after it
-pub record Spoke (said : Emit) (old new : Held) (journal : List Item) (after : List Moment)
-    : Type 0 where
-  pub on : StandsOn new after
-  pub says : Says said journal on.journal
-  pub taken : AreTaken old → AreTaken new
-
--- of what a frame brought that arrived last above zero this is untaken, and nothing else above zero
-pub record IsUntaken (number : ℕ) (left : List Mark) (session : Held) : Type 0 where
-  pub own : (channel : Live) → live_at number session.peer.lives ≡ Some channel
-      → untaken_marks channel.held.inbox ≡ left
-  pub others : (n : ℕ) → (n == number) ≡ false → IsTakenAt n session.peer.lives
-
--- some items came, of which none ends a message of channel zero or is a frame above it
-pub record Came (gained journal now : List Item) : Type 0 where
-  pub journal_is : now ≡ gained ++ journal
-  pub quiet : list_any ends_zero gained ≡ false
-  pub none_above : list_any is_above gained ≡ false
-
--- no frame above zero came
-pub record CameMore (old new : Held) (journal : List Item) (after : List Moment) : Type 0 where
-  pub on : StandsOn new after
-  pub gained : List Item
-  pub came : Came gained journal on.journal
-  pub taken : AreTaken old → AreTaken new
-
--- one of this channel did, last
-pub record CameFrame (number : ℕ) (old new : Held) (journal : List Item) (after : List Moment)
-    : Type 0 where
-  pub on : StandsOn new after
-  pub gained : List Item
+-- the same while a frame of this number, which arrived last, is taken: of its marks some were taken,
+-- by so many parts at most, and the others are left
+pub record ListensTaking (number count : ℕ) (session : Held) (bodies : List Body)
+    (buffer : List ℕ) (log : List Moment) (text : List ℕ) : Type 0 where
+  pub on : StandsOn session log
   pub before : List Item
   pub head : Head
   pub payload : List ℕ
   pub journal_is : on.journal ≡ passed Side.Received head payload ∷ before
-  pub came : Came gained journal before
   pub channel : head.channel ≡ number
   pub above : (head.channel == 0) ≡ false
-  pub framed : length payload ≤ 2147483647
-  pub untaken : AreTaken old
-      → IsUntaken head.channel (map mark_modulo_2_64 (arrived_marks head payload before)) new
+  pub going : is_released on.journal ≡ false
+  pub front : List Mark
+  pub left : List Mark
+  pub marks_are : map mark_modulo_2_64 (arrived_marks head payload before) ≡ front ++ left
+  pub few : count + length left ≤ 2147483648
+  pub untaken : IsUntaken head.channel left session
+  pub takes : Takes (plan_of session) bodies buffer text head front before
+  pub pruned : ArePruned before bodies
 
--- a message of channel zero did, which waits
-pub record CameZero (old new : Held) (journal : List Item) (after : List Moment) : Type 0 where
-  pub waits : WaitsOn new after
-  pub gained : List Item
-  pub came : Came gained journal waits.journal
-  pub taken : AreTaken old → AreTaken new
+-- a part of an answer to the first request goes on with its body, or ends it; another changes none
+pub record PartOf (number : ℕ) (part : List Mark) (old new : List Body) : Type 0 where
+  pub own : (ansno : ℕ) → body_of number ansno new
+      ≡ left_from (body_of number ansno old) (first_answer ansno) part
+  pub others : (n ansno : ℕ) → (n == number) ≡ false → body_of n ansno new ≡ body_of n ansno old
 
--- what came of some octets
-abbrev pub ComesSo : CameValue → Held → Held → List Item → List Moment → Type 0
-ComesSo CameValue.More old new journal after = CameMore old new journal after
-ComesSo (CameValue.Arrived number) old new journal after = CameFrame number old new journal after
-ComesSo CameValue.Zero old new journal after = CameZero old new journal after
-
--- a message of channel zero was settled
-pub record SettledOn (old new : Held) (head : Head) (payload : List ℕ) (journal : List Item)
-    (log : List Moment) : Type 0 where
-  pub on : StandsOn new log
-  pub journal_is : on.journal ≡ passed Side.Received head payload ∷ journal
-  pub taken : AreTaken old → AreTaken new
+-- the lines of the answer that a part ends, whose octets are the first of these
+abbrev pub part_lines : ℕ → Part → List ℕ → List Body → List ℕ
+part_lines number part octets bodies = flat_map lines_of
+    (cut_from (body_of number part.tag.ansno bodies) (first_answer part.tag.ansno)
+    (part_marks part octets))

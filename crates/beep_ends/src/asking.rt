@@ -1,15 +1,17 @@
 //! What a listener says on its channels: it asks for lines, and refuses what is asked (RFC 3195,
 //! section 3.1).
 ghost use Rattle.std.specs.Prelude.{◌≡◌, ◌<◌, length, IfSome};
-ghost use Rattle.beep_ends.specs.Logs.{StaysOn};
+ghost use Rattle.beep_talk.specs.Plan.{PlainPlan};
+ghost use Rattle.beep_steps.specs.Logs.{StaysOn};
+ghost use Rattle.beep_steps.specs.Serving.{KeepsServing};
 
-use crate::hearing::is_open;
 use beep_channel::AskError;
 use beep_chars::Text;
 use beep_mgmt::{Mgmt, write_mgmt};
 use beep_octets::{NoMemory, Octets};
 use beep_outbox::GiveError;
 use beep_session::{Duty, Session};
+use beep_steps::is_open;
 use std::alloc::Global;
 
 /// What a listener asks on each channel: an empty MIME header and a word of its own.
@@ -38,6 +40,7 @@ pub(crate) fn first_live(session: &Session, numbers: &[u32]) -> Option<usize>
 /// Asks for lines on a channel. Once the peer closes the session nothing is asked.
 pub(crate) fn ask_lines(session: &mut Session, number: u32) -> Result<(), NoMemory>
     ensures stays { StaysOn session.old session.new }
+    ensures serving { (plan : PlainPlan) → KeepsServing plan session.old session.new }
 {
     if session.zero_waits() {
         return Ok(());
@@ -59,6 +62,7 @@ pub(crate) fn refuse_oldest(
     refusal: &[u8],
 ) -> Result<bool, NoMemory>
     ensures stays { StaysOn session.old session.new }
+    ensures serving { (plan : PlainPlan) → KeepsServing plan session.old session.new }
 {
     if !is_open(session, number) {
         return Ok(true);

@@ -3,8 +3,6 @@
 #![tactic(auto)]
 
 mod asking;
-mod fit;
-mod hearing;
 mod listener;
 mod listening;
 mod pruning;
@@ -14,6 +12,6 @@ mod sender;
 mod sending;
 
 pub use beep_link::Ended;
-pub use fit::are_fit;
+pub use beep_steps::are_fit;
 pub use listening::listen_end;
 pub use sending::send_end;

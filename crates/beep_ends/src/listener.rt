@@ -1,22 +1,21 @@
 //! What a listener does as messages come and go: it asks for lines on each channel, and writes the
 //! lines of each answer (RFC 3195, section 3.1).
-ghost use Rattle.std.specs.Prelude.{◌≡◌, ◌≤◌, ◌∷◌, [], ℕ, List, vec_len, IfErr, IfOk, OnOk};
+ghost use Rattle.std.specs.Prelude.{◌≡◌, ◌≤◌, ◌∷◌, ◌++◌, [], ℕ, List, vec_len, IfErr, IfOk, OnOk};
 ghost use Rattle.beep_wires.specs.Counts.{Rose};
 ghost use Rattle.beep_wires.specs.Log.{Entry, read as came};
 ghost use Rattle.beep_journal.specs.Log.{Moment, put_all};
-ghost use Rattle.beep_session.specs.Lawfully.{terms_of};
-ghost use Rattle.beep_lawful.specs.declared.terms.Terms.{Terms as TermsValue};
+ghost use Rattle.beep_talk.specs.Plan.{PlainPlan};
 ghost use Rattle.beep_link.specs.Causes.{ended_by, WithText};
 ghost use Rattle.beep_link.specs.declared.end.TheConstants.{FRAME_ROOM};
 ghost use Rattle.beep_link.specs.declared.ended.Stop.{Stop as StopValue};
 ghost use Rattle.beep_ends.specs.declared.listener.TheConstants.{TAKEN};
-ghost use Rattle.beep_ends.specs.Listening.{Listens, plan_of};
-ghost use Rattle.beep_ends.specs.Logs.{moments, Shows, StandsOn, StaysOn};
+ghost use Rattle.beep_ends.specs.Listening.{plan_of, Listens, ListensServed, TellsServed};
+ghost use Rattle.beep_steps.specs.Logs.{moments, StaysOn};
+ghost use Rattle.beep_steps.specs.Serving.{KeepsServing, ServesOn};
 
 mod hearing;
 
 use crate::asking::{ask_lines, first_live, refusal_text, refuse_oldest};
-use crate::hearing::say_next;
 use crate::pruning::prune;
 use beep_frame::Head;
 use beep_lines::{Bodies, Lines};
@@ -24,6 +23,7 @@ use beep_link::{BUFFER, End, FRAME_ROOM, Stop};
 use beep_octets::{NoMemory, Octets};
 use beep_session::Session;
 use beep_speaking::Emit;
+use beep_steps::say_next;
 use beep_wires::Sink;
 use std::alloc::Global;
 
@@ -66,13 +66,14 @@ impl Listener {
     /// Says what goes next, does what that calls for, and tells whether anything was said.
     fn say(&mut self, out: &mut Octets) -> Result<bool, NoMemory>
         requires room { FRAME_ROOM ≤ out.old.spare }
-        ensures said { (log : List Moment) → StandsOn self.old.session (put_all out.old.octets log)
-            → StandsOn self.new.session (put_all out.new.octets log) }
         ensures listens { (log : List Moment) (text : List ℕ)
             → Listens self.old.session self.old.bodies self.old.lines.octets.octets
             (put_all out.old.octets log) text
             → Listens self.new.session self.new.bodies self.new.lines.octets.octets
             (put_all out.new.octets log) text }
+        ensures serving { (plan : PlainPlan) (log : List Moment)
+            → ServesOn plan self.old.session (put_all out.old.octets log)
+            → ServesOn plan self.new.session (put_all out.new.octets log) }
         ensures plan { plan_of self.new.session ≡ plan_of self.old.session }
         ensures lines { self.new.lines ≡ self.old.lines }
     {
@@ -93,6 +94,8 @@ impl Listener {
     /// begins one at most, the lines are asked for.
     fn begun(&mut self, head: &Head) -> Result<bool, NoMemory>
         ensures stays { StaysOn self.old.session self.new.session }
+        ensures serving { (plan : PlainPlan)
+            → KeepsServing plan self.old.session self.new.session }
         ensures bodies { self.new.bodies ≡ self.old.bodies }
         ensures lines { self.new.lines ≡ self.old.lines }
     {
@@ -112,6 +115,8 @@ impl Listener {
     /// Refuses what found no room before, and tells whether that was done.
     fn refill(&mut self) -> Result<bool, NoMemory>
         ensures stays { StaysOn self.old.session self.new.session }
+        ensures serving { (plan : PlainPlan)
+            → KeepsServing plan self.old.session self.new.session }
         ensures bodies { self.new.bodies ≡ self.old.bodies }
         ensures lines { self.new.lines ≡ self.old.lines }
     {
@@ -126,6 +131,8 @@ impl Listener {
     /// Refuses the oldest request of a channel. One that finds no room waits.
     fn refuse(&mut self, number: u32) -> Result<(), NoMemory>
         ensures stays { StaysOn self.old.session self.new.session }
+        ensures serving { (plan : PlainPlan)
+            → KeepsServing plan self.old.session self.new.session }
         ensures bodies { self.new.bodies ≡ self.old.bodies }
         ensures lines { self.new.lines ≡ self.old.lines }
     {
@@ -139,23 +146,28 @@ impl Listener {
 }
 
 impl End for Listener {
-    ghost use Rattle.beep_ends.specs.Turning.{closes_on, quiets_on, stops_on, writes_on};
+    ghost use Rattle.beep_ends.specs.Turning.{closes_served, quiets_served, stops_served, writes_served};
 
-    ghost Terms = { TermsValue };
+    ghost Terms = { PlainPlan };
 
-    ghost terms = { λ listener. terms_of listener.session };
+    ghost terms = { λ listener. plan_of listener.session };
 
-    ghost stands = { λ one log octets _. StandsOn one.session (put_all octets (moments log)) };
+    ghost stands = { λ one log octets text. ListensServed one.session one.bodies
+        one.lines.octets.octets (put_all octets (moments log)) text };
 
-    ghost tells = { λ terms ended log _. Shows terms ended log };
+    ghost tells = { λ plan ended log text. TellsServed plan ended log text };
 
-    ghost writes = { λ one log front octets _ s. writes_on one.session log front octets s };
+    ghost writes = { λ one log front octets text s. writes_served one.session one.bodies
+        one.lines.octets.octets log front octets text s };
 
-    ghost quiets = { λ listener log _ s. quiets_on listener.session log s };
+    ghost quiets = { λ one log text s. quiets_served one.session one.bodies
+        one.lines.octets.octets log text s };
 
-    ghost closes = { λ listener log _ s. closes_on listener.session log s };
+    ghost closes = { λ one log text s. closes_served one.session one.bodies
+        one.lines.octets.octets log text s };
 
-    ghost stops = { λ one log octets _ ended is s. stops_on one.session log octets ended is s };
+    ghost stops = { λ one log octets text ended is s. stops_served one.session one.bodies
+        one.lines.octets.octets log octets text s ended is };
 
     fn gather(&mut self, out: &mut Octets) -> Result<bool, NoMemory> {
         let is_given = self.refill()?;
@@ -171,17 +183,20 @@ impl End for Listener {
     }
 
     fn hear<O: Sink>(&mut self, bytes: &[u8], output: &mut O) -> Result<(), Stop>
-        ensures heard { (log : List Entry) (text : List ℕ)
-            → StandsOn self.old.session (moments log) → OnOk result
+        ensures heard { (log : List Entry) (text : List ℕ) → ListensServed self.old.session
+            self.old.bodies self.old.lines.octets.octets (moments log) text → OnOk result
             (WithText (O.state output.old).written (O.state output.new).written
-            (λ _. StandsOn self.new.session (moments (came bytes.now ∷ log)))) }
-        ensures stopped { (log : List Entry) (text : List ℕ)
-            → StandsOn self.old.session (moments log) → IfErr result (λ stop.
+            (λ more. ListensServed self.new.session self.new.bodies self.new.lines.octets.octets
+            (moments (came bytes.now ∷ log)) (text ++ more))) }
+        ensures stopped { (log : List Entry) (text : List ℕ) → ListensServed self.old.session
+            self.old.bodies self.old.lines.octets.octets (moments log) text
+            → IfErr result (λ stop.
             WithText (O.state output.old).written (O.state output.new).written
-            (λ _. Shows (terms_of self.old.session) (ended_by stop) (came bytes.now ∷ log))) }
+            (λ more. TellsServed (plan_of self.old.session) (ended_by stop)
+            (came bytes.now ∷ log) (text ++ more))) }
         ensures failed { IfErr result (λ stop. stop ≡ StopValue.WriteFault
             → Rose (O.state output.old).faults (O.state output.new).faults) }
-        ensures terms { terms_of self.new.session ≡ terms_of self.old.session }
+        ensures terms { plan_of self.new.session ≡ plan_of self.old.session }
         ensures kept { (O.state output.old).faults ≤ (O.state output.new).faults }
     {
         let heard = self.hear_all(bytes, output);

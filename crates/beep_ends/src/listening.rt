@@ -1,16 +1,15 @@
 //! A listener over one link.
-ghost use Rattle.std.specs.Prelude.{◌≡◌, ◌≤◌, ◌+◌, ◌*◌, [], map, true, IfOk, OnOk};
+ghost use Rattle.std.specs.Prelude.{◌≡◌, ◌≤◌, ◌+◌, ◌*◌, ◌∷◌, [], map, false, true, IfOk, OnOk};
 ghost use Rattle.std.specs.List.{list_all};
 ghost use Rattle.beep_answering.specs.Decided.{NoneTunes};
 ghost use Rattle.beep_answering.specs.Sent.{is_uri};
 ghost use Rattle.beep_decide.specs.Plain.{plain_offer};
 ghost use Rattle.beep_journal.specs.declared.role.Role.{Role as RoleValue};
-ghost use Rattle.beep_session.specs.Lawfully.{terms_of};
-ghost use Rattle.beep_link.specs.Causes.{IsCaused, IsUnused, IsWritten, Keeps, WhereTold};
-ghost use Rattle.beep_ends.specs.Ends.{AreFit, reads_of};
-ghost use Rattle.beep_ends.specs.Logs.{IsLawfulOn, Shows, StandsOn, terms_by};
+ghost use Rattle.beep_link.specs.Causes.{IsBounded, IsCaused, IsUnused, IsWritten, Keeps, WhereTold, WithText};
+ghost use Rattle.beep_ends.specs.Listening.{is_whole, listener_plan, plan_of, AreLinesOf, ListensServed};
+ghost use Rattle.beep_steps.specs.Ends.{AreFit, reads_of};
+ghost use Rattle.beep_steps.specs.Logs.{moments, IsLawfulOn, Shows, terms_by};
 
-use crate::fit::{limits_of, reads_of};
 use crate::listener::Listener;
 use beep_answering::Offers;
 use beep_chars::Text;
@@ -20,6 +19,7 @@ use beep_link::{Ended, run_turns};
 use beep_octets::NoMemory;
 use beep_session::Session;
 use beep_settings::Settings;
+use beep_steps::{limits_of, reads_of};
 use beep_wires::{Sink, Wires};
 use std::alloc::Global;
 
@@ -44,7 +44,14 @@ pub fn listen_end<W: Wires, O: Sink>(
     ensures told { WhereTold (Shows (terms_by RoleValue.Listener settings.now) result)
         (W.state wires.new link).log }
 
-    // What stays, and how often is read.
+    // What was written is the lines that came, or a beginning of them.
+    ensures lines { WhereTold (λ log.
+        WithText (O.state output.old).written (O.state output.new).written
+        (AreLinesOf (listener_plan settings.now) (is_whole result) (moments log)))
+        (W.state wires.new link).log }
+
+    // What stays, and how much and how often is read.
+    ensures bounded { IsBounded (reads_of settings.now) (W.state wires.new link).log }
     ensures keeps { Keeps link
         (record {
           state = W.state wires.old;
@@ -78,9 +85,10 @@ pub fn listen_end<W: Wires, O: Sink>(
 /// A listener that offers the profile RAW.
 fn begin(alloc: Global, settings: &Settings) -> Result<Listener, NoMemory>
     requires fit { AreFit settings.now }
-    ensures stands { IfOk result (λ listener. StandsOn listener.session []) }
-    ensures terms { IfOk result (λ listener.
-        terms_of listener.session ≡ terms_by RoleValue.Listener settings.now) }
+    ensures stands { IfOk result (λ listener. ListensServed listener.session listener.bodies
+        listener.lines.octets.octets [] []) }
+    ensures plan { IfOk result (λ listener.
+        plan_of listener.session ≡ listener_plan settings.now) }
 {
     let offers = one_offer(alloc, &settings.raw_uri)?;
     let session = Session::new(alloc, Role::Listener, offers, limits_of(settings))?;
@@ -92,6 +100,8 @@ fn one_offer(alloc: Global, uri: &Text) -> Result<Offers, NoMemory>
     requires uri { is_uri uri.now ≡ true }
     ensures uris { IfOk result (λ offers. list_all (λ offer. is_uri offer.uri) offers ≡ true) }
     ensures none { IfOk result (λ offers. NoneTunes (map plain_offer offers)) }
+    ensures value { IfOk result (λ offers. map plain_offer offers
+        ≡ record { uri = uri.now; tuning = false } ∷ []) }
 {
     let mut offers = Offers::new(alloc);
     offers.push(Offer {

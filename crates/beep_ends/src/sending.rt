@@ -1,13 +1,13 @@
 //! A sender over one link.
 ghost use Rattle.std.specs.Prelude.{◌≡◌, ◌≢◌, ◌≤◌, ◌+◌, ◌*◌, [], IfOk};
 ghost use Rattle.beep_journal.specs.declared.role.Role.{Role as RoleValue};
-ghost use Rattle.beep_session.specs.Lawfully.{terms_of};
 ghost use Rattle.beep_link.specs.Causes.{IsCaused, IsUnused, Keeps, WhereTold};
 ghost use Rattle.beep_link.specs.declared.ended.Ended.{Ended as EndedValue};
-ghost use Rattle.beep_ends.specs.Ends.{AreFit, reads_of};
-ghost use Rattle.beep_ends.specs.Logs.{IsLawfulOn, Shows, StandsOn, terms_by};
+ghost use Rattle.beep_steps.specs.Ends.{AreFit, reads_of};
+ghost use Rattle.beep_steps.specs.Logs.{IsLawfulOn, Shows, terms_by};
+ghost use Rattle.beep_steps.specs.Sending.{sender_plan, SendsAll};
+ghost use Rattle.beep_ends.specs.Sender.{plan_of, SendsBy};
 
-use crate::fit::{limits_of, reads_of};
 use crate::sender::Sender;
 use beep_answering::Offers;
 use beep_journal::Role;
@@ -15,6 +15,8 @@ use beep_link::{Ended, run_turns};
 use beep_octets::NoMemory;
 use beep_session::Session;
 use beep_settings::Settings;
+use beep_steps::laws::what_a_sender_asks_is_read;
+use beep_steps::{limits_of, reads_of};
 use beep_wires::{NullSink, Wires};
 use prof_raw::Entries;
 use std::alloc::Global;
@@ -39,6 +41,10 @@ pub fn send_end<W: Wires>(
         (W.state wires.new link).log }
     ensures told { WhereTold (Shows (terms_by RoleValue.Initiator settings.now) result)
         (W.state wires.new link).log }
+
+    // Where the session is released all was sent.
+    ensures sent { result ≡ EndedValue.Released → WhereTold
+        (SendsAll (sender_plan settings.now lines.now)) (W.state wires.new link).log }
 
     // What stays, and how often is read.
     ensures keeps { Keeps link
@@ -78,12 +84,12 @@ fn begin<'l>(
     lines: &'l Entries,
 ) -> Result<Sender<'l>, NoMemory>
     requires fit { AreFit settings.now }
-    ensures stands { IfOk result (λ sender. StandsOn sender.session []) }
-    ensures terms { IfOk result (λ sender.
-        terms_of sender.session ≡ terms_by RoleValue.Initiator settings.now) }
+    ensures stands { IfOk result (λ sender. SendsBy sender []) }
+    ensures plan { IfOk result (λ sender. plan_of sender ≡ sender_plan settings.now lines.now) }
 {
     let offers = Offers::new(alloc);
     let session = Session::new(alloc, Role::Initiator, offers, limits_of(settings))?;
+    what_a_sender_asks_is_read();
     Sender::new(alloc, session, &settings.raw_uri, lines)
 }
 

@@ -128,6 +128,10 @@ TellsLeft reads left None = Unit {0}
 TellsLeft reads left (Some log) =
     (octets_read log + left.octets ≡ reads.octets) × (left.quiets ≤ quiet_reads log)
 
+-- a log that is known shows no more octets read than may be
+abbrev pub IsBounded : Reads → Option (List Entry) → Type 0
+IsBounded reads log = WhereTold (λ known. octets_read known ≤ reads.octets) log
+
 -- since there were so many quiet reads the count rose, where one of the latest reads was quiet
 pub record CountsQuiet (before : ℕ) (left : Left) (quiets : ℕ) : Type 0 where
   pub kept : before ≤ quiets

@@ -1,7 +1,7 @@
 //! The turns over a link.
 ghost use Rattle.std.specs.Prelude.{◌≡◌, ◌≤◌, ◌<◌, ◌+◌, ◌*◌, ℕ, [], List, Option, true, false, OnOk, IfErr, vec_len};
 ghost use Rattle.beep_wires.specs.Links.{Link};
-ghost use Rattle.beep_link.specs.Causes.{CountsQuiet, IsCaused, IsUnused, IsWritten, Keeps, reads_left, TellsLeft, WhereTold, WithText};
+ghost use Rattle.beep_link.specs.Causes.{CountsQuiet, IsBounded, IsCaused, IsUnused, IsWritten, Keeps, reads_left, TellsLeft, WhereTold, WithText};
 ghost use Rattle.beep_link.specs.declared.buffers.TheConstants.{BUFFER};
 
 use crate::buffers::{BUFFER, Buffers};
@@ -49,6 +49,7 @@ pub fn run_turns<E: End, W: Wires, O: Sink>(
     ensures kept { (O.state output.old).faults ≤ (O.state output.new).faults }
     ensures reads { (W.state wires.new link).reads ≤ (W.state wires.old link).reads
         + (reads.octets * (reads.idle + 1) + reads.idle + 1) }
+    ensures bounded { IsBounded reads (W.state wires.new link).log }
 {
     let Ok(mut buffers) = Buffers::new(alloc) else {
         return Ended::NoMemory;
@@ -89,6 +90,7 @@ fn turn<E: End, W: Wires, O: Sink>(
     ensures going { OnOk result ((W.state wires.new link).has_ended ≡ false) }
     ensures falls { OnOk result (reads_left reads left.new < reads_left reads left.old) }
     ensures told { OnOk result (TellsLeft reads left.new (W.state wires.new link).log) }
+    ensures bounded { IsBounded reads (W.state wires.new link).log }
     ensures counted { (before : ℕ) → CountsQuiet before left.old (W.counts wires.old).quiets
         → OnOk result (CountsQuiet before left.new (W.counts wires.new).quiets) }
     ensures caused { (before : Link) (quiets : ℕ) → before.faults ≤ (W.state wires.old link).faults

@@ -15,7 +15,7 @@ use Rattle.beep_recorder.specs.Said.{log_said}
 use Rattle.beep_logged.specs.Logged.{IsSound}
 use Rattle.beep_link.specs.declared.ended.Ended.{Ended}
 use Rattle.beep_link.specs.Causes.{octets_read}
-use Rattle.beep_ends.specs.Logs.{moments, IsLawfulOn, Shows, ShowsFault, StopsInRead}
+use Rattle.beep_steps.specs.Logs.{moments, IsLawfulOn, Shows, ShowsFault, StopsInRead}
 use Rattle.beep_runs.specs.Replayed.{IsUnwritten, IsOfLastRead, IsFineBefore, IsReplayedTo}
 use Rattle.beep_runs.proofs.GotLemmas.{gots, gots-got_all, gots-put_all, in-read, knows}
 

@@ -10,8 +10,8 @@ use Rattle.beep_journal.specs.declared.role.Role.{Role}
 use Rattle.beep_settings.specs.declared.settings.Settings.{Settings}
 use Rattle.beep_link.specs.declared.ended.Ended.{Ended}
 use Rattle.beep_link.specs.Causes.{IsCaused, Seen, WhereTold}
-use Rattle.beep_ends.specs.Ends.{reads_of}
-use Rattle.beep_ends.specs.Logs.{IsLawfulOn, Shows, terms_by}
+use Rattle.beep_steps.specs.Ends.{reads_of}
+use Rattle.beep_steps.specs.Logs.{IsLawfulOn, Shows, terms_by}
 use Rattle.beep_recorder.specs.Kept.{RecordsLink}
 
 -- what is known of links

@@ -7,7 +7,7 @@ ghost use Rattle.beep_record.specs.declared.verdict.Verdict.{Verdict};
 ghost use Rattle.beep_record.specs.Verdicts.{Replays};
 ghost use Rattle.beep_recorder.specs.Said.{log_said};
 ghost use Rattle.beep_link.specs.declared.ended.Ended.{Ended};
-ghost use Rattle.beep_ends.specs.Logs.{IsLawfulOn, Shows};
+ghost use Rattle.beep_steps.specs.Logs.{IsLawfulOn, Shows};
 ghost use Rattle.beep_runs.specs.Replayed.{IsUnwritten, IsReplayedTo};
 
 /// Where what was written on a link is lawful, the log of the link is never replayed to a rule that

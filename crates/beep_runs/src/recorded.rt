@@ -3,7 +3,7 @@ ghost use Rattle.std.specs.Prelude.{◌≡◌, ◌≢◌, ◌⊎◌, ℕ, List, 
 ghost use Rattle.beep_journal.specs.declared.role.Role.{Role as RoleValue};
 ghost use Rattle.beep_link.specs.declared.ended.Ended.{Ended as EndedValue};
 ghost use Rattle.beep_wires.specs.Links.{accept, dial};
-ghost use Rattle.beep_ends.specs.Ends.{AreFit};
+ghost use Rattle.beep_steps.specs.Ends.{AreFit};
 ghost use Rattle.beep_recorder.specs.Kept.{Recording, RecordsKnown};
 ghost use Rattle.beep_runs.specs.Runs.{AsksThis, IsRecorded, NotGiven, Ran, seen_of};
 
@@ -105,7 +105,10 @@ fn send_through<W: Wires, K: Known>(
 ) -> Result<Ended, Ended>
     requires fit { AreFit settings.now }
     requires known { K.known
-        ≡ Some (record { first = (W.counts recorder.old.wires.now).given; role = RoleValue.Initiator }) }
+        ≡ Some (record {
+          first = (W.counts recorder.old.wires.now).given;
+          role = RoleValue.Initiator;
+        }) }
     ensures same_reference { recorder.new.wires.ghost_name ≡ recorder.old.wires.ghost_name }
     ensures ran { IfOk result (λ ended. Ran RoleValue.Initiator settings.now ended
         (seen_of (W.state recorder.old.wires.now) (W.counts recorder.old.wires.now)
@@ -116,7 +119,8 @@ fn send_through<W: Wires, K: Known>(
         (seen_of (W.state recorder.old.wires.now) (W.counts recorder.old.wires.now)
         (W.asked recorder.old.wires.now) (W.lent recorder.old.wires.now))
         (seen_of (W.state recorder.new.wires.now) (W.counts recorder.new.wires.now)
-        (W.asked recorder.new.wires.now) (W.lent recorder.new.wires.now)) out.old.octets out.new.octets) }
+        (W.asked recorder.new.wires.now) (W.lent recorder.new.wires.now))
+        out.old.octets out.new.octets) }
     ensures failed { IfErr result (λ ended. NotGiven ended
         (W.counts recorder.old.wires.now).dials (W.counts recorder.new.wires.now).dials
         (seen_of (W.state recorder.old.wires.now) (W.counts recorder.old.wires.now)
@@ -224,7 +228,10 @@ fn listen_through<W: Wires, K: Known>(
 ) -> Result<Ended, Ended>
     requires fit { AreFit settings.now }
     requires known { K.known
-        ≡ Some (record { first = (W.counts recorder.old.wires.now).given; role = RoleValue.Listener }) }
+        ≡ Some (record {
+          first = (W.counts recorder.old.wires.now).given;
+          role = RoleValue.Listener;
+        }) }
     ensures same_reference { recorder.new.wires.ghost_name ≡ recorder.old.wires.ghost_name }
     ensures ran { IfOk result (λ ended. Ran RoleValue.Listener settings.now ended
         (seen_of (W.state recorder.old.wires.now) (W.counts recorder.old.wires.now)
@@ -235,7 +242,8 @@ fn listen_through<W: Wires, K: Known>(
         (seen_of (W.state recorder.old.wires.now) (W.counts recorder.old.wires.now)
         (W.asked recorder.old.wires.now) (W.lent recorder.old.wires.now))
         (seen_of (W.state recorder.new.wires.now) (W.counts recorder.new.wires.now)
-        (W.asked recorder.new.wires.now) (W.lent recorder.new.wires.now)) out.old.octets out.new.octets) }
+        (W.asked recorder.new.wires.now) (W.lent recorder.new.wires.now))
+        out.old.octets out.new.octets) }
     ensures failed { IfErr result (λ ended. NotGiven ended
         (W.counts recorder.old.wires.now).accepts (W.counts recorder.new.wires.now).accepts
         (seen_of (W.state recorder.old.wires.now) (W.counts recorder.old.wires.now)

@@ -101,7 +101,7 @@ first-where true item past is = first-later item past is
 first-where false item past is = is
 
 -- the implied one has passed
-first-whole : (journal : List Item) → is_whole Side.Sent 0 (zero_history journal) ≡ true
+pub first-whole : (journal : List Item) → is_whole Side.Sent 0 (zero_history journal) ≡ true
 first-whole [] = refl
 first-whole (item ∷ journal) = first-where (channel_of item == 0) item (zero_history journal) (first-whole journal)
 
@@ -114,7 +114,7 @@ last-false false b c is = refl
 last-false true false c is = refl
 
 -- so that a further one isn't implied
-own-place : (past : List Item) (head : Head) → KeepsExchangeRules past → under_way Side.Sent past ≡ Some head → is_msg head.kind ≡ true
+pub own-place : (past : List Item) (head : Head) → KeepsExchangeRules past → under_way Side.Sent past ≡ Some head → is_msg head.kind ≡ true
     → is_whole Side.Sent 0 past ≡ true → is_implied Side.Sent past head ≡ false
 own-place past head keeps under msg whole =
     let s = sound Side.Sent past keeps in
@@ -161,7 +161,7 @@ pub record SaysRelease (ms : List Mark) : Type 0 where
 pub says-more : (xs ys : List Mark) → SaysRelease xs → SaysRelease (xs ++ ys)
 says-more xs ys s = record { piece = s.piece; is_in = in-front s.piece xs ys s.is_in; msg = s.msg; says = s.says }
 
-says-nothing : message_said [] ≡ None
+pub says-nothing : message_said [] ≡ None
 unfolding message_said element_said
 says-nothing = refl
 

@@ -93,7 +93,7 @@ ok-late terms journal head payload is =
     Breach.Apart Breach.Rule Breach.OkTooSoon
     (drop 1 (content_tests terms none_tunes journal (request_said journal head payload) (granted_position journal head) (granted_said journal head))) is
 
-said-granted : (journal : List Item) (head : Head) → (head.channel == 0) ≡ true → same_kind Kind.Rpy head.kind ≡ true → not head.more ≡ true
+pub said-granted : (journal : List Item) (head : Head) → (head.channel == 0) ≡ true → same_kind Kind.Rpy head.kind ≡ true → not head.more ≡ true
     → granted_said journal head ≡ said_to Side.Sent head (zero_history journal)
 said-granted journal head zero rpy last = rw (zero, rpy, last) refl
 

@@ -2,7 +2,7 @@ mod DeskLemmas
 mod GoLemmas
 mod GrowLemmas
 mod SettledLemmas
-mod SentLemmas
+pub mod SentLemmas
 mod OnceLemmas
 mod WholeLemmas
 mod SendLemmas
@@ -12,3 +12,7 @@ mod ReleaseLemmas
 mod GrantLemmas
 mod ReplyLemmas
 mod OrderLemmas
+pub mod RequestedLemmas
+pub mod StartedLemmas
+pub mod LineLemmas
+pub mod OwnLemmas

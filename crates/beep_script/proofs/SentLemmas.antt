@@ -56,10 +56,10 @@ any-right p xs ys is = list_any-append p xs ys ∙ or-right (list_any p xs) (lis
 pub none-both : {X : Type 0} (p : X → Bool) (xs ys : List X) → list_any p xs ≡ false → list_any p ys ≡ false → list_any p (xs ++ ys) ≡ false
 none-both p xs ys first second = list_any-append p xs ys ∙ or-none (list_any p xs) (list_any p ys) first second
 
-same-head : {X : Type 0} (x y : X) (xs ys : List X) → x ∷ xs ≡ y ∷ ys → x ≡ y
+pub same-head : {X : Type 0} (x y : X) (xs ys : List X) → x ∷ xs ≡ y ∷ ys → x ≡ y
 same-head x y xs ys e = cc
 
-same-tail : {X : Type 0} (x y : X) (xs ys : List X) → x ∷ xs ≡ y ∷ ys → xs ≡ ys
+pub same-tail : {X : Type 0} (x y : X) (xs ys : List X) → x ∷ xs ≡ y ∷ ys → xs ≡ ys
 same-tail x y xs ys e = cc
 
 nothing-left : {X : Type 0} (xs ys : List X) → xs ++ ys ≡ [] → ys ≡ []
@@ -155,7 +155,7 @@ answers-plain place (line ∷ lines) =
     (octets-plain (record { kind = Kind.Ans; request = 0; ansno = place % MESSAGE_NUMBERS }) (body_of (line ∷ [])) refl)
     (answers-plain (place + 1) lines)
 
-reply-marks : (lines : List (List ℕ)) → flat_map message_marks (reply_of Command.Send lines 0)
+pub reply-marks : (lines : List (List ℕ)) → flat_map message_marks (reply_of Command.Send lines 0)
     ≡ flat_map message_marks (answers_from 0 0 lines) ++ end (record { kind = Kind.Nul; request = 0; ansno = 0 }) ∷ []
 reply-marks lines = flat_map-append message_marks (answers_from 0 0 lines) (nul 0 ∷ [])
 

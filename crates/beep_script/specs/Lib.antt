@@ -6,3 +6,5 @@ pub mod Lines
 pub mod Refused
 pub mod EachEnd
 pub mod Laws
+pub mod Requested
+pub mod Sending

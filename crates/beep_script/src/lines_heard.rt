@@ -78,7 +78,8 @@ fn put_entries_at(
     list: &mut Entries,
 ) -> Result<(), NoMemory>
     ensures ok { OnOk result (list.new ≡ list.old
-        ++ entries_in (heard_at (plain_plan plan.now) (item_of item.now) (history_of journal.now))) }
+        ++ entries_in (heard_at (plain_plan plan.now) (item_of item.now)
+        (history_of journal.now))) }
 {
     match item {
         JournalItem::Passed(Side::Received, head, payload) => {

@@ -1,36 +1,51 @@
 //! What a listener does with octets that come.
-ghost use Rattle.std.specs.Prelude.{◌≡◌, ◌≤◌, ◌<◌, List, length, take, ℕ, IfErr, IfOk, OnOk};
+ghost use Rattle.std.specs.Prelude.{◌≡◌, ◌≤◌, ◌<◌, ◌++◌, false, List, length, take, ℕ, IfErr, IfOk, OnErr, OnOk};
 ghost use Rattle.beep_wires.specs.Counts.{Rose};
+ghost use Rattle.beep_inbox.specs.Laws.{part_marks};
 ghost use Rattle.beep_journal.specs.Log.{Moment, got_all};
 ghost use Rattle.beep_session.specs.Lawfully.{terms_of};
-ghost use Rattle.beep_link.specs.Causes.{WithText};
+ghost use Rattle.beep_link.specs.Causes.{ended_by, WithText};
 ghost use Rattle.beep_link.specs.declared.ended.Stop.{Stop as StopValue};
+ghost use Rattle.beep_lines.specs.Bodies.{body_of, IsOver};
+ghost use Rattle.beep_lines.specs.Lines.{lines_of, GathersAll, GathersSome};
 ghost use Rattle.beep_ends.specs.declared.listener.TheConstants.{TAKEN};
-ghost use Rattle.beep_ends.specs.Logs.{SaysNothing, StandsOn, StaysOn, StopsOn, WaitsOn};
+ghost use Rattle.beep_ends.specs.Listening.{is_first, is_whole, part_lines, plan_of, Listens, ListensTaking, ListensWaiting, PartOf, WritesLines};
+ghost use Rattle.beep_steps.specs.Logs.{SaysNothing, StandsOn, StaysOn, StopsOn, WaitsOn};
+ghost use Rattle.beep_steps.specs.Serving.{KeepsServing, ServesOn, ServesWaiting};
+ghost use Rattle.beep_talk.specs.Plan.{PlainPlan};
 
 use super::{Listener, TAKEN};
-use crate::hearing::{Came, hear_next, settle_message, take_part};
 use crate::pruning::prune;
 use beep_frame::Kind;
 use beep_inbox::Part;
 use beep_link::Stop;
 use beep_octets::NoMemory;
 use beep_session::Settled;
+use beep_steps::{Came, hear_next, settle_message, take_part};
 use beep_wires::Sink;
 
 impl Listener {
     /// Uses all octets, unless the session ends. Each event uses one at least.
     pub(super) fn hear_all<O: Sink>(&mut self, bytes: &[u8], output: &mut O) -> Result<(), Stop>
-        ensures heard { (log : List Moment) → StandsOn self.old.session log
-            → OnOk result (StandsOn self.new.session (got_all bytes.now log)) }
-        ensures stopped { (log : List Moment) → StandsOn self.old.session log
-            → IfErr result (λ stop.
+        ensures heard { (log : List Moment) (text : List ℕ) → Listens self.old.session
+            self.old.bodies self.old.lines.octets.octets log text → OnOk result
+            (WithText (O.state output.old).written (O.state output.new).written
+            (λ more. Listens self.new.session self.new.bodies self.new.lines.octets.octets
+            (got_all bytes.now log) (text ++ more))) }
+        ensures stopped { (log : List Moment) (text : List ℕ) → Listens self.old.session
+            self.old.bodies self.old.lines.octets.octets log text → IfErr result (λ stop.
             StopsOn (terms_of self.old.session) stop (got_all bytes.now log)) }
-        ensures terms { terms_of self.new.session ≡ terms_of self.old.session }
+        ensures wrote { (log : List Moment) (text : List ℕ) → Listens self.old.session
+            self.old.bodies self.old.lines.octets.octets log text → IfErr result (λ stop.
+            WithText (O.state output.old).written (O.state output.new).written
+            (λ more. WritesLines (plan_of self.old.session) (is_whole (ended_by stop))
+            (got_all bytes.now log) ((text ++ more) ++ self.new.lines.octets.octets))) }
+        ensures serving { (plan : PlainPlan) (log : List Moment)
+            → ServesOn plan self.old.session log
+            → OnOk result (ServesOn plan self.new.session (got_all bytes.now log)) }
+        ensures plan { plan_of self.new.session ≡ plan_of self.old.session }
         ensures failed { IfErr result (λ stop. stop ≡ StopValue.WriteFault
             → Rose (O.state output.old).faults (O.state output.new).faults) }
-        ensures wrote { WithText (O.state output.old).written (O.state output.new).written
-            (λ _. Unit {0}) }
         ensures kept { (O.state output.old).faults ≤ (O.state output.new).faults }
     {
         let mut at = 0;
@@ -49,18 +64,27 @@ impl Listener {
     /// Uses octets up to the next event, and does what it calls for.
     fn hear_some<O: Sink>(&mut self, bytes: &[u8], output: &mut O) -> Result<usize, Stop>
         ensures within { IfOk result (λ n. n ≤ length bytes.now) }
-        ensures heard { (log : List Moment) → StandsOn self.old.session log → IfOk result (λ n.
-            StandsOn self.new.session (got_all (take n bytes.now) log)) }
+        ensures heard { (log : List Moment) (text : List ℕ) → Listens self.old.session
+            self.old.bodies self.old.lines.octets.octets log text → IfOk result (λ n.
+            WithText (O.state output.old).written (O.state output.new).written
+            (λ more. Listens self.new.session self.new.bodies self.new.lines.octets.octets
+            (got_all (take n bytes.now) log) (text ++ more))) }
         ensures stopped { (log : List Moment) → StandsOn self.old.session log
             → IfErr result (λ stop.
             StopsOn (terms_of self.old.session) stop (got_all bytes.now log)) }
         ensures more { (log : List Moment) → StandsOn self.old.session log
             → 0 < length bytes.now → IfOk result (λ n. 0 < n) }
-        ensures terms { terms_of self.new.session ≡ terms_of self.old.session }
+        ensures wrote { (log : List Moment) (text : List ℕ) → Listens self.old.session
+            self.old.bodies self.old.lines.octets.octets log text → IfErr result (λ stop.
+            WithText (O.state output.old).written (O.state output.new).written
+            (λ more. WritesLines (plan_of self.old.session) (is_whole (ended_by stop))
+            (got_all bytes.now log) ((text ++ more) ++ self.new.lines.octets.octets))) }
+        ensures serving { (plan : PlainPlan) (log : List Moment)
+            → ServesOn plan self.old.session log → IfOk result (λ n.
+            ServesOn plan self.new.session (got_all (take n bytes.now) log)) }
+        ensures plan { plan_of self.new.session ≡ plan_of self.old.session }
         ensures failed { IfErr result (λ stop. stop ≡ StopValue.WriteFault
             → Rose (O.state output.old).faults (O.state output.new).faults) }
-        ensures wrote { WithText (O.state output.old).written (O.state output.new).written
-            (λ _. Unit {0}) }
         ensures kept { (O.state output.old).faults ≤ (O.state output.new).faults }
     {
         let (count, came) = hear_next(&mut self.session, bytes)?;
@@ -79,18 +103,30 @@ impl Listener {
 
     /// Settles what waits, and does what it calls for.
     fn settle(&mut self) -> Result<(), Stop>
-        ensures settled { (log : List Moment) → WaitsOn self.old.session log
-            → OnOk result (StandsOn self.new.session log) }
+        ensures settled { (log : List Moment) (text : List ℕ) → ListensWaiting self.old.session
+            self.old.bodies self.old.lines.octets.octets log text → OnOk result
+            (Listens self.new.session self.new.bodies self.new.lines.octets.octets log text) }
         ensures stopped { (log : List Moment) (octets : List ℕ)
             → WaitsOn self.old.session log → IfErr result (λ stop.
             StopsOn (terms_of self.old.session) stop (got_all octets log)) }
-        ensures terms { terms_of self.new.session ≡ terms_of self.old.session }
+        ensures wrote { (log : List Moment) (octets text : List ℕ) → ListensWaiting
+            self.old.session self.old.bodies self.old.lines.octets.octets log text
+            → IfErr result (λ stop. WritesLines (plan_of self.old.session)
+            (is_whole (ended_by stop)) (got_all octets log)
+            (text ++ self.new.lines.octets.octets)) }
+        ensures serving { (plan : PlainPlan) (log : List Moment)
+            → ServesWaiting plan self.old.session log
+            → OnOk result (ServesOn plan self.new.session log) }
+        ensures plan { plan_of self.new.session ≡ plan_of self.old.session }
         ensures failed { IfErr result (λ stop. stop ≡ StopValue.WriteFault → ⊥) }
     {
         if !self.session.zero_waits() {
             return Ok(());
         }
-        let settled = settle_message(&mut self.session)?;
+        let settled = match settle_message(&mut self.session) {
+            Ok(settled) => settled,
+            Err(stop) => return Err(stop),
+        };
         prune(&mut self.bodies, &self.session);
         self.does(settled)
     }
@@ -124,8 +160,18 @@ impl Listener {
     /// Takes the frame that has arrived, and refuses the request that it ends.
     fn take<O: Sink>(&mut self, number: u32, output: &mut O) -> Result<(), Stop>
         ensures stays { StaysOn self.old.session self.new.session }
-        ensures wrote { WithText (O.state output.old).written (O.state output.new).written
-            (λ _. Unit {0}) }
+        ensures serving { (plan : PlainPlan)
+            → KeepsServing plan self.old.session self.new.session }
+        ensures taken { (log : List Moment) (text : List ℕ) → ListensTaking number 0
+            self.old.session self.old.bodies self.old.lines.octets.octets log text → OnOk result
+            (WithText (O.state output.old).written (O.state output.new).written
+            (λ more. Listens self.new.session self.new.bodies self.new.lines.octets.octets log
+            (text ++ more))) }
+        ensures wrote { (log : List Moment) (text : List ℕ) → ListensTaking number 0
+            self.old.session self.old.bodies self.old.lines.octets.octets log text → OnErr result
+            (WithText (O.state output.old).written (O.state output.new).written
+            (λ more. WritesLines (plan_of self.old.session) false log
+            ((text ++ more) ++ self.new.lines.octets.octets))) }
         ensures stopped { IfErr result (λ stop. SaysNothing stop) }
         ensures failed { IfErr result (λ stop. stop ≡ StopValue.WriteFault
             → Rose (O.state output.old).faults (O.state output.new).faults) }
@@ -145,8 +191,18 @@ impl Listener {
     /// part of a message, or several.
     fn take_all<O: Sink>(&mut self, number: u32, output: &mut O) -> Result<bool, Stop>
         ensures stays { StaysOn self.old.session self.new.session }
-        ensures wrote { WithText (O.state output.old).written (O.state output.new).written
-            (λ _. Unit {0}) }
+        ensures serving { (plan : PlainPlan)
+            → KeepsServing plan self.old.session self.new.session }
+        ensures taken { (log : List Moment) (text : List ℕ) → ListensTaking number 0
+            self.old.session self.old.bodies self.old.lines.octets.octets log text → OnOk result
+            (WithText (O.state output.old).written (O.state output.new).written
+            (λ more. Listens self.new.session self.new.bodies self.new.lines.octets.octets log
+            (text ++ more))) }
+        ensures wrote { (log : List Moment) (text : List ℕ) → ListensTaking number 0
+            self.old.session self.old.bodies self.old.lines.octets.octets log text → OnErr result
+            (WithText (O.state output.old).written (O.state output.new).written
+            (λ more. WritesLines (plan_of self.old.session) false log
+            ((text ++ more) ++ self.new.lines.octets.octets))) }
         ensures stopped { IfErr result (λ stop. SaysNothing stop) }
         ensures failed { IfErr result (λ stop. stop ≡ StopValue.WriteFault
             → Rose (O.state output.old).faults (O.state output.new).faults) }
@@ -166,9 +222,18 @@ impl Listener {
     /// Uses a part that was taken: one of an answer to the first request goes on with it, or ends
     /// it.
     fn took<O: Sink>(&mut self, number: u32, part: Part, output: &mut O) -> Result<(), Stop>
+        requires within { part.len ≤ TAKEN }
         ensures session { self.new.session ≡ self.old.session }
-        ensures wrote { WithText (O.state output.old).written (O.state output.new).written
-            (λ _. Unit {0}) }
+        ensures bodies { OnOk result (PartOf number (part_marks part self.old.taken.items)
+            self.old.bodies self.new.bodies) }
+        ensures ok { OnOk result (GathersAll (O.state output.old).written
+            (O.state output.new).written self.old.lines.octets.octets
+            (part_lines number part self.old.taken.items self.old.bodies)
+            self.new.lines.octets.octets) }
+        ensures err { OnErr result (GathersSome (O.state output.old).written
+            (O.state output.new).written self.old.lines.octets.octets
+            (part_lines number part self.old.taken.items self.old.bodies)
+            self.new.lines.octets.octets) }
         ensures stopped { IfErr result (λ stop. SaysNothing stop) }
         ensures failed { IfErr result (λ stop. stop ≡ StopValue.WriteFault
             → Rose (O.state output.old).faults (O.state output.new).faults) }
@@ -177,7 +242,7 @@ impl Listener {
         if !is_first_answer(&part) {
             return Ok(());
         }
-        let count = TAKEN.min(part.len as usize);
+        let count = part.len as usize;
         if part.ended {
             return self.finish(number, part.tag.ansno, count, output);
         }
@@ -200,8 +265,15 @@ impl Listener {
     ) -> Result<(), Stop>
         requires within { count ≤ TAKEN }
         ensures session { self.new.session ≡ self.old.session }
-        ensures wrote { WithText (O.state output.old).written (O.state output.new).written
-            (λ _. Unit {0}) }
+        ensures bodies { OnOk result (IsOver number ansno self.old.bodies self.new.bodies) }
+        ensures ok { OnOk result (GathersAll (O.state output.old).written
+            (O.state output.new).written self.old.lines.octets.octets
+            (lines_of (body_of number ansno self.old.bodies ++ take count self.old.taken.items))
+            self.new.lines.octets.octets) }
+        ensures err { OnErr result (GathersSome (O.state output.old).written
+            (O.state output.new).written self.old.lines.octets.octets
+            (lines_of (body_of number ansno self.old.bodies ++ take count self.old.taken.items))
+            self.new.lines.octets.octets) }
         ensures stopped { IfErr result (λ stop. SaysNothing stop) }
         ensures failed { IfErr result (λ stop. stop ≡ StopValue.WriteFault
             → Rose (O.state output.old).faults (O.state output.new).faults) }
@@ -222,7 +294,9 @@ impl Listener {
 }
 
 /// Whether a part is of an answer to the first request of its channel.
-fn is_first_answer(part: &Part) -> bool {
+fn is_first_answer(part: &Part) -> bool
+    ensures { result ≡ is_first part.now.tag }
+{
     match part.tag.kind {
         Kind::Ans => part.tag.request == 0,
         Kind::Msg | Kind::Rpy | Kind::Err | Kind::Nul => false,

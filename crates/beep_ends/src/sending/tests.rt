@@ -18,8 +18,8 @@ fn lines_of(alloc: Global, text: &str) -> Result<Entries, NoMemory> {
     Ok(entries)
 }
 
-/// Sends the sample's lines to a listener that says this, and compares how it ends, and what it says
-/// where that is given.
+/// Sends the sample's lines to a listener that says this, and compares how it ends, and what it
+/// says where that is given.
 fn sends(
     rt: &impl Abort,
     alloc: Global,

@@ -2,7 +2,7 @@ use Rattle.std.proofs.Common.{◌≡◌, ◌+◌, false, sym, ap, ◌∙◌, sub
 use Rattle.beep_link.specs.declared.ended.Ended.{Ended}
 use Rattle.beep_link.specs.Causes.{Seen, WhereTold}
 use Rattle.beep_journal.specs.declared.role.Role.{Role}
-use Rattle.beep_ends.specs.Logs.{IsLawfulOn, terms_by}
+use Rattle.beep_steps.specs.Logs.{IsLawfulOn, terms_by}
 use Rattle.beep_cmd.specs.Ends.{IsAcceptOf, SessionCause, seen_of}
 use Rattle.beep_cmd.specs.Serving.{ends_run}
 use Rattle.beep_cmd.proofs.ServingLemmas.{asks_fewer, asks_more, each_joined, joined_cause, first_goes, goes_further}

@@ -1,6 +1,6 @@
 use Rattle.std.proofs.Common.{rules, ◌≡◌, ◌<◌, length, arith}
 use Rattle.beep_input.specs.declared.whole.TheConstants.{MAX_INPUT}
-use Rattle.beep_cmd.specs.Texts.{bad_line}
+use Rattle.beep_show.specs.Texts.{bad_line}
 use Rattle.beep_cmd.proofs.PairLemmas.{long_told}
 use Rattle.beep_cmd.proofs.pair.tell_input.Goals as goal
 

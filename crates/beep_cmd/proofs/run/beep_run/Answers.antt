@@ -8,15 +8,15 @@ use Rattle.beep_words.specs.declared.command.Command.{Command}
 use Rattle.beep_words.specs.CommandSet.{IsShow, IsReplay, IsSend, IsListen, IsPair, IsOfEnd}
 use Rattle.beep_words.specs.Usable.{IsUsable}
 use Rattle.beep_words.proofs.UsableLemmas.{send_is_usable, listen_is_usable, pair_is_usable}
-use Rattle.beep_ends.specs.Ends.{AreFit}
-use Rattle.beep_ends.proofs.FitLemmas.{fit}
+use Rattle.beep_steps.specs.Ends.{AreFit}
+use Rattle.beep_steps.proofs.FitLemmas.{fit}
 use Rattle.beep_cmd.specs.Ends.{AcceptsAtMost, DialsOnce, IsAcceptOf, IsDialOf, Listened, listen_starved, seen_of, Sent, WritesLawfully}
 use Rattle.beep_cmd.specs.Pair.{Paired}
 use Rattle.beep_link.specs.Causes.{Seen, WhereTold}
 use Rattle.beep_journal.specs.declared.role.Role.{Role}
-use Rattle.beep_ends.specs.Logs.{IsLawfulOn, terms_by}
+use Rattle.beep_steps.specs.Logs.{IsLawfulOn, terms_by}
 use Rattle.beep_cmd.specs.Recording.{ListenRecorded, record_starved}
-use Rattle.beep_cmd.specs.Show.{Run, run_of}
+use Rattle.beep_show.specs.Show.{Run, run_of}
 use Rattle.beep_cmd.proofs.CommandLemmas.{listens, no_command, none_listen, none_pair, none_replay, none_send, none_show, not_listen, not_pair, not_replay, not_send, not_show, not_unlinked, other_replay, other_show, same_listen, same_pair, same_send, same_show, sends, some_command}
 use Rattle.beep_cmd.proofs.CompleteLemmas.{complete, shown_as}
 use Rattle.beep_cmd.proofs.EndsLemmas.{starved_at_once}

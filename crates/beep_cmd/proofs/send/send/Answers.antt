@@ -1,7 +1,7 @@
 use Rattle.std.proofs.Common.{inl, refl}
 use Rattle.beep_cmd.specs.Ends.{ended_status, ended_line, over, IsDialOf}
 use Rattle.beep_cmd.specs.Recorded.{lined}
-use Rattle.beep_cmd.specs.Show.{run_of}
+use Rattle.beep_show.specs.Show.{run_of}
 use Rattle.beep_cmd.proofs.EndsLemmas.{sent, unsent}
 use Rattle.beep_cmd.proofs.RecordedLemmas.{sent_recorded}
 use Rattle.beep_cmd.proofs.ServingLemmas.{asks_none}

@@ -218,8 +218,8 @@ fn without_frames(alloc: Global, text: &str) -> Result<String, Fail> {
     Ok(kept)
 }
 
-// The sums of a thousand requests of `3 * ((N + 617 * i) mod 1000)` octets and of as many replies of
-// 16; the input isn't read, so it may be no schedule and its reads may fail.
+// The sums of a thousand requests of `3 * ((N + 617 * i) mod 1000)` octets and of as many replies
+// of 16; the input isn't read, so it may be no schedule and its reads may fail.
 #[test]
 fn a_seed_makes_its_schedule_and_its_summary(rt: HostRuntime) -> Result<(), Fail> {
     let counts = "asks 1000 octets 1498500\nreplies 1000 octets 16000\n\

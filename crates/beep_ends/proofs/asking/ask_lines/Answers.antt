@@ -2,8 +2,11 @@
 use Rattle.std.proofs.Common.{◌≡◌, sym, subst, rules}
 use Rattle.beep_frame.specs.declared.kind.Kind.{Kind}
 use Rattle.beep_session.specs.Session.{Held}
-use Rattle.beep_ends.specs.Logs.{StaysOn}
-use Rattle.beep_ends.proofs.CallLemmas.{same-stays, given-stays}
+use Rattle.beep_journal.proofs.MomentLemmas.{above-zero, positive}
+use Rattle.beep_steps.specs.Logs.{StaysOn}
+use Rattle.beep_steps.specs.Serving.{KeepsServing}
+use Rattle.beep_steps.proofs.CallLemmas.{same-stays, given-stays}
+use Rattle.beep_steps.proofs.ServeCalls.{same-serves, given-serves}
 use Rattle.beep_ends.proofs.asking.ask_lines.Goals as goal
 
 pub returns-in-Ok : goal.returns-in-Ok
@@ -13,7 +16,16 @@ returns-in-Ok c =
     same-stays old c.in-Some.channel.session.now c.ask.new.self.session.now c.in-Some.ensures.same.0
     (given-stays c.ask.result c.in-Some.channel.session.now c.ask.new.self.session.now c.ask.ensures.upright c.in-Some.channel.at Kind.Msg _ c.ask.ensures.ok c.ask.ensures.err) in
     let f : (x : Held) → x ≡ c.ask.new.self.session.now → StaysOn old x = λ x e. subst (StaysOn old) (sym e) h in
-    record { stays = f _ (search rules) }
+    record {
+      stays = f _ (search rules);
+      serving = λ plan.
+          let at = c.in-Some.channel.at in
+          let k : KeepsServing plan old c.ask.new.self.session.now =
+          same-serves plan old c.in-Some.channel.session.now c.ask.new.self.session.now c.in-Some.ensures.same.0
+          (given-serves plan c.in-Some.channel.session.now c.ask.new.self.session.now c.ask.result at Kind.Msg _ (above-zero at (positive at c.in-Some.channel.open.above)) c.ask.ensures.upright c.ask.ensures.ok c.ask.ensures.err) in
+          let g : (x : Held) → x ≡ c.ask.new.self.session.now → KeepsServing plan old x = λ x e. subst (KeepsServing plan old) (sym e) k in
+          g _ (search rules);
+    }
 
 pub returns-in-Err-NoMemory : goal.returns-in-Err-NoMemory
 returns-in-Err-NoMemory c =
@@ -22,7 +34,16 @@ returns-in-Err-NoMemory c =
     same-stays old c.in-Some.channel.session.now c.ask.new.self.session.now c.in-Some.ensures.same.0
     (given-stays c.ask.result c.in-Some.channel.session.now c.ask.new.self.session.now c.ask.ensures.upright c.in-Some.channel.at Kind.Msg _ c.ask.ensures.ok c.ask.ensures.err) in
     let f : (x : Held) → x ≡ c.ask.new.self.session.now → StaysOn old x = λ x e. subst (StaysOn old) (sym e) h in
-    record { stays = f _ (search rules) }
+    record {
+      stays = f _ (search rules);
+      serving = λ plan.
+          let at = c.in-Some.channel.at in
+          let k : KeepsServing plan old c.ask.new.self.session.now =
+          same-serves plan old c.in-Some.channel.session.now c.ask.new.self.session.now c.in-Some.ensures.same.0
+          (given-serves plan c.in-Some.channel.session.now c.ask.new.self.session.now c.ask.result at Kind.Msg _ (above-zero at (positive at c.in-Some.channel.open.above)) c.ask.ensures.upright c.ask.ensures.ok c.ask.ensures.err) in
+          let g : (x : Held) → x ≡ c.ask.new.self.session.now → KeepsServing plan old x = λ x e. subst (KeepsServing plan old) (sym e) k in
+          g _ (search rules);
+    }
 
 pub returns-in-Err-Closing : goal.returns-in-Err-Closing
 returns-in-Err-Closing c =
@@ -31,4 +52,13 @@ returns-in-Err-Closing c =
     same-stays old c.in-Some.channel.session.now c.ask.new.self.session.now c.in-Some.ensures.same.0
     (given-stays c.ask.result c.in-Some.channel.session.now c.ask.new.self.session.now c.ask.ensures.upright c.in-Some.channel.at Kind.Msg _ c.ask.ensures.ok c.ask.ensures.err) in
     let f : (x : Held) → x ≡ c.ask.new.self.session.now → StaysOn old x = λ x e. subst (StaysOn old) (sym e) h in
-    record { stays = f _ (search rules) }
+    record {
+      stays = f _ (search rules);
+      serving = λ plan.
+          let at = c.in-Some.channel.at in
+          let k : KeepsServing plan old c.ask.new.self.session.now =
+          same-serves plan old c.in-Some.channel.session.now c.ask.new.self.session.now c.in-Some.ensures.same.0
+          (given-serves plan c.in-Some.channel.session.now c.ask.new.self.session.now c.ask.result at Kind.Msg _ (above-zero at (positive at c.in-Some.channel.open.above)) c.ask.ensures.upright c.ask.ensures.ok c.ask.ensures.err) in
+          let g : (x : Held) → x ≡ c.ask.new.self.session.now → KeepsServing plan old x = λ x e. subst (KeepsServing plan old) (sym e) k in
+          g _ (search rules);
+    }

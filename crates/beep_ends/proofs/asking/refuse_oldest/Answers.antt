@@ -5,8 +5,11 @@ use Rattle.beep_frame.specs.declared.kind.Kind.{Kind}
 use Rattle.beep_session.specs.declared.handles.Duty.{Duty}
 use Rattle.beep_session.specs.Lending.{duty_session}
 use Rattle.beep_session.specs.Session.{Held}
-use Rattle.beep_ends.specs.Logs.{StaysOn}
-use Rattle.beep_ends.proofs.CallLemmas.{same-stays, still-stays, gone-stays}
+use Rattle.beep_journal.proofs.MomentLemmas.{above-zero, positive}
+use Rattle.beep_steps.specs.Logs.{StaysOn}
+use Rattle.beep_steps.specs.Serving.{KeepsServing}
+use Rattle.beep_steps.proofs.CallLemmas.{same-stays, still-stays, gone-stays}
+use Rattle.beep_steps.proofs.ServeCalls.{same-serves, still-serves, gone-serves}
 use Rattle.beep_ends.proofs.asking.refuse_oldest.Goals as goal
 
 pub returns-in-Ok : goal.returns-in-Ok
@@ -15,7 +18,16 @@ returns-in-Ok c =
     let h : StaysOn old c.refuse.follows.lender-at-none =
     gone-stays c.refuse.result c.in-Ok.field-0 c.in-Some-Fresh.owed.at Kind.Err c.args.refusal.now old c.in-Some-Fresh.owed.session.now c.refuse.follows.lender-at-none c.in-Ok.is (ap (λ (d : Duty). (duty_session d).now) (sym c.in-Some-Fresh.field-0-is) ∙ c.in-Some-Fresh.ensures.same.0) c.refuse.follows.holds-at-none in
     let f : (x : Held) → x ≡ c.refuse.follows.lender-at-none → StaysOn old x = λ x e. subst (StaysOn old) (sym e) h in
-    record { stays = f _ (search rules) }
+    record {
+      stays = f _ (search rules);
+      serving = λ plan.
+          let at = c.in-Some-Fresh.owed.at in
+          let k : KeepsServing plan old c.refuse.follows.lender-at-none =
+          gone-serves plan c.refuse.result c.in-Ok.field-0 at Kind.Err c.args.refusal.now old c.in-Some-Fresh.owed.session.now c.refuse.follows.lender-at-none (above-zero at (positive at c.in-Some-Fresh.owed.open.above)) c.in-Ok.is
+          (ap (λ (d : Duty). (duty_session d).now) (sym c.in-Some-Fresh.field-0-is) ∙ c.in-Some-Fresh.ensures.same.0) c.refuse.follows.holds-at-none in
+          let g : (x : Held) → x ≡ c.refuse.follows.lender-at-none → KeepsServing plan old x = λ x e. subst (KeepsServing plan old) (sym e) k in
+          g _ (search rules);
+    }
 
 pub returns-in-Err : goal.returns-in-Err
 returns-in-Err c =
@@ -24,7 +36,15 @@ returns-in-Err c =
     same-stays old c.in-Some-Fresh.owed.session.now c.in-Err._owed.session.now (ap (λ (d : Duty). (duty_session d).now) (sym c.in-Some-Fresh.field-0-is) ∙ c.in-Some-Fresh.ensures.same.0)
     (still-stays c.in-Some-Fresh.owed.session.now c.in-Err._owed.session.now c.in-Err.ensures.same.0 c.in-Err.ensures.upright) in
     let f : (x : Held) → x ≡ c.in-Err._owed.session.now → StaysOn old x = λ x e. subst (StaysOn old) (sym e) h in
-    record { stays = f _ (search rules) }
+    record {
+      stays = f _ (search rules);
+      serving = λ plan.
+          let k : KeepsServing plan old c.in-Err._owed.session.now =
+          same-serves plan old c.in-Some-Fresh.owed.session.now c.in-Err._owed.session.now (ap (λ (d : Duty). (duty_session d).now) (sym c.in-Some-Fresh.field-0-is) ∙ c.in-Some-Fresh.ensures.same.0)
+          (still-serves plan c.in-Some-Fresh.owed.session.now c.in-Err._owed.session.now c.in-Err.ensures.same.0 c.in-Err.ensures.upright) in
+          let g : (x : Held) → x ≡ c.in-Err._owed.session.now → KeepsServing plan old x = λ x e. subst (KeepsServing plan old) (sym e) k in
+          g _ (search rules);
+    }
 
 pub returns-in-Ok-done : goal.returns-in-Ok-done
 returns-in-Ok-done c =
@@ -32,7 +52,16 @@ returns-in-Ok-done c =
     let h : StaysOn old c.done.follows.lender-at-none =
     gone-stays c.done.result c.in-Ok-done.field-0 c.in-Some-Begun.answering.at Kind.Nul [] old c.in-Some-Begun.answering.session.now c.done.follows.lender-at-none c.in-Ok-done.is (ap (λ (d : Duty). (duty_session d).now) (sym c.in-Some-Begun.field-0-is) ∙ c.in-Some-Begun.ensures.same.0) c.done.follows.holds-at-none in
     let f : (x : Held) → x ≡ c.done.follows.lender-at-none → StaysOn old x = λ x e. subst (StaysOn old) (sym e) h in
-    record { stays = f _ (search rules) }
+    record {
+      stays = f _ (search rules);
+      serving = λ plan.
+          let at = c.in-Some-Begun.answering.at in
+          let k : KeepsServing plan old c.done.follows.lender-at-none =
+          gone-serves plan c.done.result c.in-Ok-done.field-0 at Kind.Nul [] old c.in-Some-Begun.answering.session.now c.done.follows.lender-at-none (above-zero at (positive at c.in-Some-Begun.answering.open.above)) c.in-Ok-done.is
+          (ap (λ (d : Duty). (duty_session d).now) (sym c.in-Some-Begun.field-0-is) ∙ c.in-Some-Begun.ensures.same.0) c.done.follows.holds-at-none in
+          let g : (x : Held) → x ≡ c.done.follows.lender-at-none → KeepsServing plan old x = λ x e. subst (KeepsServing plan old) (sym e) k in
+          g _ (search rules);
+    }
 
 pub returns-in-Err-done : goal.returns-in-Err-done
 returns-in-Err-done c =
@@ -41,4 +70,12 @@ returns-in-Err-done c =
     same-stays old c.in-Some-Begun.answering.session.now c.in-Err-done._answering.session.now (ap (λ (d : Duty). (duty_session d).now) (sym c.in-Some-Begun.field-0-is) ∙ c.in-Some-Begun.ensures.same.0)
     (still-stays c.in-Some-Begun.answering.session.now c.in-Err-done._answering.session.now c.in-Err-done.ensures.same.0 c.in-Err-done.ensures.upright) in
     let f : (x : Held) → x ≡ c.in-Err-done._answering.session.now → StaysOn old x = λ x e. subst (StaysOn old) (sym e) h in
-    record { stays = f _ (search rules) }
+    record {
+      stays = f _ (search rules);
+      serving = λ plan.
+          let k : KeepsServing plan old c.in-Err-done._answering.session.now =
+          same-serves plan old c.in-Some-Begun.answering.session.now c.in-Err-done._answering.session.now (ap (λ (d : Duty). (duty_session d).now) (sym c.in-Some-Begun.field-0-is) ∙ c.in-Some-Begun.ensures.same.0)
+          (still-serves plan c.in-Some-Begun.answering.session.now c.in-Err-done._answering.session.now c.in-Err-done.ensures.same.0 c.in-Err-done.ensures.upright) in
+          let g : (x : Held) → x ≡ c.in-Err-done._answering.session.now → KeepsServing plan old x = λ x e. subst (KeepsServing plan old) (sym e) k in
+          g _ (search rules);
+    }

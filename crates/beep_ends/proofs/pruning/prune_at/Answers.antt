@@ -1,5 +1,5 @@
 -- The answer at the place is over where its channel has no live life.
-use Rattle.std.proofs.Common.{◌≡◌, ◌∙◌, sym, ap, true, false, Bool, Option, Some, None, ℕ, rules}
+use Rattle.std.proofs.Common.{◌≡◌, ◌∙◌, sym, ap, false, Some, ℕ, rules}
 use Rattle.beep_ends.specs.Pruning.{has_life}
 use Rattle.beep_ends.proofs.PruneLemmas.{ends-at}
 use Rattle.beep_ends.proofs.pruning.prune_at.Goals as goal

@@ -1,29 +1,60 @@
--- Answers and the NUL that are given, or find no room, leave what the session stands for.
-use Rattle.std.proofs.Common.{◌≡◌, ◌∙◌, refl, sym, subst, [], rules}
-use Rattle.beep_frame.specs.declared.kind.Kind.{Kind}
+-- Lines are answered from the next on, and behind the last the answers are ended.
+use Rattle.std.proofs.Common.{◌≡◌, ◌∙◌, ◌≤◌, List, ℕ, length, sym, subst, arith, rules}
+use Rattle.beep_journal.specs.Log.{Moment}
 use Rattle.beep_session.specs.Session.{Held}
-use Rattle.beep_ends.specs.Logs.{StaysOn}
-use Rattle.beep_ends.proofs.CallLemmas.{gone-stays, same-stays, stays, stays-trans, still-stays}
+use Rattle.beep_talk.specs.Plan.{PlainPlan}
+use Rattle.beep_steps.specs.Sending.{Progress, SendsOn, at_next}
+use Rattle.beep_steps.proofs.CallSends.{still-sends}
+use Rattle.beep_ends.proofs.SenderLemmas.{at-same, gone-sends}
 use Rattle.beep_ends.proofs.sender.answer_some.Goals as goal
 
-pub returns-in-Ok : goal.returns-in-Ok
-returns-in-Ok c =
-    let old = c.args.session.now in
-    let given : StaysOn old c.give_lines.new.answering.session.now =
-    stays-trans old c.begun-answering.result.session.now c.give_lines.new.answering.session.now (same-stays old c.begun-answering.result.session.now c.begun-answering.result.session.now (c.begun-answering.ensures.same ∙ c.in-Some.ensures.same.0) (stays c.begun-answering.result.session.now)) c.give_lines.ensures.stays in
-    let h : StaysOn old c.done.follows.lender-at-none =
-    stays-trans old c.give_lines.new.answering.session.now c.done.follows.lender-at-none given
-    (gone-stays c.done.result c.in-Ok.field-0 c.give_lines.new.answering.at Kind.Nul [] c.give_lines.new.answering.session.now c.give_lines.new.answering.session.now c.done.follows.lender-at-none c.in-Ok.is refl c.done.follows.holds-at-none) in
-    let f : (x : Held) → x ≡ c.done.follows.lender-at-none → StaysOn old x = λ x e. subst (StaysOn old) (sym e) h in
-    record { stays = f _ (search rules) }
+pub returns-then-not-is_open-clause-sends : goal.returns-then-not-is_open-clause-sends
+returns-then-not-is_open-clause-sends c plan p lines at log s = at-same plan p c.args.next.now c.args.session.now log at s
 
-pub returns-in-Err : goal.returns-in-Err
-returns-in-Err c =
-    let old = c.args.session.now in
-    let given : StaysOn old c.give_lines.new.answering.session.now =
-    stays-trans old c.begun-answering.result.session.now c.give_lines.new.answering.session.now (same-stays old c.begun-answering.result.session.now c.begun-answering.result.session.now (c.begun-answering.ensures.same ∙ c.in-Some.ensures.same.0) (stays c.begun-answering.result.session.now)) c.give_lines.ensures.stays in
-    let h : StaysOn old c.in-Err._answering.session.now =
-    stays-trans old c.give_lines.new.answering.session.now c.in-Err._answering.session.now given
-    (still-stays c.give_lines.new.answering.session.now c.in-Err._answering.session.now c.in-Err.ensures.same.0 c.in-Err.ensures.upright) in
-    let f : (x : Held) → x ≡ c.in-Err._answering.session.now → StaysOn old x = λ x e. subst (StaysOn old) (sym e) h in
-    record { stays = f _ (search rules) }
+pub returns-in_default-clause-sends : goal.returns-in_default-clause-sends
+returns-in_default-clause-sends c plan p lines at log s =
+    let none : c.owed.follows.lender-at-none ≡ c.args.session.now = search (rules, c.owed.follows.holds-at-none) in
+    at-same plan p c.args.next.now c.owed.follows.lender-at-none log at (subst (λ (x : Held). SendsOn plan p x log) (sym none) s)
+
+pub returns-in_err-give_lines-clause-sends : goal.returns-in_err-give_lines-clause-sends
+returns-in_err-give_lines-clause-sends c plan p lines at log s =
+    let now = c.give_lines.new.answering.session.now in
+    let h : SendsOn plan (at_next c.give_lines.new.next p) now log =
+    c.give_lines.ensures.sends plan p lines at (c.begun-answering.ensures.same.1 ∙ c.in-Some.ensures.same.1) log
+    (subst (λ (x : Held). SendsOn plan p x log) (sym (c.begun-answering.ensures.same.0 ∙ c.in-Some.ensures.same.0)) s) in
+    let f : (x : Held) → x ≡ now → SendsOn plan (at_next c.give_lines.new.next p) x log = λ x e. subst (λ (y : Held). SendsOn plan (at_next c.give_lines.new.next p) y log) (sym e) h in
+    f _ (search rules)
+
+pub returns-then-next-len-clause-sends : goal.returns-then-next-len-clause-sends
+returns-then-next-len-clause-sends c plan p lines at log s =
+    let now = c.give_lines.new.answering.session.now in
+    let h : SendsOn plan (at_next c.give_lines.new.next p) now log =
+    c.give_lines.ensures.sends plan p lines at (c.begun-answering.ensures.same.1 ∙ c.in-Some.ensures.same.1) log
+    (subst (λ (x : Held). SendsOn plan p x log) (sym (c.begun-answering.ensures.same.0 ∙ c.in-Some.ensures.same.0)) s) in
+    let f : (x : Held) → x ≡ now → SendsOn plan (at_next c.give_lines.new.next p) x log = λ x e. subst (λ (y : Held). SendsOn plan (at_next c.give_lines.new.next p) y log) (sym e) h in
+    f _ (search rules)
+
+pub returns-in-Ok-clause-sends : goal.returns-in-Ok-clause-sends
+returns-in-Ok-clause-sends c plan p lines at log s =
+    let one = c.begun-answering.ensures.same.1 ∙ c.in-Some.ensures.same.1 in
+    let answering = c.give_lines.new.answering in
+    let q = at_next c.give_lines.new.next p in
+    let enough : length plan.lines ≤ c.give_lines.new.next =
+    subst (λ (ls : List (List ℕ)). length ls ≤ c.give_lines.new.next) (sym lines) (omega (arith, c.len.ensures, c.if-next-len.false)) in
+    let h : SendsOn plan q c.done.follows.lender-at-none log =
+    gone-sends plan q c.done.result c.in-Ok.field-0 answering.at (c.give_lines.ensures.same.1 ∙ one) answering.session.now c.done.follows.lender-at-none answering.open enough c.in-Ok.is c.done.follows.holds-at-none log
+    (c.give_lines.ensures.sends plan p lines at one log (subst (λ (x : Held). SendsOn plan p x log) (sym (c.begun-answering.ensures.same.0 ∙ c.in-Some.ensures.same.0)) s)) in
+    let f : (x : Held) → x ≡ c.done.follows.lender-at-none → SendsOn plan q x log = λ x e. subst (λ (y : Held). SendsOn plan q y log) (sym e) h in
+    f _ (search rules)
+
+pub returns-in-Err-clause-sends : goal.returns-in-Err-clause-sends
+returns-in-Err-clause-sends c plan p lines at log s =
+    let one = c.begun-answering.ensures.same.1 ∙ c.in-Some.ensures.same.1 in
+    let answering = c.give_lines.new.answering in
+    let q = at_next c.give_lines.new.next p in
+    let now = c.in-Err._answering.session.now in
+    let h : SendsOn plan q now log =
+    still-sends plan q answering.session.now now c.in-Err.ensures.same.0 c.in-Err.ensures.upright log
+    (c.give_lines.ensures.sends plan p lines at one log (subst (λ (x : Held). SendsOn plan p x log) (sym (c.begun-answering.ensures.same.0 ∙ c.in-Some.ensures.same.0)) s)) in
+    let f : (x : Held) → x ≡ now → SendsOn plan q x log = λ x e. subst (λ (y : Held). SendsOn plan q y log) (sym e) h in
+    f _ (search rules)

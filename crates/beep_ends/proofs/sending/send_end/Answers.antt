@@ -1,13 +1,15 @@
 -- The log of the link shows what ended the session.
 use Rattle.std.proofs.Common.{subst}
 use Rattle.beep_journal.specs.declared.role.Role.{Role}
-use Rattle.beep_session.specs.Lawfully.{terms_of}
 use Rattle.beep_link.proofs.StandLemmas.{told-map}
-use Rattle.beep_lawful.specs.declared.terms.Terms.{Terms}
+use Rattle.beep_talk.specs.Plan.{PlainPlan}
 use Rattle.beep_link.specs.Causes.{WhereTold}
 use Rattle.beep_link.specs.declared.ended.Ended.{Ended}
-use Rattle.beep_ends.specs.Logs.{Shows, terms_by}
-use Rattle.beep_ends.proofs.OnLemmas.{none-shown, none-told, told-lawful}
+use Rattle.beep_steps.specs.Logs.{Shows, terms_by}
+use Rattle.beep_steps.specs.Sending.{SendsAll}
+use Rattle.beep_steps.proofs.EndSends.{sends-all}
+use Rattle.beep_steps.proofs.OnLemmas.{none-shown, none-told, told-lawful}
+use Rattle.beep_ends.specs.Sender.{plan_of}
 use Rattle.beep_ends.proofs.sending.send_end.Goals as goal
 
 pub returns-in_default-clause-told : goal.returns-in_default-clause-told
@@ -21,15 +23,28 @@ returns-in_default-clause-lawful g c =
     let log = (g.W.Wires.state c.args.wires.now c.args.link).log in
     told-lawful terms Ended.NoMemory log (none-told (Shows terms Ended.NoMemory) log (none-shown terms) c.requires.unused.unread)
 
+pub returns-in_default-clause-sent : goal.returns-in_default-clause-sent
+returns-in_default-clause-sent g c is = absurd (cc is)
+
 pub returns-clause-told : goal.returns-clause-told
 returns-clause-told g c =
-    subst (λ (t : Terms). WhereTold (Shows t c.run_turns.result) (g.W.Wires.state c.run_turns.new.wires c.args.link).log) c.in-Ok.ensures.terms
-    (told-map _ (Shows (terms_of c.in-Ok.sender.session) c.run_turns.result) (λ log t. t.2) (g.W.Wires.state c.run_turns.new.wires c.args.link).log (c.run_turns.ensures.told c.in-Ok.ensures.stands))
+    let log = (g.W.Wires.state c.run_turns.new.wires c.args.link).log in
+    let plan = plan_of c.in-Ok.sender in
+    subst (λ (x : PlainPlan). WhereTold (Shows x.terms c.run_turns.result) log) c.in-Ok.ensures.plan
+    (told-map _ (Shows plan.terms c.run_turns.result) (λ l t. t.2.shows) log (c.run_turns.ensures.told c.in-Ok.ensures.stands))
 
 pub returns-clause-lawful : goal.returns-clause-lawful
 returns-clause-lawful g c =
     let terms = terms_by Role.Initiator c.args.settings.now in
     let log = (g.W.Wires.state c.run_turns.new.wires c.args.link).log in
+    let plan = plan_of c.in-Ok.sender in
     told-lawful terms c.run_turns.result log
-    (subst (λ (t : Terms). WhereTold (Shows t c.run_turns.result) log) c.in-Ok.ensures.terms
-    (told-map _ (Shows (terms_of c.in-Ok.sender.session) c.run_turns.result) (λ l t. t.2) log (c.run_turns.ensures.told c.in-Ok.ensures.stands)))
+    (subst (λ (x : PlainPlan). WhereTold (Shows x.terms c.run_turns.result) log) c.in-Ok.ensures.plan
+    (told-map _ (Shows plan.terms c.run_turns.result) (λ l t. t.2.shows) log (c.run_turns.ensures.told c.in-Ok.ensures.stands)))
+
+pub returns-clause-sent : goal.returns-clause-sent
+returns-clause-sent g c is =
+    let log = (g.W.Wires.state c.run_turns.new.wires c.args.link).log in
+    let plan = plan_of c.in-Ok.sender in
+    subst (λ (x : PlainPlan). WhereTold (SendsAll x) log) c.in-Ok.ensures.plan
+    (told-map _ (SendsAll plan) (λ l t. sends-all plan l (t.2.sent is)) log (c.run_turns.ensures.told c.in-Ok.ensures.stands))

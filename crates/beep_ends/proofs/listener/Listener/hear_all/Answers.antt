@@ -1,52 +1,116 @@
 -- Each event uses one octet at least, so that all are used.
-use Rattle.std.proofs.Common.{◌≡◌, ◌∙◌, subst, length, take, arith}
+use Rattle.std.proofs.Common.{◌≡◌, ◌∙◌, ◌++◌, ◌+◌, refl, subst, length, take, arith}
 use Rattle.beep_journal.specs.Log.{got_all}
-use Rattle.beep_link.specs.Causes.{WithText}
-use Rattle.beep_link.proofs.StandLemmas.{text-more}
-use Rattle.beep_lawful.specs.declared.terms.Terms.{Terms}
+use Rattle.beep_link.specs.Causes.{ended_by}
+use Rattle.beep_link.proofs.StandLemmas.{text-map}
 use Rattle.beep_session.specs.Lawfully.{terms_of}
-use Rattle.beep_ends.specs.Logs.{StandsOn, StopsOn}
-use Rattle.beep_ends.proofs.OnLemmas.{got-last, got-more, got-whole, length-rest, rest-some}
+use Rattle.beep_talk.specs.Plan.{PlainPlan}
+use Rattle.beep_steps.specs.Logs.{StopsOn}
+use Rattle.beep_steps.specs.Serving.{ServesOn}
+use Rattle.beep_steps.proofs.OnLemmas.{got-last, got-more, got-whole, length-rest, rest-some}
+use Rattle.beep_ends.specs.Listening.{Listens, WritesLines, is_whole, plan_of}
+use Rattle.beep_ends.proofs.HearLemmas.{text-here, text-then}
 use Rattle.beep_ends.proofs.listener.Listener.hear_all.Goals as goal
 
 pub returns-in-Err-clause-stopped : goal.returns-in-Err-clause-stopped
-returns-in-Err-clause-stopped g c log s =
+returns-in-Err-clause-stopped g c log text s =
     let bytes = c.args.bytes.now in
-    subst (λ (t : Terms). StopsOn t c.in-Err.stop (got_all bytes log)) c.loop.invariant.terms
+    let w = c.loop.invariant.listens log text s in
+    subst (λ (p : PlainPlan). StopsOn p.terms c.in-Err.stop (got_all bytes log)) c.loop.invariant.plan
     (subst (StopsOn (terms_of c.loop.self.session) c.in-Err.stop) (got-last c.loop.at bytes log)
-    (c.in-Err.ensures.stopped (got_all (take c.loop.at bytes) log) (c.loop.invariant.stands log s)))
+    (c.in-Err.ensures.stopped (got_all (take c.loop.at bytes) log) w.2.on))
+
+pub returns-in-Err-clause-wrote : goal.returns-in-Err-clause-wrote
+returns-in-Err-clause-wrote g c log text s =
+    let state = g.O.Sink.state in
+    let bytes = c.args.bytes.now in
+    let l = c.loop.self in
+    let front = got_all (take c.loop.at bytes) log in
+    let before = (state c.args.output.now).written in
+    let mid = (state c.loop.output).written in
+    let after = (state c.hear_some.new.output).written in
+    let whole = is_whole (ended_by c.in-Err.stop) in
+    let buffer = c.hear_some.new.self.lines.octets.octets in
+    text-then (λ t. Listens l.session l.bodies l.lines.octets.octets front t) (λ t. WritesLines (plan_of c.args.self.now.session) whole (got_all bytes log) (t ++ buffer)) text before mid after
+    (λ more t. text-map mid after _ _ (λ two w. subst (λ (p : PlainPlan). WritesLines p whole (got_all bytes log) (((text ++ more) ++ two) ++ buffer)) c.loop.invariant.plan
+    (subst (λ x. WritesLines (plan_of l.session) whole x (((text ++ more) ++ two) ++ buffer)) (got-last c.loop.at bytes log) w)) (c.in-Err.ensures.wrote front (text ++ more) t))
+    (c.loop.invariant.listens log text s)
 
 pub returns-clause-heard : goal.returns-clause-heard
-returns-clause-heard g c log s =
-    let m = c.loop.invariant.more log s in
+returns-clause-heard g c log text s =
+    let bytes = c.args.bytes.now in
+    let state = g.O.Sink.state in
+    let l = c.loop.self in
+    let m = c.loop.invariant.more log text s in
     let w = c.loop.invariant.within in
-    let whole : c.loop.at ≡ length c.args.bytes.now = omega (arith, m, w, c.loop-test.false) in
-    subst (StandsOn c.loop.self.session) (got-whole c.loop.at c.args.bytes.now log whole) (c.loop.invariant.stands log s)
+    let whole : c.loop.at ≡ length bytes = omega (arith, m, w, c.loop-test.false) in
+    text-map (state c.args.output.now).written (state c.loop.output).written _ _
+    (λ more t. subst (λ x. Listens l.session l.bodies l.lines.octets.octets x (text ++ more)) (got-whole c.loop.at bytes log whole) t) (c.loop.invariant.listens log text s)
+
+pub returns-then-bytes-at-clause-heard : goal.returns-then-bytes-at-clause-heard
+returns-then-bytes-at-clause-heard g c log text s =
+    let bytes = c.args.bytes.now in
+    let state = g.O.Sink.state in
+    let l = c.loop.self in
+    let w = c.loop.invariant.within in
+    let whole : c.loop.at ≡ length bytes = omega (arith, w, c.if-bytes-at.true) in
+    text-map (state c.args.output.now).written (state c.loop.output).written _ _
+    (λ more t. subst (λ x. Listens l.session l.bodies l.lines.octets.octets x (text ++ more)) (got-whole c.loop.at bytes log whole) t) (c.loop.invariant.listens log text s)
+
+pub loop-init : goal.loop-init
+loop-init g c = record {
+  within = omega arith;
+  plan = refl;
+  listens = λ log text l.
+      let a = c.args.self.now in
+      text-here text (g.O.Sink.state c.args.output.now).written (λ t. Listens a.session a.bodies a.lines.octets.octets log t) l;
+  serving = λ plan log s. s;
+  used = λ plan log s. omega arith;
+  more = λ log text l. omega arith;
+  kept = omega arith;
+}
 
 pub loop-preserved : goal.loop-preserved
 loop-preserved g c =
+    let state = g.O.Sink.state in
     let bytes = c.args.bytes.now in
     let i = c.loop.invariant in
     let e = c.in-Ok.ensures in
+    let l = c.loop.self in
+    let n = c.hear_some.new.self in
     record {
       within = omega (arith, i.within, e.within, length-rest c.loop.at bytes);
-      terms = c.hear_some.ensures.terms ∙ i.terms;
-      stands = λ log s. subst (StandsOn c.hear_some.new.self.session) (got-more c.loop.at c.in-Ok.count bytes log) (e.heard (got_all (take c.loop.at bytes) log) (i.stands log s));
-      more = λ log s.
-          let some = e.more (got_all (take c.loop.at bytes) log) (i.stands log s) (rest-some c.loop.at bytes (omega (arith, c.if-bytes-at.false))) in
-          omega (arith, some, i.more log s);
-      wrote = let state = g.O.Sink.state in
-          text-more (state c.args.output.now).written (state c.loop.output).written (state c.hear_some.new.output).written (λ _. Unit {0}) (λ _. Unit {0}) (λ text p. c.hear_some.ensures.wrote) i.wrote;
+      plan = c.hear_some.ensures.plan ∙ i.plan;
+      listens = λ log text s.
+          let front = got_all (take c.loop.at bytes) log in
+          text-then (λ t. Listens l.session l.bodies l.lines.octets.octets front t)
+          (λ t. Listens n.session n.bodies n.lines.octets.octets (got_all (take (c.loop.at + c.in-Ok.count) bytes) log) t) text
+          (state c.args.output.now).written (state c.loop.output).written (state c.hear_some.new.output).written
+          (λ more t. text-map (state c.loop.output).written (state c.hear_some.new.output).written _ _
+          (λ two h. subst (λ x. Listens n.session n.bodies n.lines.octets.octets x ((text ++ more) ++ two)) (got-more c.loop.at c.in-Ok.count bytes log) h) (e.heard front (text ++ more) t))
+          (i.listens log text s);
+      serving = λ plan log s.
+          subst (ServesOn plan n.session) (got-more c.loop.at c.in-Ok.count bytes log) (e.serving plan (got_all (take c.loop.at bytes) log) (i.serving plan log s));
+      used = λ plan log s.
+          let some = e.more (got_all (take c.loop.at bytes) log) (i.serving plan log s).on (rest-some c.loop.at bytes (omega (arith, c.if-bytes-at.false))) in
+          omega (arith, some, i.used plan log s);
+      more = λ log text s.
+          let some = e.more (got_all (take c.loop.at bytes) log) (i.listens log text s).2.on (rest-some c.loop.at bytes (omega (arith, c.if-bytes-at.false))) in
+          omega (arith, some, i.more log text s);
       kept = omega (arith, i.kept, c.hear_some.ensures.kept);
     }
 
-pub returns-then-bytes-at-clause-wrote : goal.returns-then-bytes-at-clause-wrote
-returns-then-bytes-at-clause-wrote g c = c.loop.invariant.wrote
+pub returns-then-bytes-at-clause-serving : goal.returns-then-bytes-at-clause-serving
+returns-then-bytes-at-clause-serving g c plan log s =
+    let bytes = c.args.bytes.now in
+    let w = c.loop.invariant.within in
+    let whole : c.loop.at ≡ length bytes = omega (arith, w, c.if-bytes-at.true) in
+    subst (ServesOn plan c.loop.self.session) (got-whole c.loop.at bytes log whole) (c.loop.invariant.serving plan log s)
 
-pub returns-clause-wrote : goal.returns-clause-wrote
-returns-clause-wrote g c = c.loop.invariant.wrote
-
-pub returns-in-Err-clause-wrote : goal.returns-in-Err-clause-wrote
-returns-in-Err-clause-wrote g c =
-    let state = g.O.Sink.state in
-    text-more (state c.args.output.now).written (state c.loop.output).written (state c.hear_some.new.output).written (λ _. Unit {0}) (λ _. Unit {0}) (λ text p. c.hear_some.ensures.wrote) c.loop.invariant.wrote
+pub returns-clause-serving : goal.returns-clause-serving
+returns-clause-serving g c plan log s =
+    let bytes = c.args.bytes.now in
+    let m = c.loop.invariant.used plan log s in
+    let w = c.loop.invariant.within in
+    let whole : c.loop.at ≡ length bytes = omega (arith, m, w, c.loop-test.false) in
+    subst (ServesOn plan c.loop.self.session) (got-whole c.loop.at bytes log whole) (c.loop.invariant.serving plan log s)

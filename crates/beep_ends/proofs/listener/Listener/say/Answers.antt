@@ -1,11 +1,9 @@
 -- What goes out leaves what is kept, and a frame of channel zero may end lives.
-use Rattle.std.proofs.Common.{◌≡◌, ◌∙◌, ◌==◌, true, false, sym, ap, subst, rules, ℕ, List}
+use Rattle.std.proofs.Common.{◌≡◌, ◌∙◌, ◌==◌, false, sym, ap, subst, rules, ℕ, List}
 use Rattle.beep_journal.specs.Log.{put_all}
-use Rattle.beep_session.specs.Session.{Held}
-use Rattle.beep_speaking.specs.declared.emit.Emit.{Emit}
 use Rattle.beep_lines.specs.declared.bodies.Body.{Body}
-use Rattle.beep_ends.specs.Listening.{Listens, Spoke, is_zero_frame, plan_of}
-use Rattle.beep_ends.specs.Pruning.{HasPruned}
+use Rattle.beep_steps.specs.Steps.{is_zero_frame}
+use Rattle.beep_ends.specs.Listening.{Listens}
 use Rattle.beep_ends.proofs.ListenLemmas.{same-plan, says-listens, stays-listens, zero-listens}
 use Rattle.beep_ends.proofs.listener.Listener.say.Goals as goal
 
@@ -45,3 +43,7 @@ returns-else-head-ne0-clause-listens c log text l =
     let lines : (x : List ℕ) → x ≡ octets → Listens c.begun.new.self.session c.begun.new.self.bodies x after text =
     λ x e. subst (λ (y : List ℕ). Listens c.begun.new.self.session c.begun.new.self.bodies y after text) (sym e) (bodies c.begun.new.self.bodies c.begun.ensures.bodies) in
     lines c.begun.new.self.lines.octets.octets (ap (λ o. o.octets.octets) c.begun.ensures.lines)
+
+pub returns-else-head-ne0-clause-serving : goal.returns-else-head-ne0-clause-serving
+returns-else-head-ne0-clause-serving c plan log s =
+    c.begun.ensures.serving plan (put_all c.say_next.new.out.octets log) (c.say_next.ensures.serving plan log s)

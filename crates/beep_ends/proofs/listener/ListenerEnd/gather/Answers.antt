@@ -1,11 +1,82 @@
 -- What was said joins what is to be written.
-use Rattle.std.proofs.Common.{◌∙◌, ap}
-use Rattle.beep_talk.specs.Plan.{PlainPlan}
+use Rattle.std.proofs.Common.{◌∙◌, ap, subst, sym}
+use Rattle.beep_journal.specs.Log.{put_all}
+use Rattle.beep_steps.specs.Logs.{moments}
+use Rattle.beep_steps.specs.Serving.{ServesOn}
+use Rattle.beep_ends.specs.Listening.{plan_of}
+use Rattle.beep_ends.proofs.HearLemmas.{listens-as}
+use Rattle.beep_ends.proofs.ListenLemmas.{same-plan}
 use Rattle.beep_ends.proofs.listener.ListenerEnd.gather.Goals as goal
+
+pub returns-in_err-is_given-clause-said : goal.returns-in_err-is_given-clause-said
+returns-in_err-is_given-clause-said c log text s =
+    let a = c.args.self.now in
+    let n = c.refill.new.self in
+    let e = c.refill.ensures in
+    let lines = ap (λ x. x.octets.octets) e.lines in
+    let octets = put_all c.args.out.now.octets (moments log) in (
+      record {
+        listens = listens-as a.session a.bodies a.lines.octets.octets text octets s.0.listens n.session n.bodies n.lines.octets.octets e.stays e.bodies lines;
+        dry = lines ∙ s.0.dry;
+      },
+      subst (λ p. ServesOn p n.session octets) (sym (same-plan a.session n.session e.stays.terms e.stays.offers)) (e.serving (plan_of a.session) octets s.1),
+    )
+
+pub loop-init : goal.loop-init
+loop-init c =
+    let a = c.args.self.now in
+    let n = c.refill.new.self in
+    let e = c.refill.ensures in
+    record {
+      plan = same-plan a.session n.session e.stays.terms e.stays.offers;
+      listens = λ log text l.
+          listens-as a.session a.bodies a.lines.octets.octets text (put_all c.args.out.now.octets log) l n.session n.bodies n.lines.octets.octets e.stays e.bodies
+          (ap (λ x. x.octets.octets) e.lines);
+      serving = λ plan log s. e.serving plan (put_all c.args.out.now.octets log) s;
+      lines = e.lines;
+    }
 
 pub loop-preserved : goal.loop-preserved
 loop-preserved c =
     record {
-      terms = ap (λ (p : PlainPlan). p.terms) c.say.ensures.plan ∙ c.loop.invariant.terms;
-      stands = λ log s. c.say.ensures.said log (c.loop.invariant.stands log s);
+      plan = c.say.ensures.plan ∙ c.loop.invariant.plan;
+      listens = λ log text l. c.say.ensures.listens log text (c.loop.invariant.listens log text l);
+      serving = λ plan log s. c.say.ensures.serving plan log (c.loop.invariant.serving plan log s);
+      lines = c.say.ensures.lines ∙ c.loop.invariant.lines;
     }
+
+pub returns-then-spare-lt-FRAME_ROOM-clause-said : goal.returns-then-spare-lt-FRAME_ROOM-clause-said
+returns-then-spare-lt-FRAME_ROOM-clause-said c log text s =
+    let i = c.loop.invariant in (
+      record { listens = i.listens (moments log) text s.0.listens; dry = ap (λ x. x.octets.octets) i.lines ∙ s.0.dry },
+      subst (λ p. ServesOn p c.loop.self.session (put_all c.loop.out.octets (moments log))) (sym i.plan) (i.serving (plan_of c.args.self.now.session) (moments log) s.1),
+    )
+
+pub returns-clause-said : goal.returns-clause-said
+returns-clause-said c log text s =
+    let i = c.loop.invariant in (
+      record { listens = i.listens (moments log) text s.0.listens; dry = ap (λ x. x.octets.octets) i.lines ∙ s.0.dry },
+      subst (λ p. ServesOn p c.loop.self.session (put_all c.loop.out.octets (moments log))) (sym i.plan) (i.serving (plan_of c.args.self.now.session) (moments log) s.1),
+    )
+
+pub returns-in_err-say-clause-said : goal.returns-in_err-say-clause-said
+returns-in_err-say-clause-said c log text s =
+    let i = c.loop.invariant in (
+      record {
+        listens = c.say.ensures.listens (moments log) text (i.listens (moments log) text s.0.listens);
+        dry = ap (λ x. x.octets.octets) (c.say.ensures.lines ∙ i.lines) ∙ s.0.dry;
+      },
+      subst (λ p. ServesOn p c.say.new.self.session (put_all c.say.new.out.octets (moments log))) (sym (c.say.ensures.plan ∙ i.plan))
+          (c.say.ensures.serving (plan_of c.args.self.now.session) (moments log) (i.serving (plan_of c.args.self.now.session) (moments log) s.1)),
+    )
+
+pub returns-then-not-branch-clause-said : goal.returns-then-not-branch-clause-said
+returns-then-not-branch-clause-said c log text s =
+    let i = c.loop.invariant in (
+      record {
+        listens = c.say.ensures.listens (moments log) text (i.listens (moments log) text s.0.listens);
+        dry = ap (λ x. x.octets.octets) (c.say.ensures.lines ∙ i.lines) ∙ s.0.dry;
+      },
+      subst (λ p. ServesOn p c.say.new.self.session (put_all c.say.new.out.octets (moments log))) (sym (c.say.ensures.plan ∙ i.plan))
+          (c.say.ensures.serving (plan_of c.args.self.now.session) (moments log) (i.serving (plan_of c.args.self.now.session) (moments log) s.1)),
+    )

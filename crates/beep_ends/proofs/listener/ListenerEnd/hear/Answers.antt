@@ -1,38 +1,62 @@
 -- What was written is on the output, and what stops the session shows on the log.
-use Rattle.std.proofs.Common.{◌∷◌, subst, sym}
-use Rattle.std.specs.Prelude.{IfErr, OnOk}
+use Rattle.std.proofs.Common.{◌∷◌, ◌++◌, refl, subst, sym}
 use Rattle.beep_wires.specs.Log.{read}
 use Rattle.beep_journal.specs.Log.{got_all}
 use Rattle.beep_session.specs.Lawfully.{terms_of}
-use Rattle.beep_link.specs.Causes.{ended_by, WithText}
-use Rattle.beep_link.proofs.StandLemmas.{text-map, text-more}
-use Rattle.beep_ends.specs.Logs.{moments, SaysNothing, Shows, StandsOn}
-use Rattle.beep_ends.proofs.OnLemmas.{err-map, nothing-stops, ok-then, stopped-on}
+use Rattle.beep_steps.specs.Logs.{moments, SaysNothing}
+use Rattle.beep_link.proofs.StandLemmas.{text-map}
+use Rattle.beep_steps.specs.Serving.{ServesOn}
+use Rattle.beep_steps.proofs.OnLemmas.{err-map, nothing-stops, ok-then, stopped-on}
+use Rattle.beep_steps.proofs.ServeLemmas.{shows-serving}
+use Rattle.beep_ends.specs.Listening.{Listens, ListensDry, plan_of}
+use Rattle.beep_ends.proofs.HearLemmas.{ok-and, err-both, failed-tells, flushed-listens, heard-or, stop-tells, text-then}
 use Rattle.beep_ends.proofs.listener.ListenerEnd.hear.Goals as goal
 
 pub returns-in-Ok-clause-heard : goal.returns-in-Ok-clause-heard
 returns-in-Ok-clause-heard g c log text s =
     let state = g.O.Sink.state in
-    ok-then c.hear_all-heard.result (StandsOn c.hear_all-heard.new.self.session (moments (read c.args.bytes.now ∷ log))) _
-    (λ p. text-more (state c.args.output.now).written (state c.hear_all-heard.new.output).written (state c.flush.new.output).written (λ _. Unit {0}) (λ _. StandsOn c.hear_all-heard.new.self.session (moments (read c.args.bytes.now ∷ log)))
-    (λ t u. text-map (state c.hear_all-heard.new.output).written (state c.flush.new.output).written (λ _. Unit {0}) (λ _. StandsOn c.hear_all-heard.new.self.session (moments (read c.args.bytes.now ∷ log))) (λ v w. p) (text-map (state c.hear_all-heard.new.output).written (state c.flush.new.output).written _ (λ _. Unit {0}) (λ v w. tt) c.in-Ok.ensures.ok)) c.hear_all-heard.ensures.wrote)
-    (c.hear_all-heard.ensures.heard (moments log) s)
+    let h = c.hear_all-heard.new.self in
+    let before = (state c.args.output.now).written in
+    let mid = (state c.hear_all-heard.new.output).written in
+    let after = (state c.flush.new.output).written in
+    let all = moments (read c.args.bytes.now ∷ log) in
+    ok-and c.hear_all-heard.result _ _ _
+    (λ w v. text-map before after _ _ (λ more d. (d, subst (λ p. ServesOn p h.session all) (sym c.hear_all-heard.ensures.plan) v)) w)
+    (ok-then c.hear_all-heard.result _ _
+    (text-then (λ t. Listens h.session h.bodies h.lines.octets.octets all t) (λ t. ListensDry h.session h.bodies c.flush.new.self.octets.octets all t) text before mid after
+    (λ more l. flushed-listens h.session h.bodies h.lines.octets.octets c.flush.new.self.octets.octets (text ++ more) all mid after l c.in-Ok.ensures.ok c.flush.ensures.empty))
+    (c.hear_all-heard.ensures.heard (moments log) text s.0.listens))
+    (c.hear_all-heard.ensures.serving (plan_of c.args.self.now.session) (moments log) s.1)
 
 pub returns-in-Ok-clause-stopped : goal.returns-in-Ok-clause-stopped
 returns-in-Ok-clause-stopped g c log text s =
     let state = g.O.Sink.state in
-    let session = c.args.self.now.session in
-    err-map c.hear_all-heard.result _ _
-    (λ stop p. text-more (state c.args.output.now).written (state c.hear_all-heard.new.output).written (state c.flush.new.output).written (λ _. Unit {0}) (λ _. Shows (terms_of session) (ended_by stop) (read c.args.bytes.now ∷ log))
-    (λ t u. text-map (state c.hear_all-heard.new.output).written (state c.flush.new.output).written (λ _. Unit {0}) (λ _. Shows (terms_of session) (ended_by stop) (read c.args.bytes.now ∷ log)) (λ v w. stopped-on session log s c.args.bytes.now stop p) (text-map (state c.hear_all-heard.new.output).written (state c.flush.new.output).written _ (λ _. Unit {0}) (λ v w. tt) c.in-Ok.ensures.ok))
-    c.hear_all-heard.ensures.wrote) (c.hear_all-heard.ensures.stopped (moments log) s)
+    let a = c.args.self.now in
+    let h = c.hear_all-heard.new.self in
+    let before = (state c.args.output.now).written in
+    let mid = (state c.hear_all-heard.new.output).written in
+    let after = (state c.flush.new.output).written in
+    let all = moments (read c.args.bytes.now ∷ log) in
+    err-map c.hear_all-heard.result _ _ (λ stop w. text-map before after _ _ (λ more t. (t, shows-serving (plan_of a.session) a.session c.args.bytes.now (moments log) s.1)) w)
+    (err-both c.hear_all-heard.result _ _ _
+    (λ stop p w. stop-tells (plan_of a.session) text before mid after all h.session h.bodies h.lines.octets.octets c.flush.new.self.octets.octets c.hear_all-heard.ensures.plan
+    (read c.args.bytes.now ∷ log) refl c.in-Ok.ensures.ok c.flush.ensures.empty stop (stopped-on a.session log s.0.listens.on c.args.bytes.now stop p) w)
+    (c.hear_all-heard.ensures.stopped (moments log) text s.0.listens) (c.hear_all-heard.ensures.wrote (moments log) text s.0.listens))
 
 pub returns-in-Err-clause-stopped : goal.returns-in-Err-clause-stopped
 returns-in-Err-clause-stopped g c log text s =
     let state = g.O.Sink.state in
-    let session = c.args.self.now.session in
+    let a = c.args.self.now in
+    let h = c.hear_all-heard.new.self in
+    let before = (state c.args.output.now).written in
+    let mid = (state c.hear_all-heard.new.output).written in
+    let after = (state c.flush.new.output).written in
     let octets = c.args.bytes.now in
-    let shows = stopped-on session log s octets c.in-Err.stop (nothing-stops (terms_of session) c.in-Err.stop (got_all octets (moments log)) (subst SaysNothing (sym c.in-Err.ensures.stopped) tt)) in
-    text-more (state c.args.output.now).written (state c.hear_all-heard.new.output).written (state c.flush.new.output).written (λ _. Unit {0}) (λ _. Shows (terms_of session) (ended_by c.in-Err.stop) (read octets ∷ log))
-    (λ t u. text-map (state c.hear_all-heard.new.output).written (state c.flush.new.output).written (λ _. Unit {0}) (λ _. Shows (terms_of session) (ended_by c.in-Err.stop) (read octets ∷ log)) (λ v w. shows) (text-map (state c.hear_all-heard.new.output).written (state c.flush.new.output).written _ (λ _. Unit {0}) (λ v w. tt) c.in-Err.ensures.err))
-    c.hear_all-heard.ensures.wrote
+    let all = moments (read octets ∷ log) in
+    let stop = c.in-Err.stop in
+    let shows = stopped-on a.session log s.0.listens.on octets stop (nothing-stops (terms_of a.session) stop (got_all octets (moments log)) (subst SaysNothing (sym c.in-Err.ensures.stopped) tt)) in
+    let w = heard-or (plan_of a.session) text before mid after all h.session h.bodies h.lines.octets.octets c.flush.new.self.octets.octets c.hear_all-heard.ensures.plan c.hear_all-heard.result
+    (c.hear_all-heard.ensures.heard (moments log) text s.0.listens) (c.hear_all-heard.ensures.wrote (moments log) text s.0.listens) in
+    text-map before after _ _ (λ more t. (t, shows-serving (plan_of a.session) a.session octets (moments log) s.1))
+    (failed-tells (plan_of a.session) text before mid after all h.session h.bodies h.lines.octets.octets c.flush.new.self.octets.octets c.hear_all-heard.ensures.plan
+    (read octets ∷ log) refl c.in-Err.ensures.err stop c.in-Err.ensures.stopped shows w.0 w.1)

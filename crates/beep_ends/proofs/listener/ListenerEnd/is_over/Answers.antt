@@ -1,10 +1,20 @@
--- A session that is over, and broke no rule, is released.
-use Rattle.std.proofs.Common.{◌∙◌, sym}
-use Rattle.beep_ends.specs.Logs.{moments}
-use Rattle.beep_ends.proofs.OnLemmas.{over-on, shows-release}
+-- A session that is over, and broke no rule, is released, and its lines are written.
+use Rattle.std.proofs.Common.{◌∙◌, sym, []}
+use Rattle.beep_steps.specs.Logs.{moments}
+use Rattle.beep_steps.proofs.OnLemmas.{over-on, shows-release}
+use Rattle.beep_steps.proofs.ServeLemmas.{shows-served}
+use Rattle.beep_ends.specs.Listening.{plan_of}
+use Rattle.beep_ends.proofs.HearLemmas.{dry-all}
 use Rattle.beep_ends.proofs.listener.ListenerEnd.is_over.Goals as goal
 
 pub returns : goal.returns
 returns c = record {
-  over = λ log text e s. shows-release c.args.self.now.session (moments log) s (over-on c.args.self.now.session (moments log) s (sym c.is_over.ensures ∙ e));
+  over = λ log text e s.
+      let a = c.args.self.now in (
+        record {
+          shows = shows-release a.session (moments log) s.0.listens.on (over-on a.session (moments log) s.0.listens.on (sym c.is_over.ensures ∙ e));
+          lines = dry-all a.session a.bodies a.lines.octets.octets text (moments log) s.0;
+        },
+        shows-served (plan_of a.session) a.session [] (moments log) s.1,
+      );
 }

@@ -1,7 +1,20 @@
--- The octets that came of a frame are those that the log shows.
-use Rattle.beep_ends.specs.Logs.{moments}
-use Rattle.beep_ends.proofs.OnLemmas.{shows-cut}
+-- The octets that came of a frame are those that the log shows, and the lines are written.
+use Rattle.std.proofs.Common.{[]}
+use Rattle.beep_steps.specs.Logs.{moments}
+use Rattle.beep_steps.proofs.OnLemmas.{shows-cut}
+use Rattle.beep_steps.proofs.ServeLemmas.{shows-served}
+use Rattle.beep_ends.specs.Listening.{plan_of}
+use Rattle.beep_ends.proofs.HearLemmas.{dry-all}
 use Rattle.beep_ends.proofs.listener.ListenerEnd.left.Goals as goal
 
 pub returns : goal.returns
-returns c = record { cut = λ log text s. shows-cut c.args.self.now.session (moments log) s c.left.result c.left.ensures.stands }
+returns c = record {
+  cut = λ log text s.
+      let a = c.args.self.now in (
+        record {
+          shows = shows-cut a.session (moments log) s.0.listens.on c.left.result c.left.ensures.stands;
+          lines = dry-all a.session a.bodies a.lines.octets.octets text (moments log) s.0;
+        },
+        shows-served (plan_of a.session) a.session [] (moments log) s.1,
+      );
+}

@@ -1,25 +1,31 @@
 -- Each event uses one octet at least, so that all are used.
-use Rattle.std.proofs.Common.{◌≡◌, ◌∙◌, subst, length, take, arith}
+use Rattle.std.proofs.Common.{◌≡◌, ◌∙◌, subst, true, length, take, arith}
 use Rattle.beep_journal.specs.Log.{got_all}
-use Rattle.beep_lawful.specs.declared.terms.Terms.{Terms}
-use Rattle.beep_session.specs.Lawfully.{terms_of}
-use Rattle.beep_ends.specs.Logs.{StandsOn, StopsOn}
-use Rattle.beep_ends.proofs.OnLemmas.{got-last, got-more, got-whole, length-rest, rest-some}
+use Rattle.beep_talk.specs.Plan.{PlainPlan}
+use Rattle.beep_steps.specs.Sending.{StopsSending}
+use Rattle.beep_steps.proofs.OnLemmas.{got-last, got-more, got-whole, length-rest, rest-some}
+use Rattle.beep_ends.specs.Sender.{plan_of, SendsBy}
 use Rattle.beep_ends.proofs.sender.Sender.hear_all.Goals as goal
 
 pub returns-in-Err-clause-stopped : goal.returns-in-Err-clause-stopped
 returns-in-Err-clause-stopped c log s =
     let bytes = c.args.bytes.now in
-    subst (λ (t : Terms). StopsOn t c.in-Err.stop (got_all bytes log)) c.loop.invariant.terms
-    (subst (StopsOn (terms_of c.loop.self.session) c.in-Err.stop) (got-last c.loop.at bytes log)
-    (c.in-Err.ensures.stopped (got_all (take c.loop.at bytes) log) (c.loop.invariant.stands log s)))
+    subst (λ (plan : PlainPlan). StopsSending plan true c.in-Err.stop (got_all bytes log)) c.loop.invariant.plan
+    (subst (StopsSending (plan_of c.loop.self) true c.in-Err.stop) (got-last c.loop.at bytes log)
+    (c.in-Err.ensures.stopped (got_all (take c.loop.at bytes) log) (c.loop.invariant.sends log s)))
 
 pub returns-clause-heard : goal.returns-clause-heard
 returns-clause-heard c log s =
     let m = c.loop.invariant.more log s in
     let w = c.loop.invariant.within in
     let whole : c.loop.at ≡ length c.args.bytes.now = omega (arith, m, w, c.loop-test.false) in
-    subst (StandsOn c.loop.self.session) (got-whole c.loop.at c.args.bytes.now log whole) (c.loop.invariant.stands log s)
+    subst (SendsBy c.loop.self) (got-whole c.loop.at c.args.bytes.now log whole) (c.loop.invariant.sends log s)
+
+pub returns-then-bytes-at-clause-heard : goal.returns-then-bytes-at-clause-heard
+returns-then-bytes-at-clause-heard c log s =
+    let w = c.loop.invariant.within in
+    let whole : c.loop.at ≡ length c.args.bytes.now = omega (arith, w, c.if-bytes-at.true) in
+    subst (SendsBy c.loop.self) (got-whole c.loop.at c.args.bytes.now log whole) (c.loop.invariant.sends log s)
 
 pub loop-preserved : goal.loop-preserved
 loop-preserved c =
@@ -28,9 +34,9 @@ loop-preserved c =
     let e = c.in-Ok.ensures in
     record {
       within = omega (arith, i.within, e.within, length-rest c.loop.at bytes);
-      terms = c.hear_some.ensures.terms ∙ i.terms;
-      stands = λ log s. subst (StandsOn c.hear_some.new.self.session) (got-more c.loop.at c.in-Ok.count bytes log) (e.heard (got_all (take c.loop.at bytes) log) (i.stands log s));
+      plan = c.hear_some.ensures.plan ∙ i.plan;
+      sends = λ log s. subst (SendsBy c.hear_some.new.self) (got-more c.loop.at c.in-Ok.count bytes log) (e.heard (got_all (take c.loop.at bytes) log) (i.sends log s));
       more = λ log s.
-          let some = e.more (got_all (take c.loop.at bytes) log) (i.stands log s) (rest-some c.loop.at bytes (omega (arith, c.if-bytes-at.false))) in
+          let some = e.more (got_all (take c.loop.at bytes) log) (i.sends log s) (rest-some c.loop.at bytes (omega (arith, c.if-bytes-at.false))) in
           omega (arith, some, i.more log s);
     }

@@ -1,19 +1,67 @@
--- What stops the session as a message is settled shows on the log of all octets.
-use Rattle.std.proofs.Common.{subst, take, drop}
+-- What comes leaves a sender so far, and what stops it shows on the log.
+use Rattle.std.proofs.Common.{true, refl, subst, take, drop}
 use Rattle.beep_journal.specs.Log.{got_all}
-use Rattle.beep_lawful.specs.declared.terms.Terms.{Terms}
 use Rattle.beep_session.specs.Lawfully.{terms_of}
-use Rattle.beep_ends.specs.declared.hearing.Came.{Came}
-use Rattle.beep_ends.specs.Logs.{ComesOn, StopsOn, WaitsOn}
-use Rattle.beep_ends.proofs.OnLemmas.{got-rest}
+use Rattle.beep_talk.specs.Plan.{PlainPlan}
+use Rattle.beep_steps.specs.declared.hearing.Came.{Came}
+use Rattle.beep_steps.specs.Sending.{ComesSending, StopsSending}
+use Rattle.beep_steps.proofs.CallSends.{with-terms}
+use Rattle.beep_steps.proofs.OnLemmas.{got-rest}
+use Rattle.beep_ends.specs.Sender.{plan_by, plan_of, progress_of}
+use Rattle.beep_ends.proofs.SenderLemmas.{same-terms, waits-terms}
 use Rattle.beep_ends.proofs.sender.Sender.hear_some.Goals as goal
 
 pub returns-in-Err-clause-stopped : goal.returns-in-Err-clause-stopped
 returns-in-Err-clause-stopped c log s =
+    let one = c.args.self.now in
+    c.finished.ensures.stops (plan_of one) (got_all c.args.bytes.now log) (c.in-Err.ensures.stops (plan_of one) (progress_of one) log refl s)
+
+pub returns-in-More-clause-heard : goal.returns-in-More-clause-heard
+returns-in-More-clause-heard c log s =
+    let one = c.args.self.now in
+    let new = c.hear_next.new.session in
+    let front = got_all (take c.in-Ok.heard.0 c.args.bytes.now) log in
+    with-terms (plan_of one) (terms_of new) (progress_of one) new front
+    (subst (λ (x : Came). ComesSending (plan_of one) (progress_of one) x new front) c.in-More.is (c.in-Ok.ensures.sending (plan_of one) (progress_of one) log s))
+
+pub returns-in-More-clause-more : goal.returns-in-More-clause-more
+returns-in-More-clause-more c log s some = c.in-Ok.ensures.more log s.on some
+
+pub returns-in-Arrived-clause-heard : goal.returns-in-Arrived-clause-heard
+returns-in-Arrived-clause-heard c log s =
+    let one = c.args.self.now in
+    let mid = c.hear_next.new.session in
+    let new = c.take_part.new.session in
+    let front = got_all (take c.in-Ok.heard.0 c.args.bytes.now) log in
+    with-terms (plan_of one) (terms_of new) (progress_of one) new front
+    (c.take_part.ensures.sending (plan_of one) (progress_of one) front
+    (subst (λ (x : Came). ComesSending (plan_of one) (progress_of one) x mid front) c.in-Arrived.is (c.in-Ok.ensures.sending (plan_of one) (progress_of one) log s)))
+
+pub returns-in-Arrived-clause-more : goal.returns-in-Arrived-clause-more
+returns-in-Arrived-clause-more c log s some = c.in-Ok.ensures.more log s.on some
+
+pub returns-in-Ok-settle-clause-heard : goal.returns-in-Ok-settle-clause-heard
+returns-in-Ok-settle-clause-heard c log s =
+    let one = c.args.self.now in
+    let new = c.hear_next.new.session in
+    let front = got_all (take c.in-Ok.heard.0 c.args.bytes.now) log in
+    c.in-Ok-settle.ensures.settled front
+    (waits-terms (plan_of one) (terms_of new) (progress_of one) new front
+    (subst (λ (x : Came). ComesSending (plan_of one) (progress_of one) x new front) c.in-Zero.is (c.in-Ok.ensures.sending (plan_of one) (progress_of one) log s)))
+
+pub returns-in-Ok-settle-clause-more : goal.returns-in-Ok-settle-clause-more
+returns-in-Ok-settle-clause-more c log s some = c.in-Ok.ensures.more log s.on some
+
+pub returns-in-Err-settle-clause-stopped : goal.returns-in-Err-settle-clause-stopped
+returns-in-Err-settle-clause-stopped c log s =
+    let one = c.args.self.now in
+    let new = c.hear_next.new.session in
     let bytes = c.args.bytes.now in
-    let count = c.in_ok-count.count in
+    let count = c.in-Ok.heard.0 in
     let front = got_all (take count bytes) log in
-    let waits : WaitsOn c.hear_next.new.session front =
-    subst (λ (x : Came). ComesOn x c.hear_next.new.session front) c.in-Zero.is (c.in_ok-count.ensures.heard log s) in
-    subst (λ (t : Terms). StopsOn t c.in-Err.stop (got_all bytes log)) c.hear_next.ensures.terms
-    (subst (StopsOn (terms_of c.hear_next.new.session) c.in-Err.stop) (got-rest count bytes log) (c.in-Err.ensures.stopped front (drop count bytes) waits))
+    let stop = c.in-Err-settle.stop in
+    subst (λ (plan : PlainPlan). StopsSending plan true stop (got_all bytes log)) (same-terms one.uri.now one.lines.now one.session new c.hear_next.ensures.terms)
+    (subst (StopsSending (plan_by new one.uri.now one.lines.now) true stop) (got-rest count bytes log)
+    (c.in-Err-settle.ensures.stopped front (drop count bytes)
+    (waits-terms (plan_of one) (terms_of new) (progress_of one) new front
+    (subst (λ (x : Came). ComesSending (plan_of one) (progress_of one) x new front) c.in-Zero.is (c.in-Ok.ensures.sending (plan_of one) (progress_of one) log s)))))

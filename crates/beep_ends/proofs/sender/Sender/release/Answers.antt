@@ -1,18 +1,31 @@
--- A release that is given or refused leaves what the session stands for.
-use Rattle.beep_ends.proofs.CallLemmas.{asked-stays}
+-- A release that is given is the sender's own.
+use Rattle.std.proofs.Common.{ap, rules}
+use Rattle.beep_session.specs.Lawfully.{terms_of}
+use Rattle.beep_ends.specs.Sender.{plan_of, progress_of}
+use Rattle.beep_steps.proofs.CallSends.{releases-sends, unchanged-sends, with-terms}
+use Rattle.beep_ends.proofs.SenderLemmas.{same-terms}
 use Rattle.beep_ends.proofs.sender.Sender.release.Goals as goal
 
-pub returns-in-Err-NoMemory : goal.returns-in-Err-NoMemory
-returns-in-Err-NoMemory c = record {
-  stays = asked-stays c.release.result c.args.self.now.session c.release.new.self c.release.ensures.upright _ c.release.ensures.same c.release.ensures.ok c.release.ensures.err;
-}
+pub returns-in-Ok-clause-sends : goal.returns-in-Ok-clause-sends
+returns-in-Ok-clause-sends c log s =
+    let one = c.args.self.now in
+    let new = c.release.new.self in
+    with-terms (plan_of one) (terms_of new) (record (progress_of one) { asked = 3 }) new log
+    (releases-sends (plan_of one) (progress_of one) one.session new (search rules) c.release.ensures.same c.in-Ok.ensures.ok c.release.ensures.upright log s)
 
-pub returns-in-Ok : goal.returns-in-Ok
-returns-in-Ok c = record {
-  stays = asked-stays c.release.result c.args.self.now.session c.release.new.self c.release.ensures.upright _ c.release.ensures.same c.release.ensures.ok c.release.ensures.err;
-}
+pub returns-in-Err-NoMemory-clause-sends : goal.returns-in-Err-NoMemory-clause-sends
+returns-in-Err-NoMemory-clause-sends c log s =
+    let one = c.args.self.now in
+    let new = c.release.new.self in
+    with-terms (plan_of one) (terms_of new) (progress_of one) new log
+    (unchanged-sends (plan_of one) one.session new c.release.ensures.same (progress_of one) c.in-Err-NoMemory.ensures.err c.release.ensures.upright log s)
 
-pub returns-in-Ok-2 : goal.returns-in-Ok-2
-returns-in-Ok-2 c = record {
-  stays = asked-stays c.release.result c.args.self.now.session c.release.new.self c.release.ensures.upright _ c.release.ensures.same c.release.ensures.ok c.release.ensures.err;
-}
+pub returns-in-Err : goal.returns-in-Err
+returns-in-Err c =
+    let one = c.args.self.now in
+    let new = c.release.new.self in
+    record {
+      sends = λ log s. with-terms (plan_of one) (terms_of new) (progress_of one) new log
+          (unchanged-sends (plan_of one) one.session new c.release.ensures.same (progress_of one) c.in-Err.ensures.err c.release.ensures.upright log s);
+      plan = same-terms one.uri.now one.lines.now one.session new (ap terms_of c.release.ensures.same);
+    }

@@ -1,18 +1,35 @@
--- What `one_profile` says of each number it says of this one; and a start that is given or refused
--- leaves what the session stands for.
+-- What `one_profile` says of each number it says of this one; a start that is given is the sender's own.
+use Rattle.std.proofs.Common.{ap, rules}
 use Rattle.beep_ends.specs.declared.sender.TheConstants.{CHANNEL}
-use Rattle.beep_ends.proofs.CallLemmas.{asked-stays}
+use Rattle.beep_session.specs.Lawfully.{terms_of}
+use Rattle.beep_ends.specs.Sender.{plan_of, progress_of}
+use Rattle.beep_steps.proofs.CallSends.{starts-sends, unchanged-sends, with-terms}
+use Rattle.beep_ends.proofs.SenderLemmas.{same-terms}
 use Rattle.beep_ends.proofs.sender.Sender.start.Goals as goal
 
 pub start-requires-clause-back : goal.start-requires-clause-back
 start-requires-clause-back c = c.in_ok-profiles.ensures.back CHANNEL
 
-pub returns-in-Err-NoMemory : goal.returns-in-Err-NoMemory
-returns-in-Err-NoMemory c = record {
-  stays = asked-stays c.start.result c.args.self.now.session c.start.new.self c.start.ensures.upright _ c.start.ensures.same c.start.ensures.ok c.start.ensures.err;
-}
+pub returns-in-Ok-clause-sends : goal.returns-in-Ok-clause-sends
+returns-in-Ok-clause-sends c log s =
+    let one = c.args.self.now in
+    let new = c.start.new.self in
+    with-terms (plan_of one) (terms_of new) (record (progress_of one) { asked = 1 }) new log
+    (starts-sends (plan_of one) (progress_of one) one.session new _ c.in_ok-profiles.ensures.listed (search rules) c.start.ensures.same c.in-Ok.ensures.ok c.start.ensures.upright log s)
+
+pub returns-in-Err-NoMemory-clause-sends : goal.returns-in-Err-NoMemory-clause-sends
+returns-in-Err-NoMemory-clause-sends c log s =
+    let one = c.args.self.now in
+    let new = c.start.new.self in
+    with-terms (plan_of one) (terms_of new) (progress_of one) new log
+    (unchanged-sends (plan_of one) one.session new c.start.ensures.same (progress_of one) c.in-Err-NoMemory.ensures.err c.start.ensures.upright log s)
 
 pub returns : goal.returns
-returns c = record {
-  stays = asked-stays c.start.result c.args.self.now.session c.start.new.self c.start.ensures.upright _ c.start.ensures.same c.start.ensures.ok c.start.ensures.err;
-}
+returns c =
+    let one = c.args.self.now in
+    let new = c.start.new.self in
+    record {
+      sends = λ log s. with-terms (plan_of one) (terms_of new) (progress_of one) new log
+          (unchanged-sends (plan_of one) one.session new c.start.ensures.same (progress_of one) c.in-Err.ensures.err c.start.ensures.upright log s);
+      plan = same-terms one.uri.now one.lines.now one.session new (ap terms_of c.start.ensures.same);
+    }

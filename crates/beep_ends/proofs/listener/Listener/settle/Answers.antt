@@ -1,0 +1,42 @@
+-- A message that is settled may end lives, and what stops there brings no line.
+use Rattle.std.proofs.Common.{◌∙◌, ap, subst, sym}
+use Rattle.beep_steps.specs.Serving.{ServesOn}
+use Rattle.beep_steps.proofs.OnLemmas.{err-map}
+use Rattle.beep_ends.specs.Listening.{plan_of}
+use Rattle.beep_ends.proofs.HearLemmas.{does-stops, listens-same, ok-of, settle-stops}
+use Rattle.beep_ends.proofs.ListenLemmas.{same-plan}
+use Rattle.beep_ends.proofs.PartLemmas.{settled-listens}
+use Rattle.beep_ends.proofs.listener.Listener.settle.Goals as goal
+
+pub returns-in-Err-clause-wrote : goal.returns-in-Err-clause-wrote
+returns-in-Err-clause-wrote c log octets text w =
+    let a = c.args.self.now in
+    settle-stops a.session a.bodies a.lines.octets.octets text log w c.in-Err.stop octets (c.in-Err.ensures.ends log octets w.on)
+
+pub returns-clause-settled : goal.returns-clause-settled
+returns-clause-settled c log text w =
+    let a = c.args.self.now in
+    let n = c.settle_message.new.session in
+    let b = c.prune.new.bodies in
+    let d = c.does.new.self in
+    let z = settled-listens a.session n a.bodies b a.lines.octets.octets text log w (c.in-Ok.ensures.done log w.on)
+    (same-plan a.session n c.settle_message.ensures.terms c.settle_message.ensures.offers) c.prune.ensures in
+    ok-of c.does.result _ (listens-same n d.session b d.bodies a.lines.octets.octets d.lines.octets.octets text log c.does.ensures.session c.does.ensures.bodies
+    (ap (λ x. x.octets.octets) c.does.ensures.lines) z)
+
+pub returns-clause-wrote : goal.returns-clause-wrote
+returns-clause-wrote c log octets text w =
+    let a = c.args.self.now in
+    let n = c.settle_message.new.session in
+    let b = c.prune.new.bodies in
+    let d = c.does.new.self in
+    let same = same-plan a.session n c.settle_message.ensures.terms c.settle_message.ensures.offers in
+    let z = settled-listens a.session n a.bodies b a.lines.octets.octets text log w (c.in-Ok.ensures.done log w.on) same c.prune.ensures in
+    let l = listens-same n d.session b d.bodies a.lines.octets.octets d.lines.octets.octets text log c.does.ensures.session c.does.ensures.bodies
+    (ap (λ x. x.octets.octets) c.does.ensures.lines) z in
+    err-map c.does.result _ _ (λ stop s. does-stops d.session d.bodies d.lines.octets.octets text log l (plan_of a.session) (ap plan_of c.does.ensures.session ∙ same) stop octets s) c.does.ensures.stopped
+
+pub returns-clause-serving : goal.returns-clause-serving
+returns-clause-serving c plan log s =
+    ok-of c.does.result _ (subst (λ h. ServesOn plan h log) (sym c.does.ensures.session) (c.in-Ok.ensures.serving plan log s))
+

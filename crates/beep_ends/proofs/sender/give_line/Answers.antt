@@ -1,0 +1,20 @@
+-- An answer that is given is that of the line; one that finds no room leaves a sender so far.
+use Rattle.std.proofs.Common.{◌≡◌, ◌∷◌, [], rules}
+use Rattle.prof_raw.specs.Entries.{body_of}
+use Rattle.beep_steps.proofs.CallSends.{still-sends}
+use Rattle.beep_ends.proofs.SenderLemmas.{answers-sends}
+use Rattle.beep_ends.proofs.sender.give_line.Goals as goal
+
+pub returns-in-Ok-clause-sends : goal.returns-in-Ok-clause-sends
+returns-in-Ok-clause-sends c plan p at is =
+    let body : c.as_slice.result.now ≡ body_of (c.args.line.now ∷ []) = search rules in
+    answers-sends plan p c.args.answering.now.at is c.args.answering.now.session.now c.answer.new.self.session.now c.args.answering.now.open c.answer.ensures.upright
+    c.args.line.now c.as_slice.result.now at body c.in-Ok.ensures.ok
+
+pub returns-in-Err-Full-clause-sends : goal.returns-in-Err-Full-clause-sends
+returns-in-Err-Full-clause-sends c plan p at is =
+    still-sends plan p c.args.answering.now.session.now c.answer.new.self.session.now c.in-Err-Full.ensures.err c.answer.ensures.upright
+
+pub returns-in-Err-NoMemory-clause-sends : goal.returns-in-Err-NoMemory-clause-sends
+returns-in-Err-NoMemory-clause-sends c plan p at is =
+    still-sends plan p c.args.answering.now.session.now c.answer.new.self.session.now c.in-Err-NoMemory.ensures.err c.answer.ensures.upright

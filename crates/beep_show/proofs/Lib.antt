@@ -1,0 +1,6 @@
+mod EntryLemmas
+mod ListingLemmas
+mod PieceLemmas
+mod PassLemmas
+mod GoLemmas
+mod EndLemmas

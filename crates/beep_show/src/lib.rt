@@ -1,0 +1,14 @@
+//! `beep show`: the frames of an input, one a line, and the words of the last line that each
+//! command ends with.
+#![tactic(auto)]
+
+mod ending;
+mod listing;
+mod showing;
+mod text;
+mod zero;
+
+pub use showing::show;
+pub use text::{
+    LAST_ROOM, append_broken, append_idle, append_numbered, append_refused, append_written,
+};

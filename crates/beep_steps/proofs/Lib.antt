@@ -1,0 +1,20 @@
+-- Proofs.
+pub mod ArrivedLemmas
+pub mod CallLemmas
+pub mod CallSends
+pub mod EmitSends
+pub mod EndSends
+pub mod EndsLemmas
+pub mod FitLemmas
+pub mod GoLemmas
+pub mod HeardSends
+pub mod OnLemmas
+pub mod PartLemmas
+pub mod SendsLemmas
+pub mod ServeCalls
+pub mod ServeLemmas
+pub mod ServedLemmas
+pub mod SettleSends
+pub mod StepLemmas
+pub mod TakenLemmas
+pub mod TextsLemmas

@@ -1,0 +1,54 @@
+-- What goes out joins what is to be written.
+use Rattle.std.proofs.Common.{refl, ap, subst, min}
+use Rattle.beep_journal.specs.Log.{put_all}
+use Rattle.beep_peer.specs.Peering.{is_over}
+use Rattle.beep_octets.specs.Held.{Held as Octets}
+use Rattle.beep_speaking.specs.declared.emit.Emit.{Emit}
+use Rattle.beep_peer.specs.declared.peer.Peer.{Peer}
+use Rattle.beep_peer.specs.Calls.{Speaks}
+use Rattle.beep_session.specs.declared.limits.TheConstants.{MAX_PIECE}
+use Rattle.beep_steps.specs.Logs.{StandsOn}
+use Rattle.beep_steps.proofs.CallLemmas.{emits-on}
+use Rattle.beep_steps.proofs.EmitSends.{emits-sending}
+use Rattle.beep_steps.proofs.ServeCalls.{emits-serving}
+use Rattle.beep_steps.proofs.GoLemmas.{rests-so, spoke-so}
+use Rattle.beep_steps.proofs.hearing.say_next.Goals as goal
+
+pub returns-clause-said : goal.returns-clause-said
+returns-clause-said c log s =
+    let old = c.args.session.now in
+    emits-on old c.emit.new.self c.emit.ensures.same c.args.out.now.octets c.emit.new.out.octets log s c.emit.result (is_over old.peer) refl c.emit.ensures.lawful c.emit.ensures.framed
+    (λ e. let r = c.emit.ensures.over e in (r.0, r.1, ap (λ (o : Octets). o.octets) r.2))
+
+pub returns-clause-sending : goal.returns-clause-sending
+returns-clause-sending c plan p log s =
+    let old = c.args.session.now in
+    emits-sending plan p old c.emit.new.self c.args.out.now.octets c.emit.new.out.octets log s c.emit.ensures.same c.emit.result (is_over old.peer) refl c.emit.ensures.lawful c.emit.ensures.framed
+    c.emit.ensures.turn (λ e. let r = c.emit.ensures.over e in (r.0, r.1, ap (λ (o : Octets). o.octets) r.2))
+
+pub returns-clause-spoke : goal.returns-clause-spoke
+returns-clause-spoke c log s =
+    let old = c.args.session.now in
+    let t : StandsOn c.emit.new.self (put_all c.emit.new.out.octets log) =
+    emits-on old c.emit.new.self c.emit.ensures.same c.args.out.now.octets c.emit.new.out.octets log s c.emit.result (is_over old.peer) refl c.emit.ensures.lawful c.emit.ensures.framed
+    (λ e. let r = c.emit.ensures.over e in (r.0, r.1, ap (λ (o : Octets). o.octets) r.2)) in
+    spoke-so old c.emit.new.self c.args.out.now.octets c.emit.new.out.octets log s t c.emit.result (is_over old.peer) refl c.emit.ensures.lawful c.emit.ensures.framed
+    (λ e. let r = c.emit.ensures.over e in (r.0, r.1, ap (λ (o : Octets). o.octets) r.2))
+
+pub returns-clause-offers : goal.returns-clause-offers
+returns-clause-offers c = ap (λ h. h.offers) c.emit.ensures.same
+
+pub returns-then-zero_waits-clause-spoke : goal.returns-then-zero_waits-clause-spoke
+returns-then-zero_waits-clause-spoke c log s = rests-so c.args.session.now (put_all c.args.out.now.octets log) s
+
+pub returns-clause-serving : goal.returns-clause-serving
+returns-clause-serving c plan log s =
+    let old = c.args.session.now in
+    let new = c.emit.new.self in
+    let r = s.on.stands.stands in
+    let o = s.on in
+    emits-serving plan old new c.args.out.now.octets c.emit.new.out.octets log s c.emit.ensures.same c.emit.result (is_over old.peer) refl c.emit.ensures.lawful c.emit.ensures.framed
+    (λ seq is. ap (λ m. m.answers) (c.emit.ensures.told seq is).0)
+    (λ going is. ap (λ (p : Peer). p.management.answers) (subst (λ (e : Emit). Speaks e old.limits.window (min MAX_PIECE old.limits.piece) o.fed o.rest o.journal o.given o.taken old.peer new.peer c.args.out.now.octets c.emit.new.out.octets) is
+    (c.emit.ensures.speaks o.fed o.rest o.journal o.given o.taken going r)).0)
+    (λ e. let r = c.emit.ensures.over e in (r.0, r.1, ap (λ (o : Octets). o.octets) r.2))

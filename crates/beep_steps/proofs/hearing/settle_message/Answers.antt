@@ -1,0 +1,65 @@
+-- A message that is settled has passed, or its last octet broke a rule.
+use Rattle.std.proofs.Common.{◌≡◌, false, true, refl, ap, Err}
+use Rattle.beep_frame.specs.Frame.{is_msg}
+use Rattle.beep_history.specs.declared.journal.Side.{Side}
+use Rattle.beep_journal.specs.Zero.{zero_history, completes_form}
+use Rattle.beep_steps.proofs.CallLemmas.{settles-logged, settles-on, fault-on, unreleased-waiting}
+use Rattle.beep_steps.proofs.EndsLemmas.{waiting-ends}
+use Rattle.beep_steps.proofs.GoLemmas.{settled-so}
+use Rattle.beep_steps.proofs.OnLemmas.{fault-goes-on}
+use Rattle.beep_steps.proofs.SettleSends.{settles-sending}
+use Rattle.beep_steps.proofs.ServeCalls.{settles-serving}
+use Rattle.beep_session.specs.Lawfully.{terms_of}
+use Rattle.beep_steps.proofs.hearing.settle_message.Goals as goal
+
+pub returns-in-Ok-clause-settled : goal.returns-in-Ok-clause-settled
+returns-in-Ok-clause-settled c log w =
+    let e = c.in-Ok.ensures in
+    settles-on c.args.session.now c.settle.new.self e.same log w (e.ok w.fed w.journal w.given w.taken w.head w.payload w.waits)
+    (e.upright w.fed w.journal w.given w.taken w.head w.payload w.waits w.upright)
+    (λ reply. e.fits w.fed w.journal w.given w.taken w.head w.payload w.waits reply refl)
+
+pub returns-in-Ok-clause-serving : goal.returns-in-Ok-clause-serving
+returns-in-Ok-clause-serving c plan log w =
+    let e = c.in-Ok.ensures in
+    let o = w.on in
+    settles-serving plan c.args.session.now c.settle.new.self e.same log w c.in-Ok.settled _ refl
+    (λ is. e.asked o.fed o.journal o.given o.taken o.head o.payload o.waits is)
+    (λ is. e.answered o.fed o.journal o.given o.taken o.head o.payload o.waits is)
+    (e.upright o.fed o.journal o.given o.taken o.head o.payload o.waits o.upright)
+    (λ reply. e.fits o.fed o.journal o.given o.taken o.head o.payload o.waits reply refl)
+
+pub returns-in-Err-Broken-clause-stopped : goal.returns-in-Err-Broken-clause-stopped
+returns-in-Err-Broken-clause-stopped c log octets w =
+    let k = c.in-Err-Broken in
+    fault-goes-on (terms_of c.args.session.now) k.rule k.place octets log
+    (fault-on c.args.session.now c.settle.new.self k.ensures.same log w k.rule k.place (k.ensures.broken w.fed w.journal w.given w.taken w.head w.payload k.rule k.place w.waits (ap Err k.field-0-is)))
+
+pub returns-in-Ok-clause-sending : goal.returns-in-Ok-clause-sending
+returns-in-Ok-clause-sending c plan p log w =
+    let e = c.in-Ok.ensures in
+    let o = w.on in
+    settles-sending plan p c.args.session.now c.settle.new.self e.same log w c.in-Ok.settled _ _
+    (λ is. e.asked o.fed o.journal o.given o.taken o.head o.payload o.waits is)
+    (λ is. e.decided o.fed o.journal o.given o.taken o.head o.payload o.waits is)
+    (λ is. e.answered o.fed o.journal o.given o.taken o.head o.payload o.waits is)
+    (λ is one at. e.replied o.fed o.journal o.given o.taken o.head o.payload one o.waits is at)
+    (e.upright o.fed o.journal o.given o.taken o.head o.payload o.waits o.upright)
+    (λ reply. e.fits o.fed o.journal o.given o.taken o.head o.payload o.waits reply refl)
+
+pub returns-in-Ok-clause-done : goal.returns-in-Ok-clause-done
+returns-in-Ok-clause-done c log w =
+    let e = c.in-Ok.ensures in
+    let old = c.args.session.now in
+    let m = e.ok w.fed w.journal w.given w.taken w.head w.payload w.waits in
+    let fits : is_msg w.head.kind ≡ false → completes_form Side.Received w.head w.payload (zero_history w.journal) ≡ true = λ reply. e.fits w.fed w.journal w.given w.taken w.head w.payload w.waits reply refl in
+    settled-so old c.settle.new.self log w
+    (settles-on old c.settle.new.self e.same log w m (e.upright w.fed w.journal w.given w.taken w.head w.payload w.waits w.upright) fits)
+    (settles-logged old log w fits) m
+
+pub returns-in-Err-Broken-clause-ends : goal.returns-in-Err-Broken-clause-ends
+returns-in-Err-Broken-clause-ends c log octets w =
+    let k = c.in-Err-Broken in
+    let old = c.args.session.now in
+    let h = k.ensures.broken w.fed w.journal w.given w.taken w.head w.payload k.rule k.place w.waits (ap Err k.field-0-is) in
+    waiting-ends old c.settle.new.self log w h.2 h.3 (unreleased-waiting old c.settle.new.self k.ensures.same log w) octets

@@ -1,0 +1,102 @@
+-- A part that is taken leaves what the session stands for.
+use Rattle.std.proofs.Common.{◌≡◌, ◌∙◌, true, false, sym, subst, rules}
+use Rattle.std.specs.Prelude.{IfSome}
+use Rattle.beep_session.specs.Session.{Held}
+use Rattle.beep_steps.specs.Logs.{StaysOn}
+use Rattle.beep_steps.specs.Steps.{TookPart}
+use Rattle.beep_steps.proofs.PartLemmas.{none-waits, some-part}
+use Rattle.beep_steps.specs.Sending.{KeepsSending}
+use Rattle.beep_steps.proofs.CallLemmas.{took-stays}
+use Rattle.beep_steps.proofs.CallSends.{took-sends}
+use Rattle.beep_steps.proofs.ServeCalls.{took-serves}
+use Rattle.beep_steps.specs.Serving.{KeepsServing}
+use Rattle.beep_steps.proofs.hearing.take_part.Goals as goal
+
+pub returns-in-Some-clause-stays : goal.returns-in-Some-clause-stays
+returns-in-Some-clause-stays c =
+    let k = c.in-Some in
+    let t = c.take in
+    let h : StaysOn c.args.session.now t.new.self.session.now =
+    took-stays t.result k.channel.at t.new.buf c.args.session.now k.channel.session.now t.new.self.session.now k.ensures.same.0 t.ensures.some t.ensures.upright t.ensures.kept in
+    let f : (x : Held) → x ≡ t.new.self.session.now → StaysOn c.args.session.now x = λ x e. subst (StaysOn c.args.session.now) (sym e) h in
+    f _ (search rules)
+
+pub returns-in-Some-closing_channel-clause-stays : goal.returns-in-Some-closing_channel-clause-stays
+returns-in-Some-closing_channel-clause-stays c =
+    let k = c.in-Some-closing_channel in
+    let t = c.take-in-Some-closing_channel in
+    let h : StaysOn c.open_channel.follows.lender-at-none t.new.self.session.now =
+    took-stays t.result k.channel.at t.new.buf c.open_channel.follows.lender-at-none k.channel.session.now t.new.self.session.now k.ensures.same.0 t.ensures.some t.ensures.upright t.ensures.kept in
+    let none : c.open_channel.follows.lender-at-none ≡ c.args.session.now = search (rules, c.open_channel.follows.holds-at-none) in
+    let f : (x : Held) → x ≡ t.new.self.session.now → StaysOn c.args.session.now x =
+    λ x e. subst (λ (y : Held). StaysOn y x) none (subst (StaysOn c.open_channel.follows.lender-at-none) (sym e) h) in
+    f _ (search rules)
+
+pub returns-in-Some-clause-serving : goal.returns-in-Some-clause-serving
+returns-in-Some-clause-serving c plan =
+    let k = c.in-Some in
+    let t = c.take in
+    let h : KeepsServing plan c.args.session.now t.new.self.session.now =
+    took-serves plan t.result k.channel.at t.new.buf c.args.session.now k.channel.session.now t.new.self.session.now k.ensures.same.0 t.ensures.some t.ensures.upright t.ensures.kept in
+    let f : (x : Held) → x ≡ t.new.self.session.now → KeepsServing plan c.args.session.now x = λ x e. subst (KeepsServing plan c.args.session.now) (sym e) h in
+    f _ (search rules)
+
+pub returns-in-Some-closing_channel-clause-serving : goal.returns-in-Some-closing_channel-clause-serving
+returns-in-Some-closing_channel-clause-serving c plan =
+    let k = c.in-Some-closing_channel in
+    let t = c.take-in-Some-closing_channel in
+    let h : KeepsServing plan c.open_channel.follows.lender-at-none t.new.self.session.now =
+    took-serves plan t.result k.channel.at t.new.buf c.open_channel.follows.lender-at-none k.channel.session.now t.new.self.session.now k.ensures.same.0 t.ensures.some t.ensures.upright t.ensures.kept in
+    let none : c.open_channel.follows.lender-at-none ≡ c.args.session.now = search (rules, c.open_channel.follows.holds-at-none) in
+    let f : (x : Held) → x ≡ t.new.self.session.now → KeepsServing plan c.args.session.now x =
+    λ x e. subst (λ (y : Held). KeepsServing plan y x) none (subst (KeepsServing plan c.open_channel.follows.lender-at-none) (sym e) h) in
+    f _ (search rules)
+
+pub returns-in-Some-clause-sending : goal.returns-in-Some-clause-sending
+returns-in-Some-clause-sending c plan p =
+    let k = c.in-Some in
+    let t = c.take in
+    let h : KeepsSending plan p p c.args.session.now t.new.self.session.now =
+    took-sends plan p t.result k.channel.at t.new.buf c.args.session.now k.channel.session.now t.new.self.session.now k.ensures.same.0 t.ensures.some t.ensures.upright t.ensures.kept in
+    let f : (x : Held) → x ≡ t.new.self.session.now → KeepsSending plan p p c.args.session.now x = λ x e. subst (KeepsSending plan p p c.args.session.now) (sym e) h in
+    f _ (search rules)
+
+pub returns-in-Some-closing_channel-clause-sending : goal.returns-in-Some-closing_channel-clause-sending
+returns-in-Some-closing_channel-clause-sending c plan p =
+    let k = c.in-Some-closing_channel in
+    let t = c.take-in-Some-closing_channel in
+    let h : KeepsSending plan p p c.open_channel.follows.lender-at-none t.new.self.session.now =
+    took-sends plan p t.result k.channel.at t.new.buf c.open_channel.follows.lender-at-none k.channel.session.now t.new.self.session.now k.ensures.same.0 t.ensures.some t.ensures.upright t.ensures.kept in
+    let none : c.open_channel.follows.lender-at-none ≡ c.args.session.now = search (rules, c.open_channel.follows.holds-at-none) in
+    let f : (x : Held) → x ≡ t.new.self.session.now → KeepsSending plan p p c.args.session.now x =
+    λ x e. subst (λ (y : Held). KeepsSending plan p p y x) none (subst (KeepsSending plan p p c.open_channel.follows.lender-at-none) (sym e) h) in
+    f _ (search rules)
+
+-- the marks of a part are the first that are untaken
+pub returns-in-Some-clause-part : goal.returns-in-Some-clause-part
+returns-in-Some-clause-part c log left s above u =
+    let k = c.in-Some in
+    let t = c.take in
+    let now : (x : Held) → x ≡ t.new.self.session.now → IfSome t.result (λ part. TookPart c.args.number part t.new.buf left x) =
+    λ x e. subst (λ (y : Held). IfSome t.result (λ part. TookPart c.args.number part t.new.buf left y)) (sym e)
+    (some-part c.args.number k.channel.at t.result c.args.buf.now t.new.buf c.args.session.now k.channel.session.now t.new.self.session.now log s above k.ensures.same.0 k.ensures.same.1
+    t.ensures.some t.ensures.part c.requires.some left u) in
+    now _ (search rules)
+
+pub returns-in-Some-closing_channel-clause-part : goal.returns-in-Some-closing_channel-clause-part
+returns-in-Some-closing_channel-clause-part c log left s above u =
+    let k = c.in-Some-closing_channel in
+    let t = c.take-in-Some-closing_channel in
+    let same : k.channel.session.now ≡ c.args.session.now = k.ensures.same.0 ∙ none-is in
+    let now : (x : Held) → x ≡ t.new.self.session.now → IfSome t.result (λ part. TookPart c.args.number part t.new.buf left x) =
+    λ x e. subst (λ (y : Held). IfSome t.result (λ part. TookPart c.args.number part t.new.buf left y)) (sym e)
+    (some-part c.args.number k.channel.at t.result c.args.buf.now t.new.buf c.args.session.now k.channel.session.now t.new.self.session.now log s above same k.ensures.same.1
+    t.ensures.some t.ensures.part c.requires.some left u) in
+    now _ (search rules)
+  where
+    none-is : c.open_channel.follows.lender-at-none ≡ c.args.session.now
+    none-is = search (rules, c.open_channel.follows.holds-at-none)
+
+pub returns-then-zero_waits-clause-none : goal.returns-then-zero_waits-clause-none
+returns-then-zero_waits-clause-none c log s going above =
+    absurd (let h : true ≡ false = sym c.if-zero_waits.true ∙ c.zero_waits.ensures ∙ none-waits c.args.session.now log s in cc)

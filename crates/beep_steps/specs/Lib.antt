@@ -1,0 +1,7 @@
+-- What public clauses cite.
+pub mod Ends
+pub mod Logs
+pub mod Sending
+pub mod Serving
+pub mod Steps
+pub mod Turning

@@ -1,0 +1,147 @@
+-- What each step of a session over a link adds to the journal that the log shows, and what it
+-- leaves untaken above channel zero (RFC 3080, section 2.2.1).
+-- The code keeps no journal and no marks.
+use Rattle.std.specs.Prelude.{◌≡◌, ℕ, ◌==◌, Bool, false, ◌&&◌, if◌then◌else◌, List, [], ◌∷◌, ◌++◌, length, map, ◌≤◌, ◌<◌, Some}
+use Rattle.std.specs.List.{list_any}
+use Rattle.beep_frame.specs.declared.head.Head.{Head}
+use Rattle.beep_history.specs.declared.journal.Side.{Side}
+use Rattle.beep_history.specs.Journal.{Item, began, passed, told}
+use Rattle.beep_history.specs.Marks.{Mark, frame_marks, mark_modulo_2_64, tag_of}
+use Rattle.beep_journal.specs.Broken.{none_tunes}
+use Rattle.beep_journal.specs.Journal.{Past, Shows}
+use Rattle.beep_journal.specs.Life.{history, is_there, life_now, life_under_way}
+use Rattle.beep_journal.specs.Log.{Moment}
+use Rattle.beep_inbox.specs.declared.part.Part.{Part}
+use Rattle.beep_inbox.specs.Laws.{part_marks}
+use Rattle.beep_inbox.specs.Runs.{marks_of as untaken_marks}
+use Rattle.beep_channel.specs.Held.{Live}
+use Rattle.beep_lives.specs.Lives.{live_at}
+use Rattle.beep_hearing.specs.Hears.{ends_zero, is_above}
+use Rattle.beep_speaking.specs.declared.emit.Emit.{Emit}
+use Rattle.beep_link.specs.declared.ended.Stop.{Stop}
+use Rattle.beep_session.specs.Looks.{IsTakenAt}
+use Rattle.beep_session.specs.Session.{Held}
+use Rattle.beep_steps.specs.declared.hearing.Came.{Came as CameValue}
+use Rattle.beep_steps.specs.Logs.{AreTaken, StandsOn, WaitsOn}
+
+-- ---- what goes out, and what comes
+
+-- what an emit adds to a journal
+abbrev pub Says : Emit → List Item → List Item → Type 0
+Says (Emit.Seq seq) old new = new ≡ told Side.Sent seq ∷ old
+Says (Emit.Data head) old new =
+    (payload : List ℕ) × (new ≡ passed Side.Sent head payload ∷ began Side.Sent head ∷ old)
+Says Emit.Nothing old new = new ≡ old
+
+-- it is a frame of channel zero
+abbrev pub is_zero_frame : Emit → Bool
+is_zero_frame (Emit.Seq seq) = false
+is_zero_frame (Emit.Data head) = head.channel == 0
+is_zero_frame Emit.Nothing = false
+
+-- ---- a frame that arrives
+
+-- the marks that a frame above zero adds to those of its live life
+abbrev pub arrived_marks : Head → List ℕ → List Item → List Mark
+arrived_marks head payload journal =
+    if is_there head.channel journal
+    && life_under_way head.channel Side.Received journal == life_now head.channel journal
+    then frame_marks (tag_of Side.Received (history head.channel journal) head) head payload
+    else []
+
+-- a session said this, and stands for what the log shows after it
+pub record Spoke (said : Emit) (old new : Held) (journal : List Item) (after : List Moment)
+    : Type 0 where
+  pub on : StandsOn new after
+  pub says : Says said journal on.journal
+  pub taken : AreTaken old → AreTaken new
+
+-- of what a frame brought that arrived last above zero this is untaken, and nothing else above zero
+pub record IsUntaken (number : ℕ) (left : List Mark) (session : Held) : Type 0 where
+  pub own : (channel : Live) → live_at number session.peer.lives ≡ Some channel
+      → untaken_marks channel.held.inbox ≡ left
+  pub others : (n : ℕ) → (n == number) ≡ false → IsTakenAt n session.peer.lives
+
+-- some items came, of which none ends a message of channel zero or is a frame above it
+pub record Came (gained journal now : List Item) : Type 0 where
+  pub journal_is : now ≡ gained ++ journal
+  pub quiet : list_any ends_zero gained ≡ false
+  pub none_above : list_any is_above gained ≡ false
+
+-- no frame above zero came
+pub record CameMore (old new : Held) (journal : List Item) (after : List Moment) : Type 0 where
+  pub on : StandsOn new after
+  pub gained : List Item
+  pub came : Came gained journal on.journal
+  pub taken : AreTaken old → AreTaken new
+
+-- one of this channel did, last
+pub record CameFrame (number : ℕ) (old new : Held) (journal : List Item) (after : List Moment)
+    : Type 0 where
+  pub on : StandsOn new after
+  pub gained : List Item
+  pub before : List Item
+  pub head : Head
+  pub payload : List ℕ
+  pub journal_is : on.journal ≡ passed Side.Received head payload ∷ before
+  pub came : Came gained journal before
+  pub channel : head.channel ≡ number
+  pub above : (head.channel == 0) ≡ false
+  pub framed : length payload ≤ 2147483647
+  pub untaken : AreTaken old
+      → IsUntaken head.channel (map mark_modulo_2_64 (arrived_marks head payload before)) new
+
+-- a message of channel zero did, which waits
+pub record CameZero (old new : Held) (journal : List Item) (after : List Moment) : Type 0 where
+  pub waits : WaitsOn new after
+  pub gained : List Item
+  pub came : Came gained journal waits.journal
+  pub taken : AreTaken old → AreTaken new
+
+-- what came of some octets
+abbrev pub ComesSo : CameValue → Held → Held → List Item → List Moment → Type 0
+ComesSo CameValue.More old new journal after = CameMore old new journal after
+ComesSo (CameValue.Arrived number) old new journal after = CameFrame number old new journal after
+ComesSo CameValue.Zero old new journal after = CameZero old new journal after
+
+-- a message of channel zero was settled
+pub record SettledOn (old new : Held) (head : Head) (payload : List ℕ) (journal : List Item)
+    (log : List Moment) : Type 0 where
+  pub on : StandsOn new log
+  pub journal_is : on.journal ≡ passed Side.Received head payload ∷ journal
+  pub taken : AreTaken old → AreTaken new
+
+-- ---- a part that is taken
+
+-- these are the first marks that are untaken of a number, one at least, and the others are untaken
+-- still
+pub record TookPart (number : ℕ) (part : Part) (octets : List ℕ) (left : List Mark) (new : Held)
+    : Type 0 where
+  pub rest : List Mark
+  pub left_is : left ≡ part_marks part octets ++ rest
+  pub some : 0 < length (part_marks part octets)
+  pub untaken : IsUntaken number rest new
+
+-- no mark of a number was untaken, and nothing changed
+pub record TookNone (number : ℕ) (old new : Held) : Type 0 where
+  pub same : new ≡ old
+  pub taken : IsTakenAt number new.peer.lives
+
+-- ---- what ends a session
+
+-- some items came, of which none is a frame above zero
+pub record CameBelow (journal now : List Item) : Type 0 where
+  pub gained : List Item
+  pub journal_is : now ≡ gained ++ journal
+  pub none_above : list_any is_above gained ≡ false
+
+-- what a log shows of a session that is released, or whose peer breaks a rule, since its journal was
+-- this one
+abbrev pub EndsSo : Stop → List Item → List Moment → Type 0
+EndsSo Stop.Released journal log =
+    (past : Past) → Shows none_tunes log past → CameBelow journal past.journal
+EndsSo (Stop.Broken rule place) journal log =
+    (past : Past) → Shows none_tunes log past → CameBelow journal past.journal
+EndsSo Stop.WriteFault journal log = Unit {0}
+EndsSo Stop.NoMemory journal log = Unit {0}
+EndsSo (Stop.Refused code) journal log = Unit {0}

@@ -1,0 +1,130 @@
+-- What the turns over a link want of what an end stands for (RFC 3081, section 2).
+-- These are proofs, since the members of an impl cite nothing else of its crate.
+use Rattle.std.specs.Prelude.{◌≡◌, ℕ, List, ◌∷◌, ◌++◌}
+use Rattle.std.proofs.Common.{subst, inl}
+use Rattle.beep_journal.specs.Log.{Moment, put_all}
+use Rattle.beep_session.specs.Session.{Held}
+use Rattle.beep_session.specs.Lawfully.{terms_of}
+use Rattle.beep_logged.proofs.EndLemmas.{put-append, sound-of, sound-puts}
+use Rattle.beep_logged.proofs.ReadLemmas.{quiet-logged, over-logged}
+use Rattle.beep_logged.specs.Logged.{IsLogged, IsSound}
+use Rattle.beep_wires.specs.Log.{Entry, wrote, quiet, ended}
+use Rattle.beep_link.specs.Causes.{IsOfTurns}
+use Rattle.beep_link.specs.declared.ended.Ended.{Ended}
+use Rattle.beep_lawful.specs.declared.terms.Terms.{Terms}
+use Rattle.beep_talk.specs.Plan.{PlainPlan}
+use Rattle.beep_steps.specs.Logs.{moments, StandsOn, Shows}
+use Rattle.beep_steps.specs.Sending.{Progress, SendsOn, TellsSent}
+use Rattle.beep_steps.specs.Serving.{ServesOn}
+
+-- what is written goes from what is to be written to the log
+pub writes_on : (session : Held) (log : List Entry) (front octets : List ℕ)
+    → StandsOn session (put_all (front ++ octets) (moments log))
+    → StandsOn session (put_all octets (moments (wrote front ∷ log)))
+writes_on session log front octets s =
+    subst (StandsOn session) (put-append front octets (moments log)) s
+
+-- the same journal is shown by another log
+abbrev pub shown_on : (session : Held) (old new : List Moment) (s : StandsOn session old)
+    → IsLogged (terms_of session) s.rest s.journal new → StandsOn session new
+shown_on session old new s l = record {
+  fed = s.fed;
+  rest = s.rest;
+  journal = s.journal;
+  given = s.given;
+  taken = s.taken;
+  stands = s.stands;
+  framed = s.framed;
+  logged = l;
+}
+
+-- a quiet read, and the end of the link, leave it
+pub quiets_on : (session : Held) (log : List Entry) → StandsOn session (moments log)
+    → StandsOn session (moments (quiet ∷ log))
+quiets_on session log s = shown_on session (moments log) (moments (quiet ∷ log)) s
+    (quiet-logged (terms_of session) s.rest s.journal (moments log) s.logged)
+
+pub closes_on : (session : Held) (log : List Entry) → StandsOn session (moments log)
+    → StandsOn session (moments (ended ∷ log))
+closes_on session log s = shown_on session (moments log) (moments (ended ∷ log)) s
+    (over-logged (terms_of session) s.rest s.journal (moments log) s.logged)
+
+-- the log without octets that are still to be written shows no broken rule
+sound_on : (session : Held) (log : List Entry) (octets : List ℕ)
+    → StandsOn session (put_all octets (moments log)) → IsSound (terms_of session) (moments log)
+sound_on session log octets s = sound-puts (terms_of session) octets (moments log)
+    (sound-of (terms_of session) s.rest s.journal (put_all octets (moments log)) s.logged)
+
+pub stops_on : (session : Held) (log : List Entry) (octets : List ℕ) (cause : Ended)
+    → IsOfTurns cause → StandsOn session (put_all octets (moments log))
+    → Shows (terms_of session) cause log
+stops_on session log octets Ended.Released is s = absurd is
+stops_on session log octets (Ended.Broken rule place) is s = absurd is
+stops_on session log octets Ended.WriteFault is s = absurd is
+stops_on session log octets Ended.WireFault is s = sound_on session log octets s
+stops_on session log octets Ended.NoMemory is s = inl (sound_on session log octets s)
+stops_on session log octets (Ended.Refused code) is s = absurd is
+stops_on session log octets (Ended.Cut left) is s = absurd is
+stops_on session log octets (Ended.Idle count) is s = sound_on session log octets s
+stops_on session log octets (Ended.Spent count) is s = sound_on session log octets s
+
+-- ---- a sender
+
+module _ (plan : PlainPlan) (progress : Progress) (session : Held) where
+  pub writes_sending : (log : List Entry) (front octets : List ℕ)
+      → SendsOn plan progress session (put_all (front ++ octets) (moments log))
+      → SendsOn plan progress session (put_all octets (moments (wrote front ∷ log)))
+  writes_sending log front octets s =
+      subst (SendsOn plan progress session) (put-append front octets (moments log)) s
+
+  -- the same journal is shown by another log
+  shown_sending : (old new : List Moment) (s : SendsOn plan progress session old)
+      → IsLogged (terms_of session) s.on.rest s.on.journal new
+      → SendsOn plan progress session new
+  shown_sending old new s l =
+      record { sender = s.sender; on = shown_on session old new s.on l; sends = s.sends }
+
+  pub quiets_sending : (log : List Entry) → SendsOn plan progress session (moments log)
+      → SendsOn plan progress session (moments (quiet ∷ log))
+  quiets_sending log s = shown_sending (moments log) (moments (quiet ∷ log)) s
+      (quiet-logged (terms_of session) s.on.rest s.on.journal (moments log) s.on.logged)
+
+  pub closes_sending : (log : List Entry) → SendsOn plan progress session (moments log)
+      → SendsOn plan progress session (moments (ended ∷ log))
+  closes_sending log s = shown_sending (moments log) (moments (ended ∷ log)) s
+      (over-logged (terms_of session) s.on.rest s.on.journal (moments log) s.on.logged)
+
+  pub stops_sending : terms_of session ≡ plan.terms → (log : List Entry) (octets : List ℕ)
+      (cause : Ended) → IsOfTurns cause
+      → SendsOn plan progress session (put_all octets (moments log))
+      → TellsSent plan cause log
+  stops_sending same log octets cause is s = record {
+    shows = subst (λ (t : Terms). Shows t cause log) same
+        (stops_on session log octets cause is s.on);
+    sent = λ released. absurd (subst IsOfTurns released is);
+  }
+
+-- ---- a listener
+
+module _ (plan : PlainPlan) (session : Held) where
+  pub writes_serving : (log : List Entry) (front octets : List ℕ)
+      → ServesOn plan session (put_all (front ++ octets) (moments log))
+      → ServesOn plan session (put_all octets (moments (wrote front ∷ log)))
+  writes_serving log front octets s =
+      subst (ServesOn plan session) (put-append front octets (moments log)) s
+
+  -- the same journal is shown by another log
+  shown_serving : (old new : List Moment) (s : ServesOn plan session old)
+      → IsLogged (terms_of session) s.on.rest s.on.journal new → ServesOn plan session new
+  shown_serving old new s l =
+      record { listener = s.listener; on = shown_on session old new s.on l; serves = s.serves }
+
+  pub quiets_serving : (log : List Entry) → ServesOn plan session (moments log)
+      → ServesOn plan session (moments (quiet ∷ log))
+  quiets_serving log s = shown_serving (moments log) (moments (quiet ∷ log)) s
+      (quiet-logged (terms_of session) s.on.rest s.on.journal (moments log) s.on.logged)
+
+  pub closes_serving : (log : List Entry) → ServesOn plan session (moments log)
+      → ServesOn plan session (moments (ended ∷ log))
+  closes_serving log s = shown_serving (moments log) (moments (ended ∷ log)) s
+      (over-logged (terms_of session) s.on.rest s.on.journal (moments log) s.on.logged)

@@ -1,0 +1,157 @@
+//! What both ends do with a session. What each call wants is looked at beside it.
+ghost use Rattle.std.specs.Prelude.{◌≡◌, ◌<◌, ◌≤◌, ◌^◌, ◌==◌, List, length, take, ℕ, false, true, IfOk, IfErr, IfNone, IfSome, OnOk};
+ghost use Rattle.beep_history.specs.Marks.{Mark};
+ghost use Rattle.beep_journal.specs.Log.{Moment, got_all, put_all};
+ghost use Rattle.beep_peer.specs.Peering.{zero_waits};
+ghost use Rattle.beep_session.specs.Channels.{IsOpen};
+ghost use Rattle.beep_session.specs.Lawfully.{terms_of};
+ghost use Rattle.beep_link.specs.declared.end.TheConstants.{FRAME_ROOM};
+ghost use Rattle.beep_link.specs.declared.ended.Stop.{Stop as StopValue};
+ghost use Rattle.beep_steps.specs.Steps.{ComesSo, EndsSo, IsUntaken, SettledOn, Spoke, TookNone, TookPart};
+ghost use Rattle.beep_steps.specs.Logs.{ComesOn, StandsOn, StaysOn, StopsOn, WaitsOn};
+ghost use Rattle.beep_steps.specs.Sending.{closed_by, went_by, ComesSending, KeepsSending, Progress, SendsOn, SendsWaiting, StopsSending};
+ghost use Rattle.beep_steps.specs.Serving.{ComesServing, KeepsServing, ServesOn, ServesWaiting};
+ghost use Rattle.beep_talk.specs.Plan.{PlainPlan};
+
+use beep_inbox::Part;
+use beep_link::{FRAME_ROOM, Stop};
+use beep_octets::Octets;
+use beep_session::{Event, MAX_PIECE, Session, SettleError, Settled};
+use beep_speaking::Emit;
+
+/// What came of some octets.
+#[derive(Clone, Copy, Debug)]
+pub enum Came {
+    /// They are all used.
+    More,
+    /// A frame arrived on this channel.
+    Arrived(u32),
+    /// A message of channel zero waits to be settled.
+    Zero,
+}
+
+/// Appends what goes next, where nothing waits to be settled.
+pub fn say_next(session: &mut Session, out: &mut Octets) -> Emit
+    requires room { FRAME_ROOM ≤ out.old.spare }
+    ensures said { (log : List Moment) → StandsOn session.old (put_all out.old.octets log)
+        → StandsOn session.new (put_all out.new.octets log) }
+    ensures sending { (plan : PlainPlan) (p : Progress) (log : List Moment)
+        → SendsOn plan p session.old (put_all out.old.octets log)
+        → SendsOn plan (went_by result p) session.new (put_all out.new.octets log) }
+    ensures serving { (plan : PlainPlan) (log : List Moment)
+        → ServesOn plan session.old (put_all out.old.octets log)
+        → ServesOn plan session.new (put_all out.new.octets log) }
+    ensures spoke { (log : List Moment) (s : StandsOn session.old (put_all out.old.octets log))
+        → Spoke result session.old session.new s.journal (put_all out.new.octets log) }
+    ensures terms { terms_of session.new ≡ terms_of session.old }
+    ensures offers { session.new.offers ≡ session.old.offers }
+{
+    if session.zero_waits() {
+        return Emit::Nothing;
+    }
+    session.emit(MAX_PIECE, out)
+}
+
+/// Uses octets up to the next event.
+pub fn hear_next(session: &mut Session, bytes: &[u8]) -> Result<(usize, Came), Stop>
+    ensures within { IfOk result (λ heard. heard.0 ≤ length bytes.now) }
+    ensures heard { (log : List Moment) → StandsOn session.old log → IfOk result (λ heard.
+        ComesOn heard.1 session.new (got_all (take heard.0 bytes.now) log)) }
+    ensures sending { (plan : PlainPlan) (p : Progress) (log : List Moment)
+        → SendsOn plan p session.old log → IfOk result (λ heard.
+        ComesSending plan p heard.1 session.new (got_all (take heard.0 bytes.now) log)) }
+    ensures serving { (plan : PlainPlan) (log : List Moment) → ServesOn plan session.old log
+        → IfOk result (λ heard.
+        ComesServing plan heard.1 session.new (got_all (take heard.0 bytes.now) log)) }
+    ensures stops { (plan : PlainPlan) (p : Progress) (log : List Moment)
+        → plan.terms ≡ terms_of session.old → SendsOn plan p session.old log
+        → IfErr result (λ stop.
+        StopsSending plan p.is_closed stop (got_all bytes.now log)) }
+    ensures stopped { (log : List Moment) → StandsOn session.old log → IfErr result (λ stop.
+        StopsOn (terms_of session.old) stop (got_all bytes.now log)) }
+    ensures more { (log : List Moment) → StandsOn session.old log → 0 < length bytes.now
+        → IfOk result (λ heard. 0 < heard.0) }
+    ensures came { (log : List Moment) (s : StandsOn session.old log) → IfOk result (λ heard.
+        ComesSo heard.1 session.old session.new s.journal
+        (got_all (take heard.0 bytes.now) log)) }
+    ensures ends { (log : List Moment) (s : StandsOn session.old log) → IfErr result (λ stop.
+        EndsSo stop s.journal (got_all bytes.now log)) }
+    ensures going { IfOk result (λ heard. session.new.peer.released ≡ false) }
+    ensures failed { IfErr result (λ stop. stop ≡ StopValue.WriteFault → ⊥) }
+    ensures terms { terms_of session.new ≡ terms_of session.old }
+    ensures offers { session.new.offers ≡ session.old.offers }
+{
+    let (count, event) = session.feed(bytes);
+    match event {
+        Event::More => Ok((count, Came::More)),
+        Event::Arrived(number) => Ok((count, Came::Arrived(number))),
+        Event::Zero => Ok((count, Came::Zero)),
+        Event::Released => Err(Stop::Released),
+        Event::Broken(rule, place) => Err(Stop::Broken(rule, place)),
+        Event::NoMemory => Err(Stop::NoMemory),
+    }
+}
+
+/// Takes what has arrived on a channel, as much as `buf` holds.
+pub fn take_part(session: &mut Session, number: u32, buf: &mut [u8]) -> Option<Part>
+    requires some { 0 < length buf.old }
+    requires fits { length buf.old < 2 ^ 32 }
+    ensures stays { StaysOn session.old session.new }
+    ensures serving { (plan : PlainPlan) → KeepsServing plan session.old session.new }
+    ensures sending { (plan : PlainPlan) (p : Progress)
+        → KeepsSending plan p p session.old session.new }
+    ensures part { (log : List Moment) (left : List Mark) → StandsOn session.old log
+        → (number == 0) ≡ false → IsUntaken number left session.old
+        → IfSome result (λ part. TookPart number part buf.new left session.new) }
+    ensures none { (log : List Moment) → StandsOn session.old log
+        → session.old.peer.released ≡ false → (number == 0) ≡ false
+        → IfNone result (TookNone number session.old session.new) }
+    ensures within { IfSome result (λ part. part.len ≤ length buf.new) }
+    ensures length { length buf.new ≡ length buf.old }
+{
+    if session.zero_waits() {
+        return None;
+    }
+    if let Some(mut channel) = session.open_channel(number) {
+        return channel.take(buf);
+    }
+    if let Some(mut channel) = session.closing_channel(number) {
+        return channel.take(buf);
+    }
+    None
+}
+
+/// Settles the message of channel zero that waits.
+pub fn settle_message(session: &mut Session) -> Result<Settled, Stop>
+    requires waits { zero_waits session.old.peer ≡ true }
+    ensures settled { (log : List Moment) → WaitsOn session.old log
+        → OnOk result (StandsOn session.new log) }
+    ensures sending { (plan : PlainPlan) (p : Progress) (log : List Moment)
+        → SendsWaiting plan p session.old log → IfOk result (λ settled.
+        SendsOn plan (closed_by settled p) session.new log) }
+    ensures serving { (plan : PlainPlan) (log : List Moment)
+        → ServesWaiting plan session.old log → OnOk result (ServesOn plan session.new log) }
+    ensures stopped { (log : List Moment) (octets : List ℕ) → WaitsOn session.old log
+        → IfErr result (λ stop. StopsOn (terms_of session.old) stop (got_all octets log)) }
+    ensures done { (log : List Moment) (w : WaitsOn session.old log) → OnOk result
+        (SettledOn session.old session.new w.head w.payload w.journal log) }
+    ensures ends { (log : List Moment) (octets : List ℕ) (w : WaitsOn session.old log)
+        → IfErr result (λ stop. EndsSo stop w.journal (got_all octets log)) }
+    ensures failed { IfErr result (λ stop. stop ≡ StopValue.WriteFault → ⊥) }
+    ensures going { IfErr result (λ stop. stop ≡ StopValue.Released → ⊥) }
+    ensures terms { terms_of session.new ≡ terms_of session.old }
+    ensures offers { session.new.offers ≡ session.old.offers }
+{
+    match session.settle() {
+        Ok(settled) => Ok(settled),
+        Err(SettleError::Broken(rule, place)) => Err(Stop::Broken(rule, place)),
+        Err(SettleError::NoMemory) => Err(Stop::NoMemory),
+    }
+}
+
+/// Whether a channel above zero is live and nothing waits to be settled.
+pub fn is_open(session: &Session, number: u32) -> bool
+    ensures { result ≡ true → IsOpen number session.now }
+{
+    !session.zero_waits() && !session.is_over() && session.live(number)
+}

@@ -1,0 +1,14 @@
+//! What a sender asks, as a fact: the function does nothing, and its contract is the fact.
+ghost use Rattle.std.specs.Prelude.{◌≡◌, ℕ, List, true};
+ghost use Rattle.beep_answering.specs.Sent.{is_uri};
+ghost use Rattle.beep_script.specs.Requested.{SenderTexts};
+
+use beep_mgmt::laws::the_value_said_is_that_of_the_message;
+
+/// Each message that a sender asks on channel zero is read as what it says, where its URI may be
+/// offered (RFC 3080, section 2.3.1).
+pub fn what_a_sender_asks_is_read()
+    ensures { (uri : List ℕ) → is_uri uri ≡ true → SenderTexts uri }
+{
+    the_value_said_is_that_of_the_message();
+}

@@ -1,0 +1,13 @@
+//! The steps of a session over a link, which both ends of it take (RFC 3080, section 2.2.1; RFC
+//! 3081, section 3.1).
+//!
+//! What goes out, what comes, what is taken and what is settled: each step leaves the session
+//! standing for what the log of its link shows.
+#![tactic(auto)]
+
+mod fit;
+mod hearing;
+pub mod laws;
+
+pub use fit::{are_fit, limits_of, reads_of};
+pub use hearing::{Came, hear_next, is_open, say_next, settle_message, take_part};
