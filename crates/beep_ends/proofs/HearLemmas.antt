@@ -202,4 +202,3 @@ module _ (plan : PlainPlan) (text : List ℕ) (before mid after : Option (List �
 pub ok-and : {A E : Type 0} (result : Result A E) (P Q R : Type 0) → (P → Q → R) → OnOk result P → OnOk result Q → OnOk result R
 ok-and (Ok value) P Q R f p q = f p q
 ok-and (Err error) P Q R f p q = p
-

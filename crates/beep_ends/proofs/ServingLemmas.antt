@@ -40,4 +40,3 @@ told-lines plan terms whole reads before now (Some log) few (text, grew, told) l
 pub unread-bounded : (reads : Reads) (log : Option (List Entry)) → log ≡ None ⊎ log ≡ Some [] → IsBounded reads log
 unread-bounded reads log (inl e) = subst (IsBounded reads) (sym e) tt
 unread-bounded reads log (inr e) = subst (IsBounded reads) (sym e) (omega arith)
-

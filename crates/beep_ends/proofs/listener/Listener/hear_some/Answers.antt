@@ -121,4 +121,3 @@ returns-in-Ok-settle-clause-serving g c plan log s =
     let waits : ServesWaiting plan c.hear_next.new.session front =
     subst (λ (x : Came). ComesServing plan x c.hear_next.new.session front) c.in-Zero.is (c.in_ok-count.ensures.serving plan log s) in
     c.in-Ok-settle.ensures.serving plan front waits
-

@@ -39,4 +39,3 @@ returns-clause-wrote c log octets text w =
 pub returns-clause-serving : goal.returns-clause-serving
 returns-clause-serving c plan log s =
     ok-of c.does.result _ (subst (λ h. ServesOn plan h log) (sym c.does.ensures.session) (c.in-Ok.ensures.serving plan log s))
-
