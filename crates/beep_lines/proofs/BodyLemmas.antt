@@ -1,12 +1,13 @@
 -- Bodies in a list, by their channel and answer number.
-use Rattle.std.proofs.Common.{◌≡◌, ◌∙◌, refl, sym, ap, subst, ◌<◌, ◌+◌, ◌==◌, ◌&&◌, ◌||◌, arith, suc, zero, Bool, true, false, not, if◌then◌else◌, List, [], ◌∷◌, ◌++◌, length, ℕ, Option, Some, None, get_or}
+use Rattle.std.proofs.Common.{◌≡◌, ◌∙◌, refl, sym, ap, subst, ◌<◌, ◌+◌, ◌==◌, ◌&&◌, ◌||◌, arith, suc, zero, Bool, true, false, not, if◌then◌else◌, List, [], ◌∷◌, ◌++◌, length, ℕ, Some, None, get_or}
 use Rattle.std.specs.Prelude.{slice_get, slice_set, Result, Ok, Err, OnOk}
 use Rattle.std.proofs.lemmas.Bool.{eqb-true, eq-eqb}
+use Rattle.std.proofs.lemmas.List.{length-set}
 use Rattle.beep_octets.specs.Held.{Held}
 use Rattle.std.specs.List.{list_any, position}
-use Rattle.beep_turns.proofs.PlaceLemmas.{IsPlace, found, none-found}
+use Rattle.beep_turns.proofs.PlaceLemmas.{IsPlace, found}
 use Rattle.beep_lines.specs.declared.bodies.Body.{Body}
-use Rattle.beep_lines.specs.Bodies.{is_of, body_of, ended, HasEnded, HasMore, IsFree, IsOver, Others}
+use Rattle.beep_lines.specs.Bodies.{is_of, is_free, body_of, ended, HasEnded, HasMore, IsFree, Others}
 
 same-some : (a b : Body) → Some a ≡ Some b → a ≡ b
 same-some a b e = cc
@@ -90,21 +91,22 @@ get-place test (x ∷ xs) zero p = (x, refl, p)
 get-place test (x ∷ xs) (suc i) p = get-place test xs i p.1
 
 -- a free place that is there, and one that is made
-pub free-found : (items : List Body) (i : ℕ) → position (λ body. not body.is_begun) items ≡ Some i → IsFree i items items
+pub free-found : (items : List Body) (i : ℕ) → position is_free items ≡ Some i → IsFree i items items
 free-found items i e =
-    let g = get-place (λ (body : Body). not body.is_begun) items i (found (λ (body : Body). not body.is_begun) items i e) in
-    record { body = g.0; at = g.1; over = unbegun g.0.is_begun g.2; same = λ n m. refl; any = λ n m. refl }
+    let g = get-place is_free items i (found is_free items i e) in
+    record { body = g.0; at = g.1; over = unbegun g.0.is_begun g.2; same = λ n m. refl; places = λ some. refl; any = λ n m. refl }
   where
     unbegun : (b : Bool) → not b ≡ true → b ≡ false
     unbegun true h = cc
     unbegun false h = refl
 
-pub free-made : (items : List Body) (new : Body) → new.is_begun ≡ false → IsFree (length items) items (items ++ new ∷ [])
-free-made items new e = record {
+pub free-made : (items : List Body) (new : Body) → new.is_begun ≡ false → list_any is_free items ≡ false → IsFree (length items) items (items ++ new ∷ [])
+free-made items new e none = record {
   body = new;
   at = get-push items new;
   over = e;
   same = λ n m. body-push n m items new (ap (λ (b : Bool). b && (new.channel == n && new.ansno == m)) e);
+  places = λ some. absurd (let h : true ≡ false = sym some ∙ none in cc);
   any = λ n m. any-push n m items new (ap (λ (b : Bool). b && (new.channel == n && new.ansno == m)) e);
 }
 
@@ -158,6 +160,7 @@ module _ (n m : ℕ) (octets : List ℕ) where
       on-ok r (room.octets ≡ old.octets.octets ++ octets) _ (λ more. record {
         own = body-set-at n m items i (record old { octets = room }) at is ∙ more ∙ ap (λ (x : List ℕ). x ++ octets) (sym (body-at n m items i old at g));
         others = λ k l other. body-set-other k l items i old (record old { octets = room }) g (apart old.is_begun old.channel old.ansno n m k l is other) (apart old.is_begun old.channel old.ansno n m k l is other);
+        places = λ some. length-set items i (record old { octets = room });
       }) o
     where
       place-test : (xs : List Body) (j : ℕ) → IsPlace (is_of n m) j xs → slice_get xs j ≡ Some old → is_of n m old ≡ true
@@ -173,6 +176,7 @@ module _ (n m : ℕ) (octets : List ℕ) where
         own = body-set-fresh n m items i f.body (fresh-body n m room) (f.any n m ∙ unfound) f.at (is-own n m) ∙ more ∙ ap (λ (x : List ℕ). x ++ octets) (none ∙ sym (body-none n m was unfound));
         others = λ k l other. body-set-other k l items i f.body (fresh-body n m room) f.at (ap (λ (b : Bool). b && (f.body.channel == k && f.body.ansno == l)) f.over)
             (apart true n m n m k l (is-own n m) other) ∙ f.same k l;
+        places = λ some. length-set items i (fresh-body n m room) ∙ f.places some;
       }) o
 
 place-test : (n m : ℕ) (xs : List Body) (j : ℕ) (body : Body) → IsPlace (is_of n m) j xs → slice_get xs j ≡ Some body → is_of n m body ≡ true

@@ -3,7 +3,7 @@
 ghost use Rattle.std.specs.Prelude.{◌≡◌, ◌<◌, ◌++◌, ◌∷◌, [], ℕ, length, true, false, None, Some, IfSome, IfOk, OnOk, slice_get};
 ghost use Rattle.std.specs.List.{list_any, position};
 ghost use Rattle.beep_lines.specs.declared.bodies.Body.{Body as BodyValue};
-ghost use Rattle.beep_lines.specs.Bodies.{body_of, is_of, HasEnded, HasMore, IsFree, IsOver};
+ghost use Rattle.beep_lines.specs.Bodies.{body_of, is_free, is_of, HasEnded, HasMore, IsFree, IsOver};
 
 use beep_octets::{NoMemory, Octets};
 use std::alloc::Global;
@@ -136,7 +136,7 @@ impl Bodies {
     fn free(&mut self) -> Result<usize, NoMemory>
         ensures { IfOk result (λ i. IsFree i self.old self.new) }
     {
-        if let Some(i) = self.list.iter().position(|body| !body.is_begun) {
+        if let Some(i) = self.free_place() {
             return Ok(i);
         }
         let at = self.list.len();
@@ -148,5 +148,12 @@ impl Bodies {
             octets: Octets::new(self.alloc),
         });
         Ok(at)
+    }
+
+    /// The first place where no answer is under way, where one is.
+    fn free_place(&self) -> Option<usize>
+        ensures { result ≡ position is_free self.now }
+    {
+        self.list.iter().position(|body| !body.is_begun)
     }
 }

@@ -15,6 +15,7 @@ loop-i-preserved c =
 
 pub returns : goal.returns
 returns c = record {
+  nowhere = none-found (is_of c.args.channel c.args.ansno) c.loop-i.self (sym c.place.ensures ∙ c.in_default.is);
   own = body-none c.args.channel c.args.ansno c.loop-i.self (none-found (is_of c.args.channel c.args.ansno) c.loop-i.self (sym c.place.ensures ∙ c.in_default.is));
   others = c.loop-i.invariant;
 }
