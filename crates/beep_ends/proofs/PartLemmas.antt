@@ -240,7 +240,7 @@ err-then (Err error) P Q f h = f h
 
 -- an answer that went on is over
 pub over-then : (number ansno : ℕ) (octets : List ℕ) (old mid new : List Body) → HasMore number ansno octets old mid → IsOver number ansno mid new → IsOver number ansno old new
-over-then number ansno octets old mid new m o = record { own = o.own; others = λ n a e. o.others n a e ∙ m.others n a e }
+over-then number ansno octets old mid new m o = record { own = o.own; nowhere = o.nowhere; others = λ n a e. o.others n a e ∙ m.others n a e }
 
 -- ---- the tags of a part
 

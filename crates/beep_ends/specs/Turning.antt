@@ -16,14 +16,15 @@ use Rattle.beep_session.specs.Lawfully.{terms_of}
 use Rattle.beep_logged.specs.Logged.{IsLogged}
 use Rattle.beep_logged.proofs.EndLemmas.{put-append}
 use Rattle.beep_logged.proofs.ReadLemmas.{quiet-logged, over-logged}
+use Rattle.beep_peer.specs.Peering.{is_over}
 use Rattle.beep_talk.specs.Plan.{PlainPlan}
 use Rattle.beep_script.specs.Lines.{lines}
 use Rattle.beep_lines.specs.declared.bodies.Body.{Body}
 use Rattle.beep_wires.specs.Log.{Entry, wrote, quiet, ended}
-use Rattle.beep_link.specs.Causes.{IsOfTurns}
+use Rattle.beep_link.specs.Causes.{IsOfFaults, IsOfReads}
 use Rattle.beep_link.specs.declared.ended.Ended.{Ended}
 use Rattle.beep_steps.specs.Logs.{moments}
-use Rattle.beep_steps.specs.Turning.{shown_on, stops_on, closes_serving, quiets_serving, writes_serving}
+use Rattle.beep_steps.specs.Turning.{shown_on, spends_on, stops_on, closes_serving, quiets_serving, writes_serving}
 use Rattle.beep_steps.proofs.ServeLemmas.{shows-served}
 use Rattle.beep_steps.proofs.StepLemmas.{same-lines}
 use Rattle.beep_ends.specs.Listening.{plan_of, IsServed, ListensDry, ListensServed, TellsLines, TellsServed, WritesLines, is_whole}
@@ -175,7 +176,7 @@ module _ (session : Held) (bodies : List Body) (buffer : List ℕ) where
       whole_is = sym (stops_whole past shows served) ∙ sym (append-nil text);
     }
 
-    stops_lines : (cause : Ended) → IsOfTurns cause
+    stops_lines : (cause : Ended) → IsOfFaults cause
         → WritesLines (plan_of session) (is_whole cause) (moments log) text
     stops_lines Ended.Released is = absurd is
     stops_lines (Ended.Broken rule place) is = absurd is
@@ -184,14 +185,35 @@ module _ (session : Held) (bodies : List Body) (buffer : List ℕ) where
     stops_lines Ended.NoMemory is = stops_some
     stops_lines (Ended.Refused code) is = absurd is
     stops_lines (Ended.Cut left) is = absurd is
-    stops_lines (Ended.Idle count) is = stops_whole
-    stops_lines (Ended.Spent count) is = stops_whole
+    stops_lines (Ended.Idle count) is = absurd is
+    stops_lines (Ended.Spent count) is = absurd is
 
-    pub stops_listening : (cause : Ended) → IsOfTurns cause
+    pub stops_listening : (cause : Ended) → IsOfFaults cause
         → TellsLines (plan_of session) cause log text
     stops_listening cause is = record {
       shows = stops_on session log octets cause is s.listens.on;
       lines = stops_lines cause is;
+    }
+
+  module _ (log : List Entry) (text : List ℕ)
+      (s : ListensDry session bodies buffer (moments log) text) where
+    spends_lines : (cause : Ended) → IsOfReads cause
+        → WritesLines (plan_of session) (is_whole cause) (moments log) text
+    spends_lines Ended.Released is = absurd is
+    spends_lines (Ended.Broken rule place) is = absurd is
+    spends_lines Ended.WriteFault is = absurd is
+    spends_lines Ended.WireFault is = absurd is
+    spends_lines Ended.NoMemory is = absurd is
+    spends_lines (Ended.Refused code) is = absurd is
+    spends_lines (Ended.Cut left) is = absurd is
+    spends_lines (Ended.Idle count) is = stops_whole log [] text s
+    spends_lines (Ended.Spent count) is = stops_whole log [] text s
+
+    pub spends_listening : (cause : Ended) → IsOfReads cause → is_over session.peer ≡ false
+        → TellsLines (plan_of session) cause log text
+    spends_listening cause is going = record {
+      shows = spends_on session log cause is going s.listens.on;
+      lines = spends_lines cause is;
     }
 
   -- ---- one that served its profile alone
@@ -218,8 +240,17 @@ module _ (session : Held) (bodies : List Body) (buffer : List ℕ) where
 
   pub stops_served : (log : List Entry) (octets text : List ℕ)
       → ListensServed session bodies buffer (put_all octets (moments log)) text
-      → (cause : Ended) → IsOfTurns cause → TellsServed (plan_of session) cause log text
+      → (cause : Ended) → IsOfFaults cause → TellsServed (plan_of session) cause log text
   stops_served log octets text s cause is = (
     stops_listening log octets text s.0 cause is,
     shows-served (plan_of session) session octets (moments log) s.1,
+  )
+
+  pub spends_served : (log : List Entry) (text : List ℕ)
+      → ListensServed session bodies buffer (moments log) text
+      → (cause : Ended) → IsOfReads cause → is_over session.peer ≡ false
+      → TellsServed (plan_of session) cause log text
+  spends_served log text s cause is going = (
+    spends_listening log text s.0 cause is going,
+    shows-served (plan_of session) session [] (moments log) s.1,
   )

@@ -1,9 +1,10 @@
 //! What a listener does as messages come and go: it asks for lines on each channel, and writes the
 //! lines of each answer (RFC 3195, section 3.1).
-ghost use Rattle.std.specs.Prelude.{◌≡◌, ◌≤◌, ◌∷◌, ◌++◌, [], ℕ, List, vec_len, IfErr, IfOk, OnOk};
+ghost use Rattle.std.specs.Prelude.{◌≡◌, ◌≤◌, ◌∷◌, ◌++◌, [], ℕ, List, vec_len, false, IfErr, IfOk, OnOk};
 ghost use Rattle.beep_wires.specs.Counts.{Rose};
 ghost use Rattle.beep_wires.specs.Log.{Entry, read as came};
 ghost use Rattle.beep_journal.specs.Log.{Moment, put_all};
+ghost use Rattle.beep_peer.specs.Peering.{is_over};
 ghost use Rattle.beep_talk.specs.Plan.{PlainPlan};
 ghost use Rattle.beep_link.specs.Causes.{ended_by, WithText};
 ghost use Rattle.beep_link.specs.declared.end.TheConstants.{FRAME_ROOM};
@@ -146,7 +147,7 @@ impl Listener {
 }
 
 impl End for Listener {
-    ghost use Rattle.beep_ends.specs.Turning.{closes_served, quiets_served, stops_served, writes_served};
+    ghost use Rattle.beep_ends.specs.Turning.{closes_served, quiets_served, spends_served, stops_served, writes_served};
 
     ghost Terms = { PlainPlan };
 
@@ -156,6 +157,8 @@ impl End for Listener {
         one.lines.octets.octets (put_all octets (moments log)) text };
 
     ghost tells = { λ plan ended log text. TellsServed plan ended log text };
+
+    ghost goes = { λ listener. is_over listener.session.peer ≡ false };
 
     ghost writes = { λ one log front octets text s. writes_served one.session one.bodies
         one.lines.octets.octets log front octets text s };
@@ -168,6 +171,9 @@ impl End for Listener {
 
     ghost stops = { λ one log octets text ended is s. stops_served one.session one.bodies
         one.lines.octets.octets log octets text s ended is };
+
+    ghost spends = { λ one log text ended is going s. spends_served one.session one.bodies
+        one.lines.octets.octets log text s ended is going };
 
     fn gather(&mut self, out: &mut Octets) -> Result<bool, NoMemory> {
         let is_given = self.refill()?;
@@ -206,8 +212,11 @@ impl End for Listener {
         }
     }
 
-    fn is_over(&self) -> bool {
-        self.session.is_over()
+    fn over(&self) -> Option<Stop> {
+        if !self.session.is_over() {
+            return None;
+        }
+        Some(Stop::Released)
     }
 
     fn left(&self) -> u64 {

@@ -1,10 +1,11 @@
 //! What a sender does as messages come and go: it starts a channel, answers the peer's request with
 //! its lines, closes the channel and releases the session (RFC 3195, section 3.1).
-ghost use Rattle.std.specs.Prelude.{◌≡◌, ◌≤◌, ◌<◌, ◌==◌, ◌&&◌, ◌||◌, ◌∷◌, [], ℕ, List, length, take, slice_get, Some, vec_len, true, IfErr, IfOk, OnOk};
+ghost use Rattle.std.specs.Prelude.{◌≡◌, ◌≤◌, ◌<◌, ◌==◌, ◌&&◌, ◌||◌, ◌∷◌, [], ℕ, List, length, take, slice_get, Some, vec_len, false, true, IfErr, IfOk, OnOk};
 ghost use Rattle.beep_frame.specs.Frame.{is_nul as is_nul_kind};
 ghost use Rattle.beep_wires.specs.Counts.{Rose};
 ghost use Rattle.beep_wires.specs.Log.{Entry, read as came};
 ghost use Rattle.beep_journal.specs.Log.{Moment, got_all, put_all};
+ghost use Rattle.beep_peer.specs.Peering.{is_over};
 ghost use Rattle.beep_talk.specs.Plan.{PlainPlan};
 ghost use Rattle.beep_speaking.specs.declared.emit.Emit.{Emit as EmitValue};
 ghost use Rattle.beep_session.specs.Lawfully.{terms_of};
@@ -26,7 +27,7 @@ use beep_session::{
     Answering, CloseError, Duty, ReleaseError, Session, Settled, StartError, one_profile,
 };
 use beep_speaking::Emit;
-use beep_steps::{Came, hear_next, is_open, say_next, settle_message, take_part};
+use beep_steps::{Came, UNFINISHED, hear_next, is_open, say_next, settle_message, take_part};
 use beep_wires::Sink;
 use prof_raw::{Entries, entry_body};
 use std::alloc::Global;
@@ -45,9 +46,6 @@ const STARTED: usize = 1;
 const CLOSED: usize = 2;
 
 const RELEASED: usize = 3;
-
-/// The code that a sender tells where the peer ends the session before the close is granted.
-const UNFINISHED: u16 = 421;
 
 /// How many octets are taken at once: a frame has no more.
 const TAKEN: usize = 65536;
@@ -326,7 +324,7 @@ impl<'l> Sender<'l> {
 
 impl End for Sender<'_> {
     ghost use Rattle.beep_ends.specs.Sender.{plan_of, progress_of, SendsBy};
-    ghost use Rattle.beep_steps.specs.Turning.{closes_sending, quiets_sending, stops_sending, writes_sending};
+    ghost use Rattle.beep_steps.specs.Turning.{closes_sending, quiets_sending, spends_sending, stops_sending, writes_sending};
 
     ghost Terms = { PlainPlan };
 
@@ -335,6 +333,8 @@ impl End for Sender<'_> {
     ghost stands = { λ sender log octets _. SendsBy sender (put_all octets (moments log)) };
 
     ghost tells = { λ plan ended log _. TellsSent plan ended log };
+
+    ghost goes = { λ sender. is_over sender.session.peer ≡ false };
 
     ghost writes = { λ one log front octets _ s. writes_sending (plan_of one) (progress_of one)
         one.session log front octets s };
@@ -347,6 +347,9 @@ impl End for Sender<'_> {
 
     ghost stops = { λ one log octets _ ended is s. stops_sending (plan_of one)
         (progress_of one) one.session (λ i. terms_of one.session) log octets ended is s };
+
+    ghost spends = { λ one log _ ended is going s. spends_sending (plan_of one)
+        (progress_of one) one.session (λ i. terms_of one.session) log ended is going s };
 
     fn gather(&mut self, out: &mut Octets) -> Result<bool, NoMemory> {
         let is_given = self.refill()?;
@@ -379,8 +382,14 @@ impl End for Sender<'_> {
         self.hear_all(bytes)
     }
 
-    fn is_over(&self) -> bool {
-        self.is_closed && self.session.is_over()
+    fn over(&self) -> Option<Stop> {
+        if !self.session.is_over() {
+            return None;
+        }
+        if !self.is_closed {
+            return Some(Stop::Refused(UNFINISHED));
+        }
+        Some(Stop::Released)
     }
 
     fn left(&self) -> u64 {

@@ -3,9 +3,8 @@ use Rattle.std.proofs.Common.{◌≡◌, ◌⊎◌, inl, inr, ◌∙◌, sym, ap
 use lib.Seq.{take-append_seam}
 use Rattle.beep_wires.specs.Log.{Entry, read, wrote, quiet, ended, Logs}
 use Rattle.beep_wires.specs.Writing.{AreWrites}
-use Rattle.std.specs.Io.KnownBytes.{Appends}
 use Rattle.std.proofs.KnownBytes.{Appends-nil, Appends-trans}
-use Rattle.beep_link.specs.Causes.{IsOfTurns, IsSpent, WhereTold, WithText}
+use Rattle.beep_link.specs.Causes.{IsOfReads, IsSpent, WhereTold, WithText}
 use Rattle.beep_link.specs.declared.ended.Ended.{Ended}
 use Rattle.beep_link.specs.declared.left.Reads.{Reads}
 use Rattle.beep_link.specs.declared.left.Left.{Left}
@@ -78,8 +77,8 @@ text-none now P p = ([], Appends-nil now, p)
 pub text-more : (before mid now : Option (List ℕ)) (P Q : List ℕ → Type 0) → ((text : List ℕ) → P text → WithText mid now (λ more. Q (text ++ more))) → WithText before mid P → WithText before now Q
 text-more before mid now P Q f (text, grew, p) = let next = f text p in (text ++ next.0, Appends-trans before mid now text next.0 grew next.1, next.2)
 
--- where nothing more is read the turns end
-pub spent-is : (ended : Ended) (reads : Reads) (left : Left) → IsSpent ended reads left → IsOfTurns ended
+-- where nothing more is read the settings end the turns
+pub spent-is : (ended : Ended) (reads : Reads) (left : Left) → IsSpent ended reads left → IsOfReads ended
 spent-is Ended.Released reads left s = absurd s
 spent-is (Ended.Broken rule place) reads left s = absurd s
 spent-is Ended.WriteFault reads left s = absurd s

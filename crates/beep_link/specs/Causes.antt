@@ -76,17 +76,29 @@ IsCaused (Ended.Idle count) reads old new = (count ≡ reads.idle) × IsQuiet re
 IsCaused (Ended.Spent count) reads old new =
     (count ≡ reads.octets) × HasRead reads.octets new.link.log
 
--- the turns end so themselves, whatever the end of the session has to say to it
-abbrev pub IsOfTurns : Ended → Type 0
-IsOfTurns Ended.Released = ⊥
-IsOfTurns (Ended.Broken rule place) = ⊥
-IsOfTurns Ended.WriteFault = ⊥
-IsOfTurns Ended.WireFault = Unit {0}
-IsOfTurns Ended.NoMemory = Unit {0}
-IsOfTurns (Ended.Refused code) = ⊥
-IsOfTurns (Ended.Cut left) = ⊥
-IsOfTurns (Ended.Idle count) = Unit {0}
-IsOfTurns (Ended.Spent count) = Unit {0}
+-- a fault of the link, or want of memory: the turns end so at any place
+abbrev pub IsOfFaults : Ended → Type 0
+IsOfFaults Ended.Released = ⊥
+IsOfFaults (Ended.Broken rule place) = ⊥
+IsOfFaults Ended.WriteFault = ⊥
+IsOfFaults Ended.WireFault = Unit {0}
+IsOfFaults Ended.NoMemory = Unit {0}
+IsOfFaults (Ended.Refused code) = ⊥
+IsOfFaults (Ended.Cut left) = ⊥
+IsOfFaults (Ended.Idle count) = ⊥
+IsOfFaults (Ended.Spent count) = ⊥
+
+-- the settings allow no more reads: the turns end so where the session isn't over
+abbrev pub IsOfReads : Ended → Type 0
+IsOfReads Ended.Released = ⊥
+IsOfReads (Ended.Broken rule place) = ⊥
+IsOfReads Ended.WriteFault = ⊥
+IsOfReads Ended.WireFault = ⊥
+IsOfReads Ended.NoMemory = ⊥
+IsOfReads (Ended.Refused code) = ⊥
+IsOfReads (Ended.Cut left) = ⊥
+IsOfReads (Ended.Idle count) = Unit {0}
+IsOfReads (Ended.Spent count) = Unit {0}
 
 -- the sink's count rose where a write of the output failed
 abbrev pub IsWritten : Ended → ℕ → ℕ → Type 0

@@ -1,8 +1,8 @@
 //! What the turns over a link want of an end.
-ghost use Rattle.std.specs.Prelude.{◌≡◌, ◌≤◌, ◌++◌, ◌∷◌, [], ℕ, List, true, IfErr, OnOk};
+ghost use Rattle.std.specs.Prelude.{◌≡◌, ◌≢◌, ◌≤◌, ◌++◌, ◌∷◌, [], ℕ, List, IfErr, IfNone, IfSome, OnOk};
 ghost use Rattle.beep_wires.specs.Counts.{Rose};
 ghost use Rattle.beep_wires.specs.Log.{Entry, read as came, wrote, quiet, ended as over};
-ghost use Rattle.beep_link.specs.Causes.{ended_by, IsOfTurns, WithText};
+ghost use Rattle.beep_link.specs.Causes.{ended_by, IsOfFaults, IsOfReads, WithText};
 ghost use Rattle.beep_link.specs.declared.ended.Ended.{Ended as EndedValue};
 ghost use Rattle.beep_link.specs.declared.ended.Stop.{Stop as StopValue};
 ghost use Rattle.beep_link.specs.declared.end.TheConstants.{FRAME_ROOM};
@@ -30,6 +30,9 @@ pub trait End {
     /// text is then that was written to the output.
     ghost tells: { Self.Terms → EndedValue → List Entry → List ℕ → Type 0 };
 
+    /// What holds of it where its session isn't over.
+    ghost goes: { Self → Type 0 };
+
     /// Appends what is due now, as far as there is room, and answers whether more may be.
     fn gather(&mut self, out: &mut Octets) -> Result<bool, NoMemory>
         requires room { FRAME_ROOM ≤ out.old.spare }
@@ -52,15 +55,18 @@ pub trait End {
         ensures terms { Self.terms self.new ≡ Self.terms self.old }
         ensures kept { (O.state output.old).faults ≤ (O.state output.new).faults };
 
-    /// Whether the session is over.
-    fn is_over(&self) -> bool
-        ensures over { (log : List Entry) (text : List ℕ) → result ≡ true
-            → Self.stands self.now log [] text
-            → Self.tells (Self.terms self.now) EndedValue.Released log text };
+    /// What its session was stopped by, where that is over.
+    fn over(&self) -> Option<Stop>
+        ensures over { (log : List Entry) (text : List ℕ) → Self.stands self.now log [] text
+            → IfSome result (λ stop.
+            Self.tells (Self.terms self.now) (ended_by stop) log text) }
+        ensures unfailed { IfSome result (λ stop. stop ≢ StopValue.WriteFault) }
+        ensures going { IfNone result (Self.goes self.now) };
 
     /// How many octets came of a frame that isn't whole.
     fn left(&self) -> u64
-        ensures cut { (log : List Entry) (text : List ℕ) → Self.stands self.now log [] text
+        ensures cut { (log : List Entry) (text : List ℕ) → Self.goes self.now
+            → Self.stands self.now log [] text
             → Self.tells (Self.terms self.now) (EndedValue.Cut result) log text };
 
     /// What is written goes from what is to be written to the log, in pieces of any size.
@@ -75,9 +81,13 @@ pub trait End {
     ghost closes: { (end : Self) (log : List Entry) (text : List ℕ)
         → Self.stands end log [] text → Self.stands end (over ∷ log) [] text };
 
-    /// It may be stopped at any place for want of memory, by a fault of the link and by the
-    /// settings.
+    /// It may be stopped at any place for want of memory and by a fault of the link.
     ghost stops: { (end : Self) (log : List Entry) (octets text : List ℕ) (ended : EndedValue)
-        → IsOfTurns ended → Self.stands end log octets text
+        → IsOfFaults ended → Self.stands end log octets text
+        → Self.tells (Self.terms end) ended log text };
+
+    /// While its session isn't over it may be stopped by the settings, once all is written.
+    ghost spends: { (end : Self) (log : List Entry) (text : List ℕ) (ended : EndedValue)
+        → IsOfReads ended → Self.goes end → Self.stands end log [] text
         → Self.tells (Self.terms end) ended log text };
 }

@@ -121,8 +121,8 @@ fn turn<E: End, W: Wires, O: Sink>(
     ensures terms { E.terms end.new ≡ E.terms end.old }
 {
     say(end, &mut buffers.going, wires, link)?;
-    if end.is_over() {
-        return Err(Ended::Released);
+    if let Some(stop) = end.over() {
+        return Err(Ended::of(stop));
     }
     if let Some(ended) = left.is_spent(reads) {
         return Err(ended);

@@ -19,10 +19,11 @@ starved terms (Ended.Broken rule place) log s = inr s.1
 starved terms Ended.WriteFault log s = inr s
 starved terms Ended.WireFault log s = inl s
 starved terms Ended.NoMemory log s = s
-starved terms (Ended.Refused code) log s = inr s
+starved terms (Ended.Refused code) log (inl s) = inr s
+starved terms (Ended.Refused code) log (inr s) = inl s.release.sound
 starved terms (Ended.Cut left) log s = inl s.sound
-starved terms (Ended.Idle reads) log s = inl s
-starved terms (Ended.Spent octets) log s = inl s
+starved terms (Ended.Idle reads) log s = inl s.sound
+starved terms (Ended.Spent octets) log s = inl s.sound
 
 starved-told : (terms : Terms) (cause : Ended) (log : Option (List Entry)) → WhereTold (Shows terms cause) log → WhereTold (Shows terms Ended.NoMemory) log
 starved-told terms cause None s = tt

@@ -8,6 +8,7 @@ use Rattle.beep_frame.specs.declared.rule.Rule.{Rule}
 use Rattle.beep_history.specs.Journal.{Item}
 use Rattle.beep_journal.specs.Log.{Moment, got, got_all}
 use Rattle.beep_journal.specs.Life.{is_released}
+use Rattle.beep_journal.specs.declared.role.Role.{Role}
 use Rattle.beep_lawful.specs.declared.terms.Terms.{Terms}
 use Rattle.beep_standing.specs.Standing.{Marks}
 use Rattle.beep_peer.specs.Peering.{IsPeer, is_over}
@@ -22,8 +23,9 @@ use Rattle.beep_wires.specs.Log.{Entry, read, wrote, quiet, ended}
 use Rattle.beep_link.specs.Causes.{WhereTold, ended_by}
 use Rattle.beep_link.specs.declared.ended.Ended.{Ended}
 use Rattle.beep_link.specs.declared.ended.Stop.{Stop}
-use Rattle.beep_steps.specs.Logs.{moments, IsLawfulOn, StandsOn, WaitsOn, Shows, ShowsRelease, ShowsFault, ShowsCut, StopsInRead, StopsOn, SaysNothing}
-use Rattle.beep_steps.proofs.CallLemmas.{Fed, fed-on}
+use Rattle.beep_steps.specs.Logs.{moments, IsLawfulOn, StandsOn, WaitsOn, Shows, ShowsRelease, ShowsFault, ShowsCut, ShowsUnfinished, StopsInRead, StopsOn, SaysNothing}
+use Rattle.beep_steps.specs.declared.fit.TheConstants.{UNFINISHED}
+use Rattle.beep_steps.proofs.CallLemmas.{Fed, fed-on, left-false}
 
 -- ---- a session that stops within a read
 
@@ -39,7 +41,7 @@ module _ (session : Held) (log : List Entry) (s : StandsOn session (moments log)
   stopped-on octets (Stop.Broken rule place) h = (h, stops-in octets)
   stopped-on octets Stop.WriteFault h = stops-in octets
   stopped-on octets Stop.NoMemory h = inr (stops-in octets)
-  stopped-on octets (Stop.Refused code) h = stops-in octets
+  stopped-on octets (Stop.Refused code) h = inl (stops-in octets)
 
 stops-lawful : (terms : Terms) (log : List Entry) → StopsInRead terms log → IsLawfulOn terms log
 stops-lawful terms [] h = absurd h
@@ -76,12 +78,20 @@ module _ (session : Held) (log : List Moment) (s : StandsOn session log) where
         released = ap is_released l.shown.journal_is ∙ e;
       }
 
+  pub unreleased-on : is_over session.peer ≡ false → is_released s.journal ≡ false
+  unreleased-on e = sym s.stands.stands.released ∙ left-false session.peer.released (is_some session.peer.ear.broken) e
+
   pub shows-cut : (left : ℕ) → ((fed rest : List ℕ) (journal : List Item) (given taken : Marks) → IsPeer session.limits.window fed rest journal given taken session.peer
-      → left ≡ modulo_2_64 (length rest)) → ShowsCut (terms_of session) left log
-  shows-cut left f = record {
+      → left ≡ modulo_2_64 (length rest)) → is_over session.peer ≡ false → ShowsCut (terms_of session) left log
+  shows-cut left f going = record {
     sound = record { past = s.logged.shown.past; shows = s.logged.shown.shows; going = s.logged.shown.going; lawful = s.logged.lawful };
+    unreleased = ap is_released s.logged.shown.journal_is ∙ unreleased-on going;
     left_is = f s.fed s.rest s.journal s.given s.taken s.stands.stands ∙ ap (λ (x : List ℕ). modulo_2_64 (length x)) (sym s.logged.shown.rest_is);
   }
+
+  -- an initiator refuses a released session
+  pub shows-unfinished : is_over session.peer ≡ true → session.role ≡ Role.Initiator → ShowsUnfinished (terms_of session) UNFINISHED log
+  shows-unfinished e role = record { release = shows-release (over-on e); initiator = role; code_is = refl }
 
 -- ---- octets in pieces
 
@@ -197,10 +207,11 @@ shows-lawful terms Ended.WriteFault log h = stops-lawful terms log h
 shows-lawful terms Ended.WireFault log h = h.lawful
 shows-lawful terms Ended.NoMemory log (inl h) = h.lawful
 shows-lawful terms Ended.NoMemory log (inr h) = stops-lawful terms log h
-shows-lawful terms (Ended.Refused code) log h = stops-lawful terms log h
+shows-lawful terms (Ended.Refused code) log (inl h) = stops-lawful terms log h
+shows-lawful terms (Ended.Refused code) log (inr h) = h.release.sound.lawful
 shows-lawful terms (Ended.Cut left) log h = h.sound.lawful
-shows-lawful terms (Ended.Idle count) log h = h.lawful
-shows-lawful terms (Ended.Spent count) log h = h.lawful
+shows-lawful terms (Ended.Idle count) log h = h.sound.lawful
+shows-lawful terms (Ended.Spent count) log h = h.sound.lawful
 
 pub told-lawful : (terms : Terms) (cause : Ended) (log : Option (List Entry)) → WhereTold (Shows terms cause) log → WhereTold (IsLawfulOn terms) log
 told-lawful terms cause None h = tt

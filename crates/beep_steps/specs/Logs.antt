@@ -25,6 +25,7 @@ use Rattle.beep_settings.specs.declared.settings.Settings.{Settings}
 use Rattle.beep_wires.specs.Log.{Entry, read, wrote, quiet, ended}
 use Rattle.beep_link.specs.declared.ended.Ended.{Ended}
 use Rattle.beep_link.specs.declared.ended.Stop.{Stop}
+use Rattle.beep_steps.specs.declared.fit.TheConstants.{UNFINISHED}
 use Rattle.beep_steps.specs.declared.hearing.Came.{Came}
 
 -- the flat log of a link, the latest moment first: how reads and writes were cut isn't in it
@@ -59,9 +60,21 @@ pub record ShowsFault (terms : Terms) (rule : Rule) (place : ℕ) (log : List Mo
   pub place_is : place ≡ modulo_2_64 octet
   pub broken : IsLoggedBroken terms rule octet log
 
--- a log shows no broken rule, and so many octets modulo 2^64 of a frame that isn't whole
+-- a log shows a released session, which an initiator refuses with this code
+pub record ShowsUnfinished (terms : Terms) (code : ℕ) (log : List Moment) : Type 0 where
+  pub release : ShowsRelease terms log
+  pub initiator : terms.role ≡ Role.Initiator
+  pub code_is : code ≡ UNFINISHED
+
+-- a log shows a session that isn't released, in which no rule was broken
+pub record ShowsGoing (terms : Terms) (log : List Moment) : Type 0 where
+  pub sound : IsSound terms log
+  pub unreleased : is_released sound.past.journal ≡ false
+
+-- the same, and so many octets modulo 2^64 of a frame that isn't whole
 pub record ShowsCut (terms : Terms) (left : ℕ) (log : List Moment) : Type 0 where
   pub sound : IsSound terms log
+  pub unreleased : is_released sound.past.journal ≡ false
   pub left_is : left ≡ modulo_2_64 (length (sound.past.rest Side.Received))
 
 -- the latest entry of the log is a read, before which no rule was broken: nothing came after it
@@ -81,10 +94,11 @@ Shows terms (Ended.Broken rule place) log =
 Shows terms Ended.WriteFault log = StopsInRead terms log
 Shows terms Ended.WireFault log = IsSound terms (moments log)
 Shows terms Ended.NoMemory log = IsSound terms (moments log) ⊎ StopsInRead terms log
-Shows terms (Ended.Refused code) log = StopsInRead terms log
+Shows terms (Ended.Refused code) log =
+    StopsInRead terms log ⊎ ShowsUnfinished terms code (moments log)
 Shows terms (Ended.Cut left) log = ShowsCut terms left (moments log)
-Shows terms (Ended.Idle count) log = IsSound terms (moments log)
-Shows terms (Ended.Spent count) log = IsSound terms (moments log)
+Shows terms (Ended.Idle count) log = ShowsGoing terms (moments log)
+Shows terms (Ended.Spent count) log = ShowsGoing terms (moments log)
 
 -- ---- while it goes on
 

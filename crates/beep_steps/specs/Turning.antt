@@ -1,19 +1,21 @@
 -- What the turns over a link want of what an end stands for (RFC 3081, section 2).
 -- These are proofs, since the members of an impl cite nothing else of its crate.
-use Rattle.std.specs.Prelude.{◌≡◌, ℕ, List, ◌∷◌, ◌++◌}
-use Rattle.std.proofs.Common.{subst, inl}
+use Rattle.std.specs.Prelude.{◌≡◌, ℕ, Bool, true, false, ◌||◌, is_some, List, ◌∷◌, ◌++◌}
+use Rattle.std.proofs.Common.{refl, sym, ap, ◌∙◌, subst, inl}
+use Rattle.beep_journal.specs.Life.{is_released}
 use Rattle.beep_journal.specs.Log.{Moment, put_all}
+use Rattle.beep_peer.specs.Peering.{is_over}
 use Rattle.beep_session.specs.Session.{Held}
 use Rattle.beep_session.specs.Lawfully.{terms_of}
 use Rattle.beep_logged.proofs.EndLemmas.{put-append, sound-of, sound-puts}
 use Rattle.beep_logged.proofs.ReadLemmas.{quiet-logged, over-logged}
 use Rattle.beep_logged.specs.Logged.{IsLogged, IsSound}
 use Rattle.beep_wires.specs.Log.{Entry, wrote, quiet, ended}
-use Rattle.beep_link.specs.Causes.{IsOfTurns}
+use Rattle.beep_link.specs.Causes.{IsOfFaults, IsOfReads}
 use Rattle.beep_link.specs.declared.ended.Ended.{Ended}
 use Rattle.beep_lawful.specs.declared.terms.Terms.{Terms}
 use Rattle.beep_talk.specs.Plan.{PlainPlan}
-use Rattle.beep_steps.specs.Logs.{moments, StandsOn, Shows}
+use Rattle.beep_steps.specs.Logs.{moments, StandsOn, Shows, ShowsGoing}
 use Rattle.beep_steps.specs.Sending.{Progress, SendsOn, TellsSent}
 use Rattle.beep_steps.specs.Serving.{ServesOn}
 
@@ -56,7 +58,7 @@ sound_on session log octets s = sound-puts (terms_of session) octets (moments lo
     (sound-of (terms_of session) s.rest s.journal (put_all octets (moments log)) s.logged)
 
 pub stops_on : (session : Held) (log : List Entry) (octets : List ℕ) (cause : Ended)
-    → IsOfTurns cause → StandsOn session (put_all octets (moments log))
+    → IsOfFaults cause → StandsOn session (put_all octets (moments log))
     → Shows (terms_of session) cause log
 stops_on session log octets Ended.Released is s = absurd is
 stops_on session log octets (Ended.Broken rule place) is s = absurd is
@@ -65,8 +67,42 @@ stops_on session log octets Ended.WireFault is s = sound_on session log octets s
 stops_on session log octets Ended.NoMemory is s = inl (sound_on session log octets s)
 stops_on session log octets (Ended.Refused code) is s = absurd is
 stops_on session log octets (Ended.Cut left) is s = absurd is
-stops_on session log octets (Ended.Idle count) is s = sound_on session log octets s
-stops_on session log octets (Ended.Spent count) is s = sound_on session log octets s
+stops_on session log octets (Ended.Idle count) is s = absurd is
+stops_on session log octets (Ended.Spent count) is s = absurd is
+
+-- where the session isn't over the log shows no release
+unreleased : (a b : Bool) → (a || b) ≡ false → a ≡ false
+unreleased true b e = e
+unreleased false b e = refl
+
+going_on : (session : Held) (log : List Entry) → is_over session.peer ≡ false
+    → StandsOn session (moments log) → ShowsGoing (terms_of session) (moments log)
+going_on session log going s =
+    let peer = session.peer in
+    let shown = s.logged.shown in
+    record {
+      sound = record {
+        past = shown.past;
+        shows = shown.shows;
+        going = shown.going;
+        lawful = s.logged.lawful;
+      };
+      unreleased = ap is_released shown.journal_is ∙ sym s.stands.stands.released
+          ∙ unreleased peer.released (is_some peer.ear.broken) going;
+    }
+
+pub spends_on : (session : Held) (log : List Entry) (cause : Ended) → IsOfReads cause
+    → is_over session.peer ≡ false → StandsOn session (moments log)
+    → Shows (terms_of session) cause log
+spends_on session log Ended.Released is going s = absurd is
+spends_on session log (Ended.Broken rule place) is going s = absurd is
+spends_on session log Ended.WriteFault is going s = absurd is
+spends_on session log Ended.WireFault is going s = absurd is
+spends_on session log Ended.NoMemory is going s = absurd is
+spends_on session log (Ended.Refused code) is going s = absurd is
+spends_on session log (Ended.Cut left) is going s = absurd is
+spends_on session log (Ended.Idle count) is going s = going_on session log going s
+spends_on session log (Ended.Spent count) is going s = going_on session log going s
 
 -- ---- a sender
 
@@ -95,13 +131,22 @@ module _ (plan : PlainPlan) (progress : Progress) (session : Held) where
       (over-logged (terms_of session) s.on.rest s.on.journal (moments log) s.on.logged)
 
   pub stops_sending : terms_of session ≡ plan.terms → (log : List Entry) (octets : List ℕ)
-      (cause : Ended) → IsOfTurns cause
+      (cause : Ended) → IsOfFaults cause
       → SendsOn plan progress session (put_all octets (moments log))
       → TellsSent plan cause log
   stops_sending same log octets cause is s = record {
     shows = subst (λ (t : Terms). Shows t cause log) same
         (stops_on session log octets cause is s.on);
-    sent = λ released. absurd (subst IsOfTurns released is);
+    sent = λ released. absurd (subst IsOfFaults released is);
+  }
+
+  pub spends_sending : terms_of session ≡ plan.terms → (log : List Entry) (cause : Ended)
+      → IsOfReads cause → is_over session.peer ≡ false
+      → SendsOn plan progress session (moments log) → TellsSent plan cause log
+  spends_sending same log cause is going s = record {
+    shows = subst (λ (t : Terms). Shows t cause log) same
+        (spends_on session log cause is going s.on);
+    sent = λ released. absurd (subst IsOfReads released is);
   }
 
 -- ---- a listener

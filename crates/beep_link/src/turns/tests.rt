@@ -27,6 +27,8 @@ impl End for Echo {
 
     ghost tells = { λ _ _ _ _. Unit {0} };
 
+    ghost goes = { λ _. Unit {0} };
+
     ghost writes = { λ _ _ _ _ _ _. tt };
 
     ghost quiets = { λ _ _ _ _. tt };
@@ -34,6 +36,8 @@ impl End for Echo {
     ghost closes = { λ _ _ _ _. tt };
 
     ghost stops = { λ _ _ _ _ _ _ _. tt };
+
+    ghost spends = { λ _ _ _ _ _ _ _. tt };
 
     fn gather(&mut self, out: &mut Octets) -> Result<bool, NoMemory> {
         if self.due == 0 {
@@ -64,8 +68,11 @@ impl End for Echo {
         Ok(())
     }
 
-    fn is_over(&self) -> bool {
-        self.is_over
+    fn over(&self) -> Option<Stop> {
+        if self.is_over {
+            return Some(Stop::Released);
+        }
+        None
     }
 
     fn left(&self) -> u64 {
@@ -121,5 +128,28 @@ fn a_session_ends_by_its_first_cause(rt: HostRuntime) -> Result<(), Fail> {
         assert_eq!(rt; ended, want, "at {said}");
         assert_eq!(rt; wires.written(link), says.as_bytes(), "at {said}");
     }
+    Ok(())
+}
+
+// The link ends, and nothing may be read of it.
+#[test]
+fn a_session_that_is_over_is_told_before_the_link_is_looked_at(
+    rt: HostRuntime,
+) -> Result<(), Fail> {
+    let alloc = rt.alloc();
+    let mut wires = MemWires::new(alloc, Fails::new(alloc));
+    add(alloc, &mut wires, "")?;
+    let Ok(link) = wires.accept(601) else {
+        return Err("no link".into());
+    };
+    let mut end = Echo {
+        due: 1,
+        is_over: true,
+    };
+    let mut none = NullSink;
+    let reads = Reads { octets: 0, idle: 0 };
+    let ended = run_turns(alloc, &mut end, &mut wires, link, reads, &mut none);
+    assert_eq!(rt; ended, Ended::Released);
+    assert_eq!(rt; wires.written(link), b"hello".as_slice());
     Ok(())
 }

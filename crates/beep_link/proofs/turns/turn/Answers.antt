@@ -1,9 +1,8 @@
 -- What a turn says and hears joins the log, and what it writes joins the output.
-use Rattle.std.proofs.Common.{rules, ◌≡◌, ◌∷◌, [], ◌++◌, ℕ, List, take, Ok, Err, subst, sym, ◌∙◌, arith}
-use Rattle.beep_wires.specs.Log.{Entry, Logs, read, quiet, ended}
-use Rattle.beep_wires.specs.Got.{read_entries}
+use Rattle.std.proofs.Common.{rules, ◌≡◌, ◌∷◌, [], ◌++◌, ℕ, List, take, subst, sym, ◌∙◌}
+use Rattle.beep_wires.specs.Log.{Logs, read, quiet, ended}
 use Rattle.beep_wires.specs.Links.{Counts}
-use Rattle.beep_link.specs.Causes.{CountsQuiet, IsOfTurns, WhereTold, WithText, ended_by}
+use Rattle.beep_link.specs.Causes.{CountsQuiet, IsOfReads, WhereTold, WithText, ended_by}
 use Rattle.beep_link.specs.declared.ended.Ended.{Ended}
 use Rattle.beep_link.proofs.StandLemmas.{entered, kept, spent-is, take-front, text-map, text-more, told-map}
 use Rattle.beep_link.proofs.turns.turn.Goals as goal
@@ -11,14 +10,16 @@ use Rattle.beep_link.proofs.turns.turn.Goals as goal
 pub returns-in_err-say-clause-stopped : goal.returns-in_err-say-clause-stopped
 returns-in_err-say-clause-stopped g c before s = search (rules, c.in_err-say.ensures.stopped before (g.O.Sink.state c.args.output.now).written s)
 
-pub returns-then-is_over-clause-stopped : goal.returns-then-is_over-clause-stopped
-returns-then-is_over-clause-stopped g c before s =
+pub returns-in-Some-clause-stopped : goal.returns-in-Some-clause-stopped
+returns-in-Some-clause-stopped g c before s =
     let E = g.E.End in
     let now = (g.O.Sink.state c.args.output.now).written in
-    told-map (λ log. WithText before now (E.stands c.say.new.end log [])) (λ log. WithText before now (E.tells (E.terms c.args.end.now) Ended.Released log))
-    (λ log h. text-map before now (E.stands c.say.new.end log []) (E.tells (E.terms c.args.end.now) Ended.Released log)
-    (λ text k. subst (λ t. E.tells t Ended.Released log text) c.say.ensures.terms (c.is_over.ensures.over log text c.if-is_over.true k)) h)
-    (g.W.Wires.state c.say.new.wires c.args.link).log (c.in_ok-say.ensures.said before now s)
+    let old = E.terms c.args.end.now in
+    subst (λ e. WhereTold (λ log. WithText before now (E.tells old e log)) (g.W.Wires.state c.say.new.wires c.args.link).log) (sym c.of.ensures)
+    (told-map (λ log. WithText before now (E.stands c.say.new.end log [])) (λ log. WithText before now (E.tells old (ended_by c.in-Some.stop) log))
+    (λ log h. text-map before now (E.stands c.say.new.end log []) (E.tells old (ended_by c.in-Some.stop) log)
+    (λ text k. subst (λ t. E.tells t (ended_by c.in-Some.stop) log text) c.say.ensures.terms (search (rules, k))) h)
+    (g.W.Wires.state c.say.new.wires c.args.link).log (c.in_ok-say.ensures.said before now s))
 
 pub returns-in-Ok-clause-counted : goal.returns-in-Ok-clause-counted
 returns-in-Ok-clause-counted g c before h =
@@ -28,15 +29,15 @@ pub returns-in-Ok-Quiet-clause-counted : goal.returns-in-Ok-Quiet-clause-counted
 returns-in-Ok-Quiet-clause-counted g c before h =
     c.in-Ok-Quiet.ensures.counted before (subst (λ (n : Counts). CountsQuiet before c.args.left.now n.quiets) (sym c.say.ensures.same_counts) h)
 
-pub returns-in-Some-clause-stopped : goal.returns-in-Some-clause-stopped
-returns-in-Some-clause-stopped g c before s =
+pub returns-in-Some-is_spent-clause-stopped : goal.returns-in-Some-is_spent-clause-stopped
+returns-in-Some-is_spent-clause-stopped g c before s =
     let E = g.E.End in
     let now = (g.O.Sink.state c.args.output.now).written in
-    let t : IsOfTurns c.in-Some.ended = spent-is c.in-Some.ended c.args.reads c.args.left.now c.in-Some.ensures.some in
-    let h : WhereTold (λ log. WithText before now (E.tells (E.terms c.args.end.now) c.in-Some.ended log)) (g.W.Wires.state c.say.new.wires c.args.link).log =
-    told-map (λ log. WithText before now (E.stands c.say.new.end log [])) (λ log. WithText before now (E.tells (E.terms c.args.end.now) c.in-Some.ended log))
-    (λ log h. text-map before now (E.stands c.say.new.end log []) (E.tells (E.terms c.args.end.now) c.in-Some.ended log)
-    (λ text k. subst (λ e. E.tells e c.in-Some.ended log text) c.say.ensures.terms (g.met.E.End.stops c.say.new.end log [] text c.in-Some.ended t k)) h)
+    let t : IsOfReads c.in-Some-is_spent.ended = spent-is c.in-Some-is_spent.ended c.args.reads c.args.left.now c.in-Some-is_spent.ensures.some in
+    let h : WhereTold (λ log. WithText before now (E.tells (E.terms c.args.end.now) c.in-Some-is_spent.ended log)) (g.W.Wires.state c.say.new.wires c.args.link).log =
+    told-map (λ log. WithText before now (E.stands c.say.new.end log [])) (λ log. WithText before now (E.tells (E.terms c.args.end.now) c.in-Some-is_spent.ended log))
+    (λ log h. text-map before now (E.stands c.say.new.end log []) (E.tells (E.terms c.args.end.now) c.in-Some-is_spent.ended log)
+    (λ text k. subst (λ e. E.tells e c.in-Some-is_spent.ended log text) c.say.ensures.terms (g.met.E.End.spends c.say.new.end log text c.in-Some-is_spent.ended t (search rules) k)) h)
     (g.W.Wires.state c.say.new.wires c.args.link).log (c.in_ok-say.ensures.said before now s) in
     search (rules, h)
 
@@ -59,7 +60,7 @@ returns-in-Err-hear-clause-stopped g c before s =
     let logged : Logs (g.W.Wires.state c.say.new.wires c.args.link).log (g.W.Wires.state c.read_once.new.wires c.args.link).log (read (take c.in-Ok-Bytes.count c.read_once.new.coming) ∷ []) = search rules in
     let same : c.deref.result.now ≡ c.read_once.new.coming = c.deref.ensures.value ∙ take-front c.read_once.new.coming _ _ (c.read_once.ensures.buffer ∙ sym c.requires.buffer) in
     let old = E.terms c.args.end.now in
-    subst (λ e. WhereTold (λ log. WithText before (g.O.Sink.state c.hear.new.output).written (E.tells old e log)) (g.W.Wires.state c.read_once.new.wires c.args.link).log) (sym c.of.ensures)
+    subst (λ e. WhereTold (λ log. WithText before (g.O.Sink.state c.hear.new.output).written (E.tells old e log)) (g.W.Wires.state c.read_once.new.wires c.args.link).log) (sym c.of-in-Err-hear.ensures)
     (entered (λ log. WithText before now (E.stands c.say.new.end log [])) (λ log. WithText before (g.O.Sink.state c.hear.new.output).written (E.tells old (ended_by c.in-Err-hear.stop) log)) (read (take c.in-Ok-Bytes.count c.deref.result.now))
     (λ log h. text-more before now (g.O.Sink.state c.hear.new.output).written (E.stands c.say.new.end log []) (E.tells old (ended_by c.in-Err-hear.stop) (read (take c.in-Ok-Bytes.count c.deref.result.now) ∷ log))
     (λ text k. text-map now (g.O.Sink.state c.hear.new.output).written (λ more. E.tells (E.terms c.say.new.end) (ended_by c.in-Err-hear.stop) (read (take c.in-Ok-Bytes.count c.deref.result.now) ∷ log) (text ++ more)) (λ more. E.tells old (ended_by c.in-Err-hear.stop) (read (take c.in-Ok-Bytes.count c.deref.result.now) ∷ log) (text ++ more))
@@ -86,7 +87,7 @@ returns-in-Ok-End-clause-stopped g c before s =
     let h : WhereTold (λ log. WithText before now (E.tells old (Ended.Cut c.left.result) log)) (g.W.Wires.state c.read_once.new.wires c.args.link).log =
     entered (λ log. WithText before now (E.stands c.say.new.end log [])) (λ log. WithText before now (E.tells old (Ended.Cut c.left.result) log)) ended
     (λ log h. text-map before now (E.stands c.say.new.end log []) (E.tells old (Ended.Cut c.left.result) (ended ∷ log))
-    (λ text k. subst (λ e. E.tells e (Ended.Cut c.left.result) (ended ∷ log) text) c.say.ensures.terms (c.left.ensures.cut (ended ∷ log) text (g.met.E.End.closes c.say.new.end log text k))) h)
+    (λ text k. subst (λ e. E.tells e (Ended.Cut c.left.result) (ended ∷ log) text) c.say.ensures.terms (c.left.ensures.cut (ended ∷ log) text (search rules) (g.met.E.End.closes c.say.new.end log text k))) h)
     (g.W.Wires.state c.say.new.wires c.args.link).log (g.W.Wires.state c.read_once.new.wires c.args.link).log
     (search rules) (c.in_ok-say.ensures.said before now s) in
     search (rules, h)

@@ -9,10 +9,10 @@ use Rattle.beep_ends.proofs.listener.ListenerEnd.left.Goals as goal
 
 pub returns : goal.returns
 returns c = record {
-  cut = λ log text s.
+  cut = λ log text going s.
       let a = c.args.self.now in (
         record {
-          shows = shows-cut a.session (moments log) s.0.listens.on c.left.result c.left.ensures.stands;
+          shows = shows-cut a.session (moments log) s.0.listens.on c.left.result c.left.ensures.stands going;
           lines = dry-all a.session a.bodies a.lines.octets.octets text (moments log) s.0;
         },
         shows-served (plan_of a.session) a.session [] (moments log) s.1,

@@ -5,8 +5,8 @@ use Rattle.beep_ends.proofs.sender.SenderEnd.left.Goals as goal
 
 pub returns : goal.returns
 returns c = record {
-  cut = λ log text s. record {
-    shows = shows-cut c.args.self.now.session (moments log) s.on c.left.result c.left.ensures.stands;
+  cut = λ log text going s. record {
+    shows = shows-cut c.args.self.now.session (moments log) s.on c.left.result c.left.ensures.stands going;
     sent = λ is. absurd (cc is);
   };
 }

@@ -1,20 +1,24 @@
 -- A session that is over, and broke no rule, is released, and its lines are written.
-use Rattle.std.proofs.Common.{◌∙◌, sym, []}
+use Rattle.std.proofs.Common.{◌≡◌, [], rules, true}
+use Rattle.beep_peer.specs.Peering.{is_over}
 use Rattle.beep_steps.specs.Logs.{moments}
 use Rattle.beep_steps.proofs.OnLemmas.{over-on, shows-release}
 use Rattle.beep_steps.proofs.ServeLemmas.{shows-served}
 use Rattle.beep_ends.specs.Listening.{plan_of}
 use Rattle.beep_ends.proofs.HearLemmas.{dry-all}
-use Rattle.beep_ends.proofs.listener.ListenerEnd.is_over.Goals as goal
+use Rattle.beep_ends.proofs.listener.ListenerEnd.over.Goals as goal
 
 pub returns : goal.returns
 returns c = record {
-  over = λ log text e s.
-      let a = c.args.self.now in (
+  over = λ log text s.
+      let a = c.args.self.now in
+      let over : is_over a.session.peer ≡ true = search rules in (
         record {
-          shows = shows-release a.session (moments log) s.0.listens.on (over-on a.session (moments log) s.0.listens.on (sym c.is_over.ensures ∙ e));
+          shows = shows-release a.session (moments log) s.0.listens.on (over-on a.session (moments log) s.0.listens.on over);
           lines = dry-all a.session a.bodies a.lines.octets.octets text (moments log) s.0;
         },
         shows-served (plan_of a.session) a.session [] (moments log) s.1,
       );
+  unfailed = λ is. cc;
+  going = tt;
 }
