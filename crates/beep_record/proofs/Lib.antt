@@ -7,6 +7,8 @@ pub mod PieceLemmas
 pub mod ReachedLemmas
 pub mod ReadLemmas
 pub mod ReplayLemmas
+pub mod SizeLemmas
+pub mod TellLemmas
 pub mod RunLemmas
 pub mod StepLemmas
 pub mod WrittenLemmas

@@ -115,6 +115,13 @@ octet-went s next side octet text at room small spelled is =
     ∙ octet-run side s.role s.over s.log s.piece octet room small
     ∙ ap (λ m. Some (record s { mode = m; piece = s.piece ++ octet ∷ [] })) (sym at) ∙ ap (λ (t : State). Some t) (sym is)
 
+pub piece-went : (s next : State) (side : Side) (octets text : List ℕ) → s.mode ≡ Mode.Piece side Part.Fresh → are_octets octets ≡ true → length s.piece + length octets ≤ MAX_PIECE
+    → text ≡ octets_text octets → next ≡ with_piece s (s.piece ++ octets) → run (Some s) text ≡ Some next
+piece-went s next side octets text at are room spelled is =
+    ap (λ m. run (Some (record s { mode = m })) text) at ∙ ap (run (Some (in_piece side Part.Fresh s.role s.over s.log s.piece))) spelled
+    ∙ piece-run side s.role s.over s.log octets s.piece are room
+    ∙ ap (λ m. Some (record s { mode = m; piece = s.piece ++ octets })) (sym at) ∙ ap (λ (t : State). Some t) (sym is)
+
 pub plain-goes : {E : Type 0} (r : Result ℕ E) (s next : State) (side : Side) (octets : List ℕ) → s.mode ≡ Mode.Piece side Part.Fresh → IfOk r (λ count. count ≤ length octets)
     → IfOk r (λ count. are_plain (take count octets) ≡ true) → IfOk r (λ count. 0 < count → length s.piece + count ≤ MAX_PIECE)
     → IfOk r (λ count. next ≡ with_piece s (s.piece ++ take count octets)) → IfOk r (λ count. run (Some s) (take count octets) ≡ Some next)

@@ -80,6 +80,13 @@ impl LogEntries {
         entry_in(self.as_slice(), i)
     }
 
+    /// Drops the entries, and keeps their room.
+    pub(crate) fn clear(&mut self)
+        ensures { self.new ≡ [] }
+    {
+        self.list.clear();
+    }
+
     /// The entries, one after another.
     pub(crate) fn as_slice(&self) -> &[Entry]
         ensures { log_of result.now ≡ self.now }

@@ -1,6 +1,6 @@
 //! How an octet is written in a record, and which octets may follow in the text of one.
-ghost use Rattle.std.specs.Prelude.{◌≡◌, ◌<◌, ◌≤◌, ◌++◌, true, false, length, take, slice_index, IfSome, OnOk};
-ghost use Rattle.beep_record.specs.Record.{is_plain, hex_digit, octet_text};
+ghost use Rattle.std.specs.Prelude.{◌≡◌, ◌<◌, ◌≤◌, [], ◌∷◌, ◌++◌, true, false, length, take, slice_index, IfSome, OnOk};
+ghost use Rattle.beep_record.specs.Record.{is_plain, hex_digit, octet_text, octets_text};
 ghost use Rattle.beep_record.specs.Machine.{are_plain, is_hex, digit_of, is_hexed, is_high};
 
 use beep_octets::{NoMemory, Octets};
@@ -52,6 +52,15 @@ pub(crate) fn plain_count(octets: &[u8]) -> usize
         }
     }
     octets.len()
+}
+
+/// Whether the text of CR LF is at the front.
+#[tactic(auto, unfolding(crate::specs::Record::octet_text))]
+pub(crate) fn is_line_end(octets: &[u8]) -> bool
+    ensures text { result ≡ true → take 4 octets.now ≡ octets_text (13 ∷ 10 ∷ []) }
+    ensures within { result ≡ true → 4 ≤ length octets.now }
+{
+    matches!(octets, [b'\\', b'r', b'\\', b'n', ..])
 }
 
 /// The octet that a letter stands for, where its text is at the front.

@@ -46,7 +46,7 @@ pub fn read_record(alloc: Global, text: &[u8]) -> Result<Log, RecordError>
 }
 
 /// Whether a text may end here.
-fn may_end(mode: Mode) -> bool
+pub(crate) fn may_end(mode: Mode) -> bool
     ensures { result ≡ may_end mode }
 {
     matches!(mode, Mode::Start | Mode::Over(_))

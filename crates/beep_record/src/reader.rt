@@ -1,5 +1,5 @@
-//! The reader of records. It takes at once the octets of a piece that stand for themselves, and
-//! those of a letter, and any other octet alone.
+//! The reader of records. It takes at once the octets of a piece that stand for themselves, those
+//! of CR LF and those of a letter, and any other octet alone.
 ghost use Rattle.std.specs.Prelude.{◌≡◌, ◌+◌, ◌<◌, ◌≤◌, ◌++◌, true, length, take, None, Some, IfOk, OnOk};
 ghost use Rattle.beep_journal.specs.Log.{quiet, ended};
 ghost use Rattle.beep_record.specs.Machine.{first_step, start_step, fresh_step, slash_step, high_step, piece_step, line_step, alone_step, status_step, code_step, digits_step, are_plain, kept, with_entry, after_first, step, run, start};
@@ -10,7 +10,9 @@ ghost use Rattle.beep_record.specs.Reading.{state_of, with_piece, Steps, IsNumbe
 use crate::limits::MAX_PIECE;
 use crate::log::{Entry, LogEntries};
 use crate::mode::{Mode, Part};
-use crate::octet::{digit_of, is_hex, is_hexed, is_high, is_plain, lettered, plain_count};
+use crate::octet::{
+    digit_of, is_hex, is_hexed, is_high, is_line_end, is_plain, lettered, plain_count,
+};
 use beep_history::Side;
 use beep_journal::Role;
 use beep_octets::{NoMemory, Octets};
@@ -297,14 +299,19 @@ impl Reader {
         Ok(count)
     }
 
-    /// Takes octets of a piece where none of them has begun: one that a letter stands for, or those
-    /// at the front that stand for themselves.
-    fn fresh_front(&mut self, side: Side, octets: &[u8]) -> Result<usize, NoMemory>
+    /// Takes octets of a piece where none of them has begun: CR LF, one that a letter stands for,
+    /// or those at the front that stand for themselves.
+    fn fresh_part(&mut self, side: Side, octets: &[u8]) -> Result<usize, NoMemory>
         requires { self.old.mode ≡ Mode.Piece side Part.Fresh }
         ensures within { IfOk result (λ count. count ≤ length octets.now) }
         ensures went { IfOk result (λ count. run (Some (state_of self.old)) (take count octets.now)
             ≡ Some (state_of self.new)) }
+        ensures mode { OnOk result (self.new.mode ≡ self.old.mode) }
     {
+        if self.piece.len() < MAX_PIECE - 1 && is_line_end(octets) {
+            self.piece.extend(b"\r\n")?;
+            return Ok(4);
+        }
         if self.piece.len() < MAX_PIECE {
             if let Some(octet) = lettered(octets) {
                 self.piece.extend(&[octet])?;
@@ -312,6 +319,24 @@ impl Reader {
             }
         }
         self.plain(octets)
+    }
+
+    /// Takes octets of a piece where none of them has begun, as long as some go on so.
+    fn fresh_front(&mut self, side: Side, octets: &[u8]) -> Result<usize, NoMemory>
+        requires { self.old.mode ≡ Mode.Piece side Part.Fresh }
+        ensures within { IfOk result (λ count. count ≤ length octets.now) }
+        ensures went { IfOk result (λ count. run (Some (state_of self.old)) (take count octets.now)
+            ≡ Some (state_of self.new)) }
+    {
+        let mut at = 0;
+        while at < octets.len() {
+            let count = self.fresh_part(side, &octets[at..])?;
+            if count == 0 {
+                return Ok(at);
+            }
+            at += count;
+        }
+        Ok(at)
     }
 
     /// Takes octets of a piece from the front, none anywhere else.

@@ -38,7 +38,7 @@ pub fn replay(alloc: Global, log: &Log, out: &mut Octets) -> Result<Verdict, NoM
 
 impl Replayer {
     /// Before any octet.
-    fn new(alloc: Global) -> Result<Replayer, NoMemory>
+    pub(crate) fn new(alloc: Global) -> Result<Replayer, NoMemory>
         ensures { IfOk result (λ r. (octets : List ℕ) → Follows r [] octets octets) }
     {
         Ok(Replayer {
@@ -50,7 +50,7 @@ impl Replayer {
     }
 
     /// Takes an entry of the log.
-    fn entry(&mut self, entry: &Entry, out: &mut Octets) -> Result<(), NoMemory>
+    pub(crate) fn entry(&mut self, entry: &Entry, out: &mut Octets) -> Result<(), NoMemory>
         requires follows { HasLog self.old out.old.octets }
         ensures ok { (log : List LogEntry) (old : List ℕ)
             → Follows self.old (flat log) old out.old.octets
@@ -137,7 +137,7 @@ impl Replayer {
     }
 
     /// Ends the report.
-    fn end(&self, out: &mut Octets) -> Result<Verdict, NoMemory>
+    pub(crate) fn end(&self, out: &mut Octets) -> Result<Verdict, NoMemory>
         ensures value { (log : List Moment) (old : List ℕ)
             (follows : Follows self.now log old out.old.octets)
             → length log < 2 ^ 128

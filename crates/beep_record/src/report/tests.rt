@@ -4,6 +4,7 @@
 
 use super::*;
 use crate::read::read_record;
+use crate::text::replay_text;
 use beep_frame::Rule;
 use std::test::Fail;
 
@@ -18,7 +19,8 @@ END\\r\\n\n";
 static OPENED: &[u8] =
     b"> RPY 0 0 . 0 52\n< RPY 0 0 . 0 52\n< MSG 0 1 . 52 89\n> RPY 0 1 . 52 63\n";
 
-/// What the opening and these lines show, where the report has these lines after the opening's.
+/// What the opening and these lines show, where the report of their log, and that of their text, has
+/// these lines after the opening's.
 fn shows(alloc: Global, lines: &[u8], after: &[u8]) -> Result<Option<Verdict>, NoMemory> {
     let mut text = Octets::new(alloc);
     text.extend(OPENING)?;
@@ -31,7 +33,11 @@ fn shows(alloc: Global, lines: &[u8], after: &[u8]) -> Result<Option<Verdict>, N
     };
     let mut out = Octets::new(alloc);
     let verdict = replay(alloc, &log, &mut out)?;
-    if out.as_slice() == report.as_slice() {
+    let Ok((told, whole)) = replay_text(alloc, text.as_slice()) else {
+        return Ok(None);
+    };
+    let same = told == verdict && whole.as_slice() == report.as_slice();
+    if same && out.as_slice() == report.as_slice() {
         Ok(Some(verdict))
     } else {
         Ok(None)

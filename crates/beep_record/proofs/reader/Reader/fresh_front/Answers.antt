@@ -1,20 +1,22 @@
-use Rattle.std.proofs.Common.{◌<◌, ap, arith, length, take}
-use Rattle.beep_record.specs.declared.limits.TheConstants.{MAX_PIECE}
-use Rattle.beep_record.specs.Reading.{state_of, with_piece}
-use Rattle.beep_record.proofs.RunLemmas.{plain-goes, octet-went}
+use Rattle.std.proofs.Common.{◌∙◌, ap, sym, take, drop, Some, arith, length-take, length-drop}
+use Rattle.std.proofs.lemmas.List.{take_rest}
+use Rattle.beep_record.specs.Machine.{run}
+use Rattle.beep_record.specs.Reading.{state_of}
+use Rattle.beep_record.proofs.OctetLemmas.{more_text}
+use Rattle.beep_record.proofs.RunLemmas.{run-append}
 use Rattle.beep_record.proofs.reader.Reader.fresh_front.Goals as goal
 
-pub returns-clause-went : goal.returns-clause-went
-returns-clause-went c =
-    plain-goes c.plain.result (state_of c.args.self.now) (state_of c.plain.new.self) c.args.side c.args.octets.now c.requires
-    c.plain.ensures.within c.plain.ensures.plain c.plain.ensures.room c.plain.ensures.kept
-
-pub returns-in-Some-clause-went : goal.returns-in-Some-clause-went
-returns-in-Some-clause-went c =
-    let piece = c.args.self.now.piece.octets in
-    let octet = c.in-Some.octet in
-    let room : length piece < MAX_PIECE = omega (arith, c.len.ensures) in
-    let small : octet < 256 = omega arith in
-    let new = state_of (record c.args.self.now { piece = c.extend.new.self }) in
-    octet-went (state_of c.args.self.now) new c.args.side octet (take 2 c.args.octets.now) c.requires room small c.in-Some.ensures.text
-    (ap (with_piece (state_of c.args.self.now)) c.in_ok-extend.ensures.appended)
+pub loop-at-preserved : goal.loop-at-preserved
+loop-at-preserved c =
+    let octets = c.args.octets.now in
+    let at = c.loop-at.at in
+    let count = c.in_ok-count.count in
+    let old = state_of c.args.self.now in
+    let mid = state_of c.loop-at.self in
+    let goes = ap (λ x. run (Some mid) (take count x)) (sym (take_rest octets at)) ∙ c.in_ok-count.ensures.went in
+    record {
+      within = grind (arith, length-take, length-drop, c.in_ok-count.ensures.within);
+      mode = c.in_ok-count.ensures.mode ∙ c.loop-at.invariant.mode;
+      went = ap (run (Some old)) (sym (more_text octets at count c.loop-at.invariant.within)) ∙ run-append (Some old) (take at octets) (take count (drop at octets))
+          ∙ ap (λ s. run s (take count (drop at octets))) c.loop-at.invariant.went ∙ goes;
+    }
