@@ -68,6 +68,7 @@ impl<'w, W: Wires, K: Known> Recorder<'w, W, K> {
     }
 
     ghost use Rattle.beep_wires.specs.Log.{Entry as LinkEntry};
+    ghost use Rattle.beep_record.specs.Written.{Writes};
     ghost use Rattle.beep_recorder.specs.Said.{log_said};
     ghost use Rattle.beep_recorder.specs.Kept.{Records, RecordsKnown};
 
@@ -105,8 +106,12 @@ impl<'w, W: Wires, K: Known> Recorder<'w, W, K> {
         wires
     }
 
-    /// Appends the record of the link's log. Where an entry found no room there is none.
+    /// Appends the record of the log that was kept, which is the link's. Where an entry found no
+    /// room there is none.
     pub fn put_record(&self, out: &mut Octets) -> Result<(), NoMemory>
+        ensures kept { OnOk result (Writes self.now.log.role self.now.log.entries
+            out.old.octets out.new.octets) }
+        ensures unread { self.now.link ≡ None → OnOk result (self.now.log.entries ≡ []) }
         ensures appended { OnOk result (Records (W.state self.now.wires.now) self.now.link
             self.now.log.role out.old.octets out.new.octets) }
         ensures known { OnOk result (RecordsKnown K.known (W.state self.now.wires.now)
