@@ -1,13 +1,11 @@
 -- Of the side that is read a session knows each octet, up to a fault or a release.
 use Rattle.std.proofs.Common.{◌≡◌, ◌⊎◌, inl, inr, ℕ, ◌+◌, ◌<◌, ◌≤◌, Bool, true, false, not, ◌&&◌, ◌||◌, List, [], ◌∷◌, ◌++◌, length, length-append, Option, None, Some, refl, sym, ap, ◌∙◌, subst, arith}
-use Rattle.std.specs.Option.{is_none}
 use Rattle.beep_frame.specs.declared.head.Head.{Head}
 use Rattle.beep_frame.specs.declared.seq.Seq.{Seq}
 use Rattle.beep_frame.specs.declared.rule.Rule.{Rule}
 use Rattle.beep_frame.specs.Frame.{framed, seq_frame}
 use Rattle.beep_frame.specs.Spelling.{spelling}
 use Rattle.beep_history.specs.declared.journal.Side.{Side}
-use Rattle.beep_history.specs.Journal.{Item, began, passed, told}
 use Rattle.beep_journal.specs.Log.{Moment, got, put, none, over, got_all, put_all}
 use Rattle.beep_journal.specs.Life.{is_released}
 use Rattle.beep_journal.specs.Broken.{none_tunes, broken_head, broken_seq, broken_content}

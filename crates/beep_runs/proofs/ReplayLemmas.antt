@@ -1,5 +1,5 @@
 -- The log of a link is replayed to what it shows.
-use Rattle.std.proofs.Common.{◌≡◌, ◌⊎◌, inl, inr, ℕ, ◌+◌, ◌<◌, ◌≤◌, true, List, [], ◌∷◌, ◌++◌, length, Option, None, Some, refl, sym, ap, ◌∙◌, subst, arith}
+use Rattle.std.proofs.Common.{◌≡◌, inl, inr, ℕ, List, [], ◌∷◌, Option, None, Some, refl, sym, ap, ◌∙◌, subst, arith}
 use Rattle.beep_frame.specs.declared.rule.Rule.{Rule}
 use Rattle.beep_frame.specs.Modulo.{modulo_2_64}
 use Rattle.beep_history.specs.declared.journal.Side.{Side}
@@ -16,7 +16,7 @@ use Rattle.beep_logged.specs.Logged.{IsSound}
 use Rattle.beep_link.specs.declared.ended.Ended.{Ended}
 use Rattle.beep_link.specs.Causes.{octets_read}
 use Rattle.beep_steps.specs.Logs.{moments, IsLawfulOn, Shows, ShowsFault, StopsInRead}
-use Rattle.beep_runs.specs.Replayed.{IsUnwritten, IsOfLastRead, IsFineBefore, IsReplayedTo}
+use Rattle.beep_runs.specs.Replayed.{IsUnwritten, IsFineBefore, IsReplayedTo}
 use Rattle.beep_runs.proofs.GotLemmas.{gots, gots-got_all, gots-put_all, in-read, knows}
 
 pub moments-flat : (log : List Entry) → moments log ≡ flat (log_said log)

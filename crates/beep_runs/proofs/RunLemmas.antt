@@ -1,16 +1,17 @@
 -- What became of a link that was asked for, used and shut.
-use Rattle.std.proofs.Common.{◌≡◌, ◌≢◌, ◌⊎◌, inl, inr, ℕ, ◌+◌, ◌<◌, ◌≤◌, false, List, Option, None, Some, refl, sym, ap, ◌∙◌, subst, arith}
+use Rattle.std.proofs.Common.{◌≡◌, ◌≢◌, ◌⊎◌, inl, inr, ℕ, ◌+◌, false, List, Option, None, Some, sym, ap, ◌∙◌, subst, arith}
 use Rattle.beep_wires.specs.Links.{Link, Counts, IsFresh, SameBeside}
 use Rattle.beep_journal.specs.declared.role.Role.{Role}
 use Rattle.beep_lawful.specs.declared.terms.Terms.{Terms}
 use Rattle.beep_settings.specs.declared.settings.Settings.{Settings}
 use Rattle.beep_wires.specs.Log.{Entry}
 use Rattle.beep_link.specs.declared.ended.Ended.{Ended}
-use Rattle.beep_link.specs.Causes.{IsCaused, Keeps, Look, Seen, WhereTold}
+use Rattle.beep_link.specs.Causes.{IsCaused, Keeps, Seen, WhereTold}
 use Rattle.beep_steps.specs.Ends.{reads_of}
 use Rattle.beep_steps.specs.Logs.{IsLawfulOn, Shows, terms_by}
-use Rattle.beep_recorder.specs.Kept.{Recording, RecordsKnown, RecordsLink}
-use Rattle.beep_runs.specs.Runs.{IsRecorded, Ran}
+use Rattle.beep_steps.specs.Sending.{sender_plan, SendsAll}
+use Rattle.beep_recorder.specs.Kept.{Recording, RecordsKnown}
+use Rattle.beep_runs.specs.Runs.{IsRecorded, Ran, SentAll}
 
 -- what a log shows of any end it shows of want of memory
 starved : (terms : Terms) (cause : Ended) (log : List Entry) → Shows terms cause log → Shows terms Ended.NoMemory log
@@ -65,6 +66,14 @@ module _ (role : Role) (settings : Settings) (cause : Ended) (before given used 
         (let more : after.counts.given ≡ before.counts.given + 1 = ap (λ (c : Counts). c.given) counts ∙ keeps.given ∙ one in omega (arith, more));
     none = none_of;
   }
+
+-- what was sent by the end of the session was sent by the end of the run
+pub sent_all : (settings : Settings) (lines : List (List ℕ)) (cause result : Ended) (before used after : Seen) (link : ℕ) → link ≡ before.counts.given → after.state link ≡ record (used.state link) { is_open = false }
+    → (cause ≡ Ended.Released → WhereTold (SendsAll (sender_plan settings lines)) (used.state link).log) → (result ≡ cause) ⊎ (result ≡ Ended.NoMemory) → SentAll settings lines result before after
+sent_all settings lines cause result before used after link is shut sent (inl same) released =
+    subst (λ (n : ℕ). WhereTold (SendsAll (sender_plan settings lines)) (after.state n).log) is
+    (subst (λ (l : Link). WhereTold (SendsAll (sender_plan settings lines)) l.log) (sym shut) (sent (sym same ∙ released)))
+sent_all settings lines cause result before used after link is shut sent (inr short) released = absurd (let h : Ended.NoMemory ≡ Ended.Released = sym short ∙ released in cc)
 
 -- what holds of links as a recorder has them holds of the links that were lent to it
 pub moved : {A : Type 0} (P : A → A → Type 0) (before before2 after after2 : A) → before2 ≡ before → after ≡ after2 → P before2 after2 → P before after

@@ -5,7 +5,7 @@ ghost use Rattle.beep_link.specs.declared.ended.Ended.{Ended as EndedValue};
 ghost use Rattle.beep_wires.specs.Links.{accept, dial};
 ghost use Rattle.beep_steps.specs.Ends.{AreFit};
 ghost use Rattle.beep_recorder.specs.Kept.{Recording, RecordsKnown};
-ghost use Rattle.beep_runs.specs.Runs.{AsksThis, IsRecorded, NotGiven, Ran, seen_of};
+ghost use Rattle.beep_runs.specs.Runs.{AsksThis, IsRecorded, NotGiven, Ran, seen_of, SentAll};
 
 use beep_ends::{Ended, listen_end, send_end};
 use beep_octets::{NoMemory, Octets};
@@ -32,6 +32,11 @@ pub fn send_recorded<W: Wires>(
         (W.asked wires.old) (W.lent wires.old))
         (seen_of (W.state wires.new) (W.counts wires.new)
         (W.asked wires.new) (W.lent wires.new))) }
+    ensures sent { IfOk result (λ ended. SentAll settings.now lines.now ended
+        (seen_of (W.state wires.old) (W.counts wires.old)
+        (W.asked wires.old) (W.lent wires.old))
+        (seen_of (W.state wires.new) (W.counts wires.new)
+        (W.asked wires.new) (W.lent wires.new))) }
     ensures recorded { IfOk result (λ ended. IsRecorded RoleValue.Initiator ended
         (seen_of (W.state wires.old) (W.counts wires.old)
         (W.asked wires.old) (W.lent wires.old))
@@ -43,6 +48,7 @@ pub fn send_recorded<W: Wires>(
         (W.asked wires.old) (W.lent wires.old))
         (seen_of (W.state wires.new) (W.counts wires.new)
         (W.asked wires.new) (W.lent wires.new))) }
+    ensures same_out { IfErr result (λ ended. out.new ≡ out.old) }
     ensures asks { (host : List ℕ) × (chars host ≡ settings.now.host)
         × AsksThis (dial host settings.now.port)
         (seen_of (W.state wires.old) (W.counts wires.old)
@@ -70,6 +76,11 @@ fn send_over<W: Wires, K: Known>(
         (W.asked wires.old) (W.lent wires.old))
         (seen_of (W.state wires.new) (W.counts wires.new)
         (W.asked wires.new) (W.lent wires.new))) }
+    ensures sent { IfOk result (λ ended. SentAll settings.now lines.now ended
+        (seen_of (W.state wires.old) (W.counts wires.old)
+        (W.asked wires.old) (W.lent wires.old))
+        (seen_of (W.state wires.new) (W.counts wires.new)
+        (W.asked wires.new) (W.lent wires.new))) }
     ensures recorded { IfOk result (λ ended. IsRecorded RoleValue.Initiator ended
         (seen_of (W.state wires.old) (W.counts wires.old)
         (W.asked wires.old) (W.lent wires.old))
@@ -81,6 +92,7 @@ fn send_over<W: Wires, K: Known>(
         (W.asked wires.old) (W.lent wires.old))
         (seen_of (W.state wires.new) (W.counts wires.new)
         (W.asked wires.new) (W.lent wires.new))) }
+    ensures same_out { IfErr result (λ ended. out.new ≡ out.old) }
     ensures asks { (host : List ℕ) × (chars host ≡ settings.now.host)
         × AsksThis (dial host settings.now.port)
         (seen_of (W.state wires.old) (W.counts wires.old)
@@ -115,6 +127,11 @@ fn send_through<W: Wires, K: Known>(
         (W.asked recorder.old.wires.now) (W.lent recorder.old.wires.now))
         (seen_of (W.state recorder.new.wires.now) (W.counts recorder.new.wires.now)
         (W.asked recorder.new.wires.now) (W.lent recorder.new.wires.now))) }
+    ensures sent { IfOk result (λ ended. SentAll settings.now lines.now ended
+        (seen_of (W.state recorder.old.wires.now) (W.counts recorder.old.wires.now)
+        (W.asked recorder.old.wires.now) (W.lent recorder.old.wires.now))
+        (seen_of (W.state recorder.new.wires.now) (W.counts recorder.new.wires.now)
+        (W.asked recorder.new.wires.now) (W.lent recorder.new.wires.now))) }
     ensures recorded { IfOk result (λ ended. IsRecorded RoleValue.Initiator ended
         (seen_of (W.state recorder.old.wires.now) (W.counts recorder.old.wires.now)
         (W.asked recorder.old.wires.now) (W.lent recorder.old.wires.now))
@@ -127,6 +144,7 @@ fn send_through<W: Wires, K: Known>(
         (W.asked recorder.old.wires.now) (W.lent recorder.old.wires.now))
         (seen_of (W.state recorder.new.wires.now) (W.counts recorder.new.wires.now)
         (W.asked recorder.new.wires.now) (W.lent recorder.new.wires.now))) }
+    ensures same_out { IfErr result (λ ended. out.new ≡ out.old) }
     ensures asks { (host : List ℕ) × (chars host ≡ settings.now.host)
         × AsksThis (dial host settings.now.port)
         (seen_of (W.state recorder.old.wires.now) (W.counts recorder.old.wires.now)
@@ -170,6 +188,7 @@ pub fn listen_recorded<W: Wires>(
         (W.asked wires.old) (W.lent wires.old))
         (seen_of (W.state wires.new) (W.counts wires.new)
         (W.asked wires.new) (W.lent wires.new))) }
+    ensures same_out { IfErr result (λ ended. out.new ≡ out.old) }
     ensures asks { AsksThis (accept settings.now.port)
         (seen_of (W.state wires.old) (W.counts wires.old)
         (W.asked wires.old) (W.lent wires.old))
@@ -206,6 +225,7 @@ fn listen_over<W: Wires, K: Known>(
         (W.asked wires.old) (W.lent wires.old))
         (seen_of (W.state wires.new) (W.counts wires.new)
         (W.asked wires.new) (W.lent wires.new))) }
+    ensures same_out { IfErr result (λ ended. out.new ≡ out.old) }
     ensures asks { AsksThis (accept settings.now.port)
         (seen_of (W.state wires.old) (W.counts wires.old)
         (W.asked wires.old) (W.lent wires.old))
@@ -250,6 +270,7 @@ fn listen_through<W: Wires, K: Known>(
         (W.asked recorder.old.wires.now) (W.lent recorder.old.wires.now))
         (seen_of (W.state recorder.new.wires.now) (W.counts recorder.new.wires.now)
         (W.asked recorder.new.wires.now) (W.lent recorder.new.wires.now))) }
+    ensures same_out { IfErr result (λ ended. out.new ≡ out.old) }
     ensures asks { AsksThis (accept settings.now.port)
         (seen_of (W.state recorder.old.wires.now) (W.counts recorder.old.wires.now)
         (W.asked recorder.old.wires.now) (W.lent recorder.old.wires.now))

@@ -2,7 +2,7 @@
 use Rattle.std.proofs.Common.{rules}
 use Rattle.std.specs.Result.{IfOk, IfErr}
 use Rattle.beep_journal.specs.declared.role.Role.{Role}
-use Rattle.beep_runs.specs.Runs.{IsRecorded, NotGiven, Ran, seen_of}
+use Rattle.beep_runs.specs.Runs.{IsRecorded, NotGiven, Ran, seen_of, SentAll}
 use Rattle.beep_runs.proofs.RunLemmas.{moved}
 use Rattle.beep_runs.proofs.recorded.send_over.Goals as goal
 
@@ -23,3 +23,9 @@ returns-clause-failed g c =
     let W = g.W.Wires in
     moved (λ a b. IfErr c.send_through-answer.result (λ ended. NotGiven ended (W.counts a).dials (W.counts b).dials (seen_of (W.state a) (W.counts a) (W.asked a) (W.lent a)) (seen_of (W.state b) (W.counts b) (W.asked b) (W.lent b)))) _ _ _ c.send_through-answer.new.recorder.wires.now
     c.known-recorder.ensures.same (search rules) c.send_through-answer.ensures.failed
+
+pub returns-clause-sent : goal.returns-clause-sent
+returns-clause-sent g c =
+    let W = g.W.Wires in
+    moved (λ a b. IfOk c.send_through-answer.result (λ ended. SentAll c.args.settings.now c.args.lines.now ended (seen_of (W.state a) (W.counts a) (W.asked a) (W.lent a)) (seen_of (W.state b) (W.counts b) (W.asked b) (W.lent b)))) _ _ _ c.send_through-answer.new.recorder.wires.now
+    c.known-recorder.ensures.same (search rules) c.send_through-answer.ensures.sent
