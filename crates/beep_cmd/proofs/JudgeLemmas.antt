@@ -2,7 +2,7 @@
 use Rattle.std.proofs.Common.{◌≡◌, ℕ, ◌≤◌, ◌⊎◌, List, [], ◌++◌, length, Option, Some, None, inl, inr, refl, ap, sym, ◌∙◌, arith, subst, append-nil, length-append}
 use Rattle.std.specs.declared.result.Result.{Result}
 use Rattle.std.specs.declared.result.Result.TheVariants.{Ok, Err}
-use Rattle.std.specs.Result.{IfOk}
+use Rattle.std.specs.Result.{IfOk, OnOk}
 use Rattle.std.specs.Io.KnownBytes.{Consumes}
 use Rattle.beep_history.specs.declared.journal.Side.{Side}
 use Rattle.beep_frame.specs.Modulo.{modulo_2_64}
@@ -13,7 +13,7 @@ use Rattle.beep_journal.specs.Journal.{Past, Fault, Shows}
 use Rattle.beep_journal.specs.Texts.{report}
 use Rattle.beep_journal.proofs.ShownLemmas.{one-shown}
 use Rattle.beep_record.specs.declared.verdict.Verdict.{Verdict}
-use Rattle.beep_record.specs.Verdicts.{verdict_of, verdict_on}
+use Rattle.beep_record.specs.Verdicts.{verdict_of, verdict_on, Replays, ReplaysText}
 use Rattle.beep_record.specs.Record.{Says}
 use Rattle.beep_record.proofs.LawLemmas.{one_log, no_place}
 use Rattle.beep_wires.specs.Counts.{Rose}
@@ -21,7 +21,7 @@ use Rattle.beep_wires.specs.States.{SourceState}
 use Rattle.beep_input.specs.declared.whole.TheConstants.{MAX_INPUT}
 use Rattle.beep_show.specs.Show.{NoFault, Run}
 use Rattle.beep_cmd.specs.Replay.{IsSession, IsJudgement, fine, peer_fault, own_fault, bad, IsReplayReport, judged, long, unread, Replayed, reported, cut_short, starved, IsLawful}
-use Rattle.beep_cmd.specs.Judging.{verdict_status, verdict_line, ReportsLog}
+use Rattle.beep_cmd.specs.Judging.{verdict_status, verdict_line}
 use Rattle.beep_cmd.proofs.PlaceLemmas.{place_within}
 use Rattle.beep_cmd.proofs.CompleteLemmas.{read_first, at_end}
 
@@ -54,15 +54,14 @@ module _ (octets : List ℕ) (role : Role) (log : List Entry) (within : length o
     by_fault None e v = no_fault_judged e v
     by_fault (Some fault) e v = fault_judged fault fault.side refl e v
 
-  log_judged : (status : ℕ) (old new : List ℕ) → old ≡ [] → ReportsLog log status old new → IsJudgement octets new status
-  log_judged status old new none t =
-      let r = t.replays in
-      let text_is : new ≡ report r.past ++ verdict_line t.verdict = t.text_is ∙ ap (λ x. x ++ verdict_line t.verdict) (r.text_is ∙ ap (λ x. x ++ report r.past) none) in
-      by_fault r.past r.shows t.verdict status new t.status_is text_is r.past.fault refl r.verdict_is
+  log_judged : (verdict : Verdict) (status : ℕ) (told text : List ℕ) → Replays log verdict [] told → status ≡ verdict_status verdict → text ≡ told ++ verdict_line verdict → IsJudgement octets text status
+  log_judged verdict status told text r status_is text_is =
+      by_fault r.past r.shows verdict status text status_is (text_is ∙ ap (λ x. x ++ verdict_line verdict) r.text_is) r.past.fault refl r.verdict_is
 
-pub log_reported : {E : Type 0} (result : Result ℕ E) (octets : List ℕ) (role : Role) (log : List Entry) (old new : List ℕ) → Says octets role log → old ≡ [] → IfOk result (λ status. ReportsLog log status old new) → IfOk result (λ status. length octets ≤ MAX_INPUT → IsJudgement octets new status)
-log_reported (Ok status) octets role log old new says none t = λ within. log_judged octets role log within says status old new none t
-log_reported (Err e) octets role log old new says none t = tt
+pub text_reported : {E : Type 0} (result : Result ℕ E) (octets told text : List ℕ) (verdict : Verdict) → ReplaysText octets verdict told → IfOk result (λ status. status ≡ verdict_status verdict)
+    → OnOk result (text ≡ told ++ verdict_line verdict) → IfOk result (λ status. length octets ≤ MAX_INPUT → IsJudgement octets text status)
+text_reported (Ok status) octets told text verdict t status_is text_is = λ within. log_judged octets t.role t.log within t.says verdict status told text t.replays status_is text_is
+text_reported (Err e) octets told text verdict t status_is text_is = tt
 
 -- ---- when all went well
 

@@ -7,4 +7,5 @@ mod ServingLemmas
 mod EndsLemmas
 mod StatusLemmas
 mod PairLemmas
+mod ListenLemmas
 mod RecordedLemmas

@@ -1,5 +1,5 @@
 -- No place of a fault is beyond the octets of the record that tells it, so that a word of 64 bits holds it.
-use Rattle.std.proofs.Common.{◌≡◌, ℕ, ◌+◌, ◌≤◌, ◌==◌, Bool, true, false, List, [], ◌∷◌, ◌++◌, length, codes, Option, Some, None, inl, inr, ap, sym, arith, subst, length-append}
+use Rattle.std.proofs.Common.{◌≡◌, ℕ, ◌+◌, ◌≤◌, Bool, true, false, List, [], ◌∷◌, ◌++◌, length, Option, Some, None, inl, inr, ap, sym, arith, subst, length-append}
 use Rattle.beep_frame.specs.declared.head.Head.{Head}
 use Rattle.beep_frame.specs.declared.seq.Seq.{Seq}
 use Rattle.beep_frame.specs.declared.rule.Rule.{Rule}
@@ -8,11 +8,11 @@ use Rattle.beep_frame.specs.Spelling.{spelling}
 use Rattle.beep_history.specs.declared.journal.Side.{Side}
 use Rattle.beep_history.specs.Journal.{Item, began, passed, told}
 use Rattle.beep_journal.specs.declared.role.Role.{Role}
-use Rattle.beep_journal.specs.Log.{Moment, got, put, none, over, got_all, put_all, Entry, read, wrote, quiet, ended, flat}
+use Rattle.beep_journal.specs.Log.{Moment, got, put, none, over, Entry, flat}
 use Rattle.beep_journal.specs.Broken.{Tuning, none_tunes, broken_head, broken_seq, broken_content}
 use Rattle.beep_journal.specs.Journal.{spelled, Fault, Past, no_past, with_rest, fault_at, fault_of, begins, seq_ends, TakesOctet, TakesWhere, Takes, Shows}
-use Rattle.beep_record.specs.Record.{is_plain, octet_text, octets_text, entry_text, log_text, first_line, status_text, Says}
-use Rattle.beep_record.proofs.OctetLemmas.{by_test}
+use Rattle.beep_record.specs.Record.{Says}
+use Rattle.beep_record.proofs.SizeLemmas.{said_le}
 
 -- ---- places within the octets of a side
 
@@ -105,40 +105,6 @@ shown_short : (tunes : Tuning) (log : List Moment) (past : Past) → Shows tunes
 shown_short tunes [] past e = subst (IsShort 0) (sym e) none_short
 shown_short tunes (moment ∷ log) past s =
     subst (λ k. IsShort k past) (omega arith) (moment_short (length log) s.0 (shown_short tunes log s.0 s.1) tunes moment past s.2)
-
--- ---- the octets of a log within those of its record
-
-some_text : (octet : ℕ) → 1 ≤ length (octet_text octet)
-unfolding octet_text
-some_text octet =
-    by_test (λ (t : List ℕ). 1 ≤ length t) (is_plain octet) (λ e. omega arith) (λ e. by_test (λ (t : List ℕ). 1 ≤ length t) (octet == 13) (λ e. omega arith) (λ e. by_test (λ (t : List ℕ). 1 ≤ length t) (octet == 10) (λ e. omega arith) (λ e. by_test (λ (t : List ℕ). 1 ≤ length t) (octet == 92) (λ e. omega arith) (λ e. omega arith))))
-
-octets_le : (octets : List ℕ) → length octets ≤ length (octets_text octets)
-octets_le [] = omega arith
-octets_le (octet ∷ octets) = omega (arith, some_text octet, octets_le octets, length-append (octet_text octet) (octets_text octets))
-
-length-got_all : (octets : List ℕ) (log : List Moment) → length (got_all octets log) ≡ length octets + length log
-length-got_all [] log = omega arith
-length-got_all (octet ∷ octets) log = omega (arith, length-got_all octets (got octet ∷ log))
-
-length-put_all : (octets : List ℕ) (log : List Moment) → length (put_all octets log) ≡ length octets + length log
-length-put_all [] log = omega arith
-length-put_all (octet ∷ octets) log = omega (arith, length-put_all octets (put octet ∷ log))
-
--- an entry has no more moments than its line has octets
-line_le : (mark octets before : List ℕ) → length before + length octets + 1 ≤ length (before ++ (mark ++ octets_text octets ++ 10 ∷ []))
-line_le mark octets before = omega (arith, octets_le octets, length-append before (mark ++ octets_text octets ++ 10 ∷ []), length-append (mark ++ octets_text octets) (10 ∷ []), length-append mark (octets_text octets))
-
-flat_le : (log : List Entry) → length (flat log) ≤ length (log_text log)
-flat_le [] = omega arith
-flat_le (read octets ∷ log) = omega (arith, flat_le log, length-got_all octets (flat log), line_le (codes "R ") octets (log_text log), length-append (log_text log) (entry_text (read octets)))
-flat_le (wrote octets ∷ log) = omega (arith, flat_le log, length-put_all octets (flat log), line_le (codes "W ") octets (log_text log), length-append (log_text log) (entry_text (wrote octets)))
-flat_le (quiet ∷ log) = omega (arith, flat_le log, length-append (log_text log) (codes "Q\n"))
-flat_le (ended ∷ log) = omega (arith, flat_le log, length-append (log_text log) (codes "E\n"))
-
-said_le : (text : List ℕ) (role : Role) (log : List Entry) → Says text role log → length (flat log) ≤ length text
-said_le text role log s =
-    omega (arith, flat_le log, ap length s.text_is, length-append (first_line role ++ log_text log) (status_text s.status), length-append (first_line role) (log_text log))
 
 -- the place of a fault is within the record
 pub place_within : (text : List ℕ) (role : Role) (log : List Entry) (past : Past) (fault : Fault) → Says text role log → Shows none_tunes (flat log) past → past.fault ≡ Some fault → fault.place ≤ length text

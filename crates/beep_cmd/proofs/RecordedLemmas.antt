@@ -13,16 +13,17 @@ use Rattle.beep_settings.specs.declared.settings.Settings.{Settings}
 use Rattle.beep_link.specs.declared.ended.Ended.{Ended}
 use Rattle.beep_link.specs.Causes.{Seen, WhereTold}
 use Rattle.beep_steps.specs.Logs.{IsLawfulOn, terms_by}
+use Rattle.beep_steps.specs.Sending.{sender_plan, SendsAll}
 use Rattle.beep_recorder.specs.Kept.{RecordsLink}
-use Rattle.beep_runs.specs.Runs.{AsksThis, IsRecorded, NotGiven, Ran}
+use Rattle.beep_runs.specs.Runs.{AsksThis, IsRecorded, NotGiven, Ran, SentAll}
 use Rattle.beep_input.specs.Whole.{HasEnded}
 use Rattle.beep_input.specs.Lines.{AreLines}
 use Rattle.beep_show.specs.Show.{Run, run_of}
 use Rattle.beep_cmd.specs.Recorded.{IsEnding, IsRecordOf, lined, recorded}
-use Rattle.beep_cmd.specs.Recording.{EndsRecorded, ListenRecorded, record_told, record_starved, TellsRecord, TellsWhole, whole_record, no_record}
-use Rattle.beep_cmd.specs.Ends.{AcceptsAtMost, asking, AsksOnly, DialsOnce, ended_line, ended_status, IsAcceptOf, IsDialOf, ListenCause, Listened, listen_starved, listen_told, listen_unwritten, over, SendCause, Sent, send_starved, session, SessionCause, Tells, whole_line, line_begun, WritesLawfully}
+use Rattle.beep_cmd.specs.Recording.{EndsRecorded, ListenRecorded, SendRecorded, record_told, record_starved, TellsRecord, TellsWhole, whole_record, no_record}
+use Rattle.beep_cmd.specs.Ends.{AcceptsAtMost, asking, AsksOnly, DialsOnce, ended_line, ended_status, IsAcceptOf, IsDialOf, ListenCause, Listened, listen_starved, listen_told, listen_unwritten, over, SendCause, SendsLines, Sent, send_starved, session, SessionCause, Tells, whole_line, line_begun, WritesLawfully}
 use Rattle.beep_cmd.proofs.EndsLemmas.{sent}
-use Rattle.beep_cmd.proofs.ServingLemmas.{asks_once, each_none, each_of_it, session_cause}
+use Rattle.beep_cmd.proofs.ServingLemmas.{asks_once, each_none, each_of_it, each_one, session_cause}
 
 -- ---- a record and its status
 
@@ -134,10 +135,10 @@ record_is role cause before after old new empty r some = subst (λ (x : List ℕ
 
 pub sent_recorded : (settings : Settings) (before after : Seen) (result : ℕ) (run : Run) (octets : List ℕ) → Consumes run.source.left run.source_after.left octets → settings.recording ≡ true
     → HasEnded run.source_after → (lines : List (List ℕ)) → AreLines lines octets
-    → EndsRecorded (λ cause. SendCause cause settings before after) Role.Initiator before after result run.sink run.sink_after → Sent settings before after result run
+    → SendRecorded settings lines before after result run.sink run.sink_after → Sent settings before after result run
 sent_recorded settings before after result run octets consumed recording ended lines are (record_told cause n m c text ending tells) =
     sent settings before after run octets consumed (ended_status cause) text result
-    (over ended lines are cause n c refl (subst (λ b. IsEnding b Role.Initiator before after (ended_status cause) (ended_line cause) text) (sym recording) ending)) tells
+    (over ended lines are cause n c.0 c.1 refl (subst (λ b. IsEnding b Role.Initiator before after (ended_status cause) (ended_line cause) text) (sym recording) ending)) tells
 sent_recorded settings before after result run octets consumed recording ended lines are (record_starved is none) =
     send_starved is (record { octets = octets; text = []; consumed = consumed; appended = none; holds = refl })
 
@@ -150,6 +151,15 @@ listened_recorded settings before after result source sink sink_after (record_st
 -- the causes of a run over one link
 pub send_caused : (settings : Settings) (cause : Ended) (before after : Seen) → Ran Role.Initiator settings cause before after → SendCause cause settings before after
 send_caused settings cause before after r = session (cause_of Role.Initiator settings cause before after r) (λ e. r.given)
+
+-- what was sent over the one link was sent over each
+pub send_sends : (settings : Settings) (lines : List (List ℕ)) (cause : Ended) (before after : Seen) → after.counts.given ≡ before.counts.given + 1 → SentAll settings lines cause before after → SendsLines cause settings lines before after
+send_sends settings lines cause before after one sent released =
+    each_one (λ link. WhereTold (SendsAll (sender_plan settings lines)) link.log) before after before.counts.given refl one (sent released)
+
+-- no link was given, so that none was released
+pub unlinked_sends : (settings : Settings) (lines : List (List ℕ)) (before after : Seen) → SendsLines Ended.WireFault settings lines before after
+unlinked_sends settings lines before after e = absurd (let h : Ended.WireFault ≡ Ended.Released = e in cc)
 
 pub listen_caused : (settings : Settings) (cause : Ended) (before after : Seen) → settings.sessions ≡ 1 → Ran Role.Listener settings cause before after → ListenCause cause settings before after
 listen_caused settings cause before after one r =

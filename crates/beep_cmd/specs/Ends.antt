@@ -13,6 +13,7 @@ use Rattle.beep_link.specs.declared.ended.Ended.{Ended}
 use Rattle.beep_link.specs.Causes.{HasRead, IsQuiet, Seen, WhereTold}
 use Rattle.beep_journal.specs.declared.role.Role.{Role}
 use Rattle.beep_steps.specs.Logs.{IsLawfulOn, Shows, terms_by}
+use Rattle.beep_steps.specs.Sending.{sender_plan, SendsAll}
 use Rattle.beep_settings.specs.declared.settings.Settings.{Settings}
 use Rattle.beep_input.specs.Whole.{HasEnded}
 use Rattle.beep_input.specs.Lines.{AreLines, IsBad}
@@ -109,6 +110,12 @@ SendCause cause settings before after =
     RunCause (Rose before.counts.dials after.counts.dials) 1 cause Role.Initiator settings before
     after
 
+-- a run of `send` that ended with a release sent all of these lines: the log of its link shows each,
+-- once and in order, where it is told
+abbrev pub SendsLines : Ended → Settings → List (List ℕ) → Seen → Seen → Type 0
+SendsLines cause settings lines before after = cause ≡ Ended.Released
+    → EachOf before after (λ link. WhereTold (SendsAll (sender_plan settings lines)) link.log)
+
 -- as many links were accepted as the settings say, or an accept failed
 abbrev pub ListenCause : Ended → Settings → Seen → Seen → Type 0
 ListenCause cause settings before after =
@@ -144,13 +151,13 @@ AcceptsAtMost settings before after =
 -- ---- `send`
 
 -- a report of `send`, its status and its cause: its lines were those of the input, and its session
--- ended, with the last line or the record that is due; or a line or a read stopped it, and no link
--- was asked for
+-- ended, with the last line or the record that is due, and after all lines where it was released;
+-- or a line or a read stopped it, and no link was asked for
 pub data IsSendReport (settings : Settings) (old new : SourceState) (before after : Seen)
     (octets text : List ℕ) (status : ℕ) : Type 0 where
   over : HasEnded new → (lines : List (List ℕ)) → AreLines lines octets → (cause : Ended)
       → cause ≢ Ended.WriteFault → SendCause cause settings before after
-      → status ≡ ended_status cause
+      → SendsLines cause settings lines before after → status ≡ ended_status cause
       → IsEnding settings.recording Role.Initiator before after status (ended_line cause) text
       → IsSendReport settings old new before after octets text status
   bad_input : (number : ℕ) → IsBad octets number new → status ≡ 2 → text ≡ bad_line number

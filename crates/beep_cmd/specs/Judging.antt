@@ -1,10 +1,8 @@
 -- The last line and the status of each verdict, and what is told of an input.
 -- No contract of a public call cites it.
-use Rattle.std.specs.Prelude.{◌≡◌, ℕ, List, [], ◌++◌}
+use Rattle.std.specs.Prelude.{ℕ, List, []}
 use Rattle.std.specs.Io.KnownBytes.{Consumes}
-use Rattle.beep_journal.specs.Log.{Entry}
 use Rattle.beep_record.specs.declared.verdict.Verdict.{Verdict}
-use Rattle.beep_record.specs.Verdicts.{Replays}
 use Rattle.beep_wires.specs.States.{SourceState}
 use Rattle.beep_show.specs.Texts.{broken_line, written_line}
 use Rattle.beep_cmd.specs.Replay.{IsReplayReport}
@@ -20,14 +18,6 @@ abbrev pub verdict_line : Verdict → List ℕ
 verdict_line Verdict.Fine = []
 verdict_line (Verdict.Broken rule place) = broken_line rule place
 verdict_line (Verdict.Written rule place) = written_line rule place
-
--- the octets gained are the report of a log and the line of its verdict
-pub record ReportsLog (log : List Entry) (status : ℕ) (old new : List ℕ) : Type 0 where
-  pub verdict : Verdict
-  pub between : List ℕ
-  pub replays : Replays log verdict old between
-  pub status_is : status ≡ verdict_status verdict
-  pub text_is : new ≡ between ++ verdict_line verdict
 
 -- the text is a report of what was read, with this status
 pub record ReportsInput (status : ℕ) (text : List ℕ) (old new : SourceState) : Type 0 where

@@ -3,6 +3,7 @@ pub mod Replay
 pub mod Recorded
 pub mod Ends
 pub mod Recording
+pub mod Listening
 pub mod Pair
 -- What proofs alone need: what each part told of an input.
 pub mod Judging

@@ -9,7 +9,7 @@ use Rattle.beep_link.specs.Causes.{Seen}
 use Rattle.beep_settings.specs.declared.settings.Settings.{Settings}
 use Rattle.beep_wires.specs.Links.{Link}
 use Rattle.beep_cmd.specs.Recorded.{IsEnding, IsRecordOf}
-use Rattle.beep_cmd.specs.Ends.{ended_line, ended_status, ListenCause, Tells}
+use Rattle.beep_cmd.specs.Ends.{ended_line, ended_status, ListenCause, SendCause, SendsLines, Tells}
 
 -- a run that is recorded was ended by a cause that holds, and what is due at its end was written,
 -- or begun where the write failed; or it was out of memory, and wrote nothing
@@ -44,6 +44,13 @@ TellsRecord role link (Ended.Refused code) result old new = TellsWhole role link
 TellsRecord role link (Ended.Cut left) result old new = TellsWhole role link 9 result old new
 TellsRecord role link (Ended.Idle reads) result old new = TellsWhole role link 10 result old new
 TellsRecord role link (Ended.Spent octets) result old new = TellsWhole role link 11 result old new
+
+-- what a run of `send` that is recorded writes, and that it sent these lines
+abbrev pub SendRecorded : Settings → List (List ℕ) → Seen → Seen → ℕ → SinkState → SinkState
+    → Type 0
+SendRecorded settings lines before after status old new =
+    EndsRecorded (λ cause. SendCause cause settings before after
+    × SendsLines cause settings lines before after) Role.Initiator before after status old new
 
 -- what a run of `listen` that is recorded writes
 abbrev pub ListenRecorded : Settings → Seen → Seen → ℕ → SinkState → SinkState → Type 0

@@ -1,38 +1,16 @@
 -- One session of `listen` after another, for the proofs of its run.
 -- No contract of a public call cites it.
-use Rattle.std.specs.Prelude.{◌≡◌, ℕ, ◌+◌, ◌<◌, ◌≤◌, ◌⊎◌, Bool, true, false, List, []}
+use Rattle.std.specs.Prelude.{◌≡◌, ℕ, ◌+◌, ◌<◌, ◌≤◌, ◌⊎◌, Option, List, []}
+use Rattle.std.specs.Io.KnownBytes.{Appends}
 use Rattle.beep_wires.specs.Counts.{Rose}
 use Rattle.beep_link.specs.declared.ended.Ended.{Ended}
-use Rattle.beep_link.specs.Causes.{Seen}
+use Rattle.beep_link.specs.Causes.{Seen, WhereTold}
 use Rattle.beep_settings.specs.declared.settings.Settings.{Settings}
 use Rattle.beep_input.specs.declared.lines.Unlisted.{Unlisted}
 use Rattle.beep_journal.specs.declared.role.Role.{Role}
 use Rattle.beep_show.specs.Texts.{bad_line, read_fault_line}
 use Rattle.beep_cmd.specs.Ends.{AsksOnly, IsAcceptOf, SessionCause}
-
--- the first of two ends that isn't a release
-abbrev pub first_of : Ended → Ended → Ended
-first_of Ended.Released ended = ended
-first_of (Ended.Broken rule place) ended = Ended.Broken rule place
-first_of Ended.WriteFault ended = Ended.WriteFault
-first_of Ended.WireFault ended = Ended.WireFault
-first_of Ended.NoMemory ended = Ended.NoMemory
-first_of (Ended.Refused code) ended = Ended.Refused code
-first_of (Ended.Cut left) ended = Ended.Cut left
-first_of (Ended.Idle reads) ended = Ended.Idle reads
-first_of (Ended.Spent octets) ended = Ended.Spent octets
-
--- no further link is accepted behind a session that ended so
-abbrev pub ends_run : Ended → Bool
-ends_run Ended.Released = false
-ends_run (Ended.Broken rule place) = false
-ends_run Ended.WriteFault = true
-ends_run Ended.WireFault = false
-ends_run Ended.NoMemory = true
-ends_run (Ended.Refused code) = false
-ends_run (Ended.Cut left) = false
-ends_run (Ended.Idle reads) = false
-ends_run (Ended.Spent octets) = false
+use Rattle.beep_cmd.specs.Listening.{Session, SessionsOver, text_of, WritesOf}
 
 -- the status and the last line where there are no lines to send
 abbrev pub unlisted_status : Unlisted → ℕ
@@ -62,6 +40,25 @@ pub record Served (cause : Ended) (settings : Settings) (before after : Seen) : 
 -- no link was given
 pub record NotAccepted (cause : Ended) (settings : Settings) (before after : Seen) : Type 0 where
   pub goes_on : GoesOn before after
+  pub none : after.counts.given ≡ before.counts.given
   pub failed : (cause ≡ Ended.WireFault) × Rose before.counts.accepts after.counts.accepts
       ⊎ (cause ≡ Ended.NoMemory)
   pub asks : AsksOnly (IsAcceptOf settings) 1 before.asked after.asked
+
+-- ---- what is written
+
+-- the session of the link that was accepted, which ended so, wrote its lines
+pub record WritesSession (settings : Settings) (cause : Ended) (before after : Seen)
+    (old new : Option (List ℕ)) : Type 0 where
+  pub text : List ℕ
+  pub lines : Appends old new text
+  pub writes : WhereTold (WritesOf settings (record { cause = cause; text = text }))
+      (after.state before.counts.given).log
+
+-- the sessions of a run so far, of which this holds, wrote their lines
+pub record WritesSessions (settings : Settings) (before after : Seen)
+    (P : List Session → Type 0) (old new : Option (List ℕ)) : Type 0 where
+  pub sessions : List Session
+  pub over : SessionsOver settings after.state before.counts.given sessions after.counts.given
+  pub ends : P sessions
+  pub lines : Appends old new (text_of sessions)

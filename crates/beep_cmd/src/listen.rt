@@ -1,11 +1,12 @@
 //! The command `listen`: a collector of syslog over BEEP.
-ghost use Rattle.std.specs.Prelude.{◌≡◌, ◌≤◌, ℕ, true, IfOk, IfErr};
+ghost use Rattle.std.specs.Prelude.{◌≡◌, ◌≤◌, ℕ, true, false, IfOk, IfErr, OnErr};
 ghost use Rattle.beep_journal.specs.declared.role.Role.{Role as RoleValue};
 ghost use Rattle.beep_steps.specs.Ends.{AreFit};
 ghost use Rattle.beep_link.specs.Causes.{IsWritten};
 ghost use Rattle.beep_wires.specs.States.{SourceState};
 ghost use Rattle.beep_cmd.specs.Ends.{AcceptsAtMost, ListenCause, Listened, seen_of, WritesLawfully};
-ghost use Rattle.beep_cmd.specs.Serving.{ends_run, first_of, NotAccepted, Served};
+ghost use Rattle.beep_cmd.specs.Listening.{AreTold, ends_run, EndsBy, first_of, WritesLines};
+ghost use Rattle.beep_cmd.specs.Serving.{NotAccepted, Served, WritesSession, WritesSessions};
 ghost use Rattle.beep_cmd.specs.Recording.{ListenRecorded};
 ghost use Rattle.beep_show.specs.Show.{run_of};
 
@@ -33,6 +34,17 @@ pub(crate) fn listen<O: Sink, W: Wires>(
         (seen_of (W.state wires.new) (W.counts wires.new)
         (W.asked wires.new) (W.lent wires.new))
         result (run_of source source (O.state output.old) (O.state output.new)) }
+    ensures lines { settings.now.recording ≡ false → AreTold
+        (seen_of (W.state wires.old) (W.counts wires.old)
+        (W.asked wires.old) (W.lent wires.old))
+        (seen_of (W.state wires.new) (W.counts wires.new)
+        (W.asked wires.new) (W.lent wires.new))
+        → WritesLines settings.now
+        (seen_of (W.state wires.old) (W.counts wires.old)
+        (W.asked wires.old) (W.lent wires.old))
+        (seen_of (W.state wires.new) (W.counts wires.new)
+        (W.asked wires.new) (W.lent wires.new))
+        result (O.state output.old) (O.state output.new) }
     ensures lawful { WritesLawfully RoleValue.Listener settings.now
         (seen_of (W.state wires.old) (W.counts wires.old)
         (W.asked wires.old) (W.lent wires.old))
@@ -74,6 +86,17 @@ fn listen_all<O: Sink, W: Wires>(
         (W.asked wires.old) (W.lent wires.old))
         (seen_of (W.state wires.new) (W.counts wires.new)
         (W.asked wires.new) (W.lent wires.new)) }
+    ensures lines { AreTold
+        (seen_of (W.state wires.old) (W.counts wires.old)
+        (W.asked wires.old) (W.lent wires.old))
+        (seen_of (W.state wires.new) (W.counts wires.new)
+        (W.asked wires.new) (W.lent wires.new))
+        → WritesSessions settings.now
+        (seen_of (W.state wires.old) (W.counts wires.old)
+        (W.asked wires.old) (W.lent wires.old))
+        (seen_of (W.state wires.new) (W.counts wires.new)
+        (W.asked wires.new) (W.lent wires.new))
+        (EndsBy result) (O.state output.old).written (O.state output.new).written }
     ensures lawful { WritesLawfully RoleValue.Listener settings.now
         (seen_of (W.state wires.old) (W.counts wires.old)
         (W.asked wires.old) (W.lent wires.old))
@@ -120,6 +143,18 @@ fn listen_once<O: Sink, W: Wires>(
         (W.asked wires.old) (W.lent wires.old))
         (seen_of (W.state wires.new) (W.counts wires.new)
         (W.asked wires.new) (W.lent wires.new))) }
+    ensures lines { IfOk result (λ ended. AreTold
+        (seen_of (W.state wires.old) (W.counts wires.old)
+        (W.asked wires.old) (W.lent wires.old))
+        (seen_of (W.state wires.new) (W.counts wires.new)
+        (W.asked wires.new) (W.lent wires.new))
+        → WritesSession settings.now ended
+        (seen_of (W.state wires.old) (W.counts wires.old)
+        (W.asked wires.old) (W.lent wires.old))
+        (seen_of (W.state wires.new) (W.counts wires.new)
+        (W.asked wires.new) (W.lent wires.new))
+        (O.state output.old).written (O.state output.new).written) }
+    ensures same_output { IfErr result (λ ended. output.new ≡ output.old) }
     ensures lawful { WritesLawfully RoleValue.Listener settings.now
         (seen_of (W.state wires.old) (W.counts wires.old)
         (W.asked wires.old) (W.lent wires.old))

@@ -6,8 +6,8 @@ ghost use Rattle.beep_link.specs.declared.ended.Ended.{Ended as EndedValue};
 ghost use Rattle.beep_wires.specs.Links.{Link};
 ghost use Rattle.beep_record.specs.declared.limits.TheConstants.{MAX_STATUS};
 ghost use Rattle.beep_recorder.specs.Kept.{RecordsLink};
-ghost use Rattle.beep_cmd.specs.Ends.{AcceptsAtMost, DialsOnce, ended_status, ListenCause, seen_of, SendCause, WritesLawfully};
-ghost use Rattle.beep_cmd.specs.Recording.{EndsRecorded, ListenRecorded, TellsRecord, TellsWhole};
+ghost use Rattle.beep_cmd.specs.Ends.{AcceptsAtMost, DialsOnce, ended_status, ListenCause, seen_of, WritesLawfully};
+ghost use Rattle.beep_cmd.specs.Recording.{ListenRecorded, SendRecorded, TellsRecord, TellsWhole};
 
 use crate::closing::{finish, tell};
 use beep_ends::Ended;
@@ -31,11 +31,7 @@ pub(crate) fn record_send<O: Sink, W: Wires>(
     requires fit { AreFit settings.now }
     requires empty { last.old.octets ≡ [] }
     requires room { LAST_ROOM ≤ last.old.spare }
-    ensures told { EndsRecorded (λ cause. SendCause cause settings.now
-        (seen_of (W.state wires.old) (W.counts wires.old)
-        (W.asked wires.old) (W.lent wires.old))
-        (seen_of (W.state wires.new) (W.counts wires.new)
-        (W.asked wires.new) (W.lent wires.new))) RoleValue.Initiator
+    ensures told { SendRecorded settings.now lines.now
         (seen_of (W.state wires.old) (W.counts wires.old)
         (W.asked wires.old) (W.lent wires.old))
         (seen_of (W.state wires.new) (W.counts wires.new)

@@ -1,15 +1,15 @@
 //! The command `replay`: a recorded session, judged by the rules of both of its directions.
-ghost use Rattle.std.specs.Prelude.{◌≡◌, ◌+◌, ◌≤◌, ◌++◌, false, [], length, IfOk, OnErr};
+ghost use Rattle.std.specs.Prelude.{◌≡◌, ◌+◌, ◌≤◌, ◌++◌, false, [], length, IfOk, OnOk, OnErr};
 ghost use Rattle.beep_wires.specs.States.{SourceState, SinkState};
 ghost use Rattle.beep_input.specs.Whole.{ReadsFew};
 ghost use Rattle.beep_input.specs.declared.whole.TheConstants.{MAX_INPUT};
-ghost use Rattle.beep_cmd.specs.Judging.{ReportsLog, ReportsInput, verdict_status, verdict_line};
+ghost use Rattle.beep_cmd.specs.Judging.{ReportsInput, verdict_status, verdict_line};
 ghost use Rattle.beep_cmd.specs.Replay.{Replayed, IsJudgement};
 ghost use Rattle.beep_show.specs.Show.{run_of};
 
 use beep_input::{MAX_INPUT, Unread, read_input};
 use beep_octets::{NoMemory, Octets};
-use beep_record::{Log, RecordError, Verdict, read_record};
+use beep_record::{RecordError, Verdict, replay_text};
 use beep_show::{LAST_ROOM, append_broken, append_numbered, append_written};
 use beep_wires::{Failed, Sink, Source, write_all};
 use std::alloc::Global;
@@ -66,17 +66,20 @@ fn tell_input<I: Source>(alloc: Global, input: &mut I, out: &mut Octets) -> Resu
     }
 }
 
-/// Makes the report of a whole input. The octets are dropped once they are read as a log.
+/// Makes the report of a whole input. The octets are dropped once they are judged.
 fn tell_record(octets: Vec<u8>, out: &mut Octets) -> Result<u8, NoMemory>
     requires empty { out.old.octets ≡ [] }
     requires room { LAST_ROOM ≤ out.old.spare }
     ensures { IfOk result (λ status. length octets.items ≤ MAX_INPUT
         → IsJudgement octets.items out.new.octets status) }
 {
-    let read = read_record(out.alloc(), octets.as_slice());
+    let read = replay_text(out.alloc(), octets.as_slice());
     drop(octets);
     match read {
-        Ok(log) => tell_log(&log, out),
+        Ok((verdict, report)) => {
+            *out = report;
+            tell_verdict(verdict, out)
+        }
         Err(RecordError::BadRecord(place)) => {
             append_numbered(out, b"! bad ", place);
             Ok(2)
@@ -85,12 +88,11 @@ fn tell_record(octets: Vec<u8>, out: &mut Octets) -> Result<u8, NoMemory>
     }
 }
 
-/// Appends the report of a log, and answers its status.
-fn tell_log(log: &Log, out: &mut Octets) -> Result<u8, NoMemory>
-    ensures { IfOk result (λ status.
-        ReportsLog log.now.entries status out.old.octets out.new.octets) }
+/// Appends the last line of a verdict, and answers its status.
+fn tell_verdict(verdict: Verdict, out: &mut Octets) -> Result<u8, NoMemory>
+    ensures status { IfOk result (λ status. status ≡ verdict_status verdict) }
+    ensures appended { OnOk result (out.new.octets ≡ out.old.octets ++ verdict_line verdict) }
 {
-    let verdict = beep_record::replay(out.alloc(), log, out)?;
     out.reserve(LAST_ROOM)?;
     Ok(append_verdict(out, verdict))
 }

@@ -11,6 +11,7 @@ ghost use Rattle.beep_show.specs.Show.{Shown, Refused, IsPlain, NoFault, run_of}
 ghost use Rattle.beep_cmd.specs.Replay.{Replayed, IsLawful};
 ghost use Rattle.beep_cmd.specs.Pair.{Paired, IsRunnable};
 ghost use Rattle.beep_cmd.specs.Ends.{AcceptsAtMost, DialsOnce, Listened, seen_of, Sent, WritesLawfully};
+ghost use Rattle.beep_cmd.specs.Listening.{AreTold, WritesLines};
 ghost use Rattle.beep_cmd.specs.Recording.{ListenRecorded};
 
 use crate::listen::listen;
@@ -66,6 +67,14 @@ pub fn beep_run<I: Source, O: Sink, W: Wires>(
     ensures listen_recorded { (settings : end_settings)
         → IsListen settings (map string_bytes words.now) → settings.recording ≡ true
         → ListenRecorded settings (seen_of (W.state wires.old) (W.counts wires.old)
+        (W.asked wires.old) (W.lent wires.old)) (seen_of (W.state wires.new) (W.counts wires.new)
+        (W.asked wires.new) (W.lent wires.new)) result (O.state output.old) (O.state output.new) }
+    ensures listen_lines { (settings : end_settings)
+        → IsListen settings (map string_bytes words.now) → settings.recording ≡ false
+        → AreTold (seen_of (W.state wires.old) (W.counts wires.old)
+        (W.asked wires.old) (W.lent wires.old)) (seen_of (W.state wires.new) (W.counts wires.new)
+        (W.asked wires.new) (W.lent wires.new))
+        → WritesLines settings (seen_of (W.state wires.old) (W.counts wires.old)
         (W.asked wires.old) (W.lent wires.old)) (seen_of (W.state wires.new) (W.counts wires.new)
         (W.asked wires.new) (W.lent wires.new)) result (O.state output.old) (O.state output.new) }
     ensures paired { (settings : pair_settings) → IsPair settings (map string_bytes words.now)

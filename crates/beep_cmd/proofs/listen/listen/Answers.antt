@@ -1,4 +1,8 @@
+use Rattle.std.proofs.Common.{◌≡◌, true, false, sym, ◌∙◌}
+use Rattle.beep_link.specs.Causes.{Seen}
+use Rattle.beep_cmd.specs.Ends.{seen_of}
 use Rattle.beep_cmd.proofs.EndsLemmas.{listened}
+use Rattle.beep_cmd.proofs.ListenLemmas.{last_line, none_written}
 use Rattle.beep_cmd.proofs.RecordedLemmas.{listened_recorded}
 use Rattle.beep_cmd.proofs.listen.listen.Goals as goal
 
@@ -11,3 +15,15 @@ pub returns-then-settings-clause-listened : goal.returns-then-settings-clause-li
 returns-then-settings-clause-listened g c = λ source.
     let O = g.O.Sink in
     listened_recorded c.args.settings.now _ _ c.record_listen.result source (O.state c.args.output.now) (O.state c.record_listen.new.output) c.record_listen.ensures.told
+
+pub returns-clause-lines : goal.returns-clause-lines
+returns-clause-lines g c = λ recording told.
+    let W = g.W.Wires in
+    let O = g.O.Sink in
+    last_line c.args.settings.now _ _ c.listen_all-ended.result c.finish.result (O.state c.args.output.now) (O.state c.listen_all-ended.new.output) (O.state c.finish.new.output) c.listen_all-ended.ensures.kept (c.listen_all-ended.ensures.lines told) c.finish.ensures.told
+
+pub returns-then-settings-clause-lines : goal.returns-then-settings-clause-lines
+returns-then-settings-clause-lines g c = λ recording told. absurd (let h : true ≡ false = sym c.if-settings.true ∙ recording in cc)
+
+pub returns-in_default-clause-lines : goal.returns-in_default-clause-lines
+returns-in_default-clause-lines g c = λ recording told. none_written c.args.settings.now _ (g.O.Sink.state c.args.output.now)

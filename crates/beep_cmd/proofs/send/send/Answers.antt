@@ -18,7 +18,7 @@ returns-in-Ok-read_lines-clause-sent g c =
     let gives = c.in-Ok-read_lines.ensures.ok in
     let cause = c.send_lines-ended.result in
     sent c.args.settings.now _ _ (run_of (g.I.Source.state c.args.input.now) (g.I.Source.state c.read_lines.new.input) (g.O.Sink.state c.args.output.now) (g.O.Sink.state c.finish.new.output)) gives.octets gives.consumed (ended_status cause) (ended_line cause) c.finish.result
-    (over gives.ended c.in-Ok-read_lines.lines gives.are_lines cause c.send_lines-ended.ensures.unwritten c.send_lines-ended.ensures.caused refl (lined (inl c.if-settings.false) refl)) c.finish.ensures.told
+    (over gives.ended c.in-Ok-read_lines.lines gives.are_lines cause c.send_lines-ended.ensures.unwritten c.send_lines-ended.ensures.caused c.send_lines-ended.ensures.sent refl (lined (inl c.if-settings.false) refl)) c.finish.ensures.told
 
 pub returns-then-settings-clause-sent : goal.returns-then-settings-clause-sent
 returns-then-settings-clause-sent g c =

@@ -1,0 +1,137 @@
+-- What a run of `listen` wrote: session after session, and then its last line.
+use Rattle.std.proofs.Common.{◌≡◌, ◌⊎◌, inl, inr, ℕ, ◌+◌, ◌≤◌, ◌<◌, Bool, true, false, if◌then◌else◌, List, [], ◌∷◌, ◌++◌, Option, None, Some, refl, sym, ap, ◌∙◌, subst, arith}
+use Rattle.std.specs.Io.KnownBytes.{Appends}
+use Rattle.std.proofs.KnownBytes.{Appends-nil, Appends-trans}
+use Rattle.beep_wires.specs.Log.{Entry}
+use Rattle.beep_wires.specs.Links.{Link}
+use Rattle.beep_wires.specs.States.{SinkState}
+use Rattle.beep_journal.specs.declared.role.Role.{Role}
+use Rattle.beep_settings.specs.declared.settings.Settings.{Settings}
+use Rattle.beep_link.specs.declared.ended.Ended.{Ended}
+use Rattle.beep_link.specs.Causes.{Seen, WhereTold, WithText}
+use Rattle.beep_steps.specs.Logs.{moments, Shows, terms_by}
+use Rattle.beep_ends.specs.Listening.{is_whole, listener_plan, AreLinesOf}
+use Rattle.beep_cmd.specs.Ends.{ended_line, ended_status, EachOf, Tells, whole_line}
+use Rattle.beep_cmd.specs.Listening.{AreTold, EndsBy, ends_run, first_of, run_cause, Session, SessionsOver, text_of, WritesLines, WritesOf}
+use Rattle.beep_cmd.specs.Serving.{GoesOn, WritesSession, WritesSessions}
+
+-- ---- which logs are told
+
+pub told_before : (before mid after : Seen) → GoesOn mid after → AreTold before after → AreTold before mid
+told_before before mid after g told link least less =
+    let it = told link least (omega (arith, less, g.given)) in
+    (it.0, ap (λ (l : Link). l.log) (sym (g.same link less)) ∙ it.1)
+
+pub told_after : (before mid after : Seen) → before.counts.given ≤ mid.counts.given → AreTold before after → AreTold mid after
+told_after before mid after more told link least less = told link (omega (arith, more, least)) less
+
+-- ---- one session
+
+module _ (settings : Settings) (cause : Ended) (before used after : Seen) (link : ℕ) (is : link ≡ before.counts.given) (one : after.counts.given ≡ before.counts.given + 1)
+    (shut : after.state link ≡ record (used.state link) { is_open = false }) (old new : Option (List ℕ)) where
+  at_it : (after.state before.counts.given).log ≡ (used.state link).log
+  at_it = ap (λ (n : ℕ). (after.state n).log) (sym is) ∙ ap (λ (l : Link). l.log) shut
+
+  session_by : (log : List Entry) → (after.state before.counts.given).log ≡ Some log → Shows (terms_by Role.Listener settings) cause log
+      → WithText old new (AreLinesOf (listener_plan settings) (is_whole cause) (moments log)) → WritesSession settings cause before after old new
+  session_by log told shows text = record {
+    text = text.0;
+    lines = text.1;
+    writes = subst (WhereTold (WritesOf settings (record { cause = cause; text = text.0 }))) (sym told) (record { shows = shows; lines = text.2 });
+  }
+
+  pub session_lines : WhereTold (Shows (terms_by Role.Listener settings) cause) (used.state link).log
+      → WhereTold (λ log. WithText old new (AreLinesOf (listener_plan settings) (is_whole cause) (moments log))) (used.state link).log
+      → AreTold before after → WritesSession settings cause before after old new
+  session_lines shows text told =
+      let it = told before.counts.given (omega arith) (omega (arith, one)) in
+      let of : (used.state link).log ≡ Some it.0 = sym at_it ∙ it.1 in
+      session_by it.0 it.1 (subst (WhereTold (Shows (terms_by Role.Listener settings) cause)) of shows)
+      (subst (WhereTold (λ log. WithText old new (AreLinesOf (listener_plan settings) (is_whole cause) (moments log)))) of text)
+
+-- ---- session after session
+
+if_so : (b : Bool) (x y : Ended) → b ≡ true → x ≡ (if b then x else y)
+if_so true x y e = refl
+if_so false x y e = cc
+
+if_not : (b : Bool) (x y : Ended) → b ≡ false → y ≡ (if b then x else y)
+if_not true x y e = cc
+if_not false x y e = refl
+
+-- what was written of sessions stays so
+sessions_stay : (settings : Settings) (mid after : Seen) → GoesOn mid after → (first next : ℕ) (sessions : List Session) → next ≤ mid.counts.given → SessionsOver settings mid.state first sessions next
+    → SessionsOver settings after.state first sessions next
+sessions_stay settings mid after g first next [] within over = over
+sessions_stay settings mid after g first next (session ∷ earlier) within over = (
+  over.0,
+  over.1,
+  over.2,
+  subst (λ (l : Link). WhereTold (WritesOf settings session) l.log) (sym (g.same over.0 (omega (arith, over.1, within)))) over.3,
+  sessions_stay settings mid after g first over.0 earlier (omega (arith, over.1, within)) over.4,
+)
+
+module _ (settings : Settings) (before mid after : Seen) (first ended : Ended) (old now new : Option (List ℕ)) (goes : ends_run first ≡ false) (g : GoesOn mid after)
+    (w : WritesSessions settings before mid (λ (sessions : List Session). first ≡ run_cause sessions) old now) where
+  module _ (one : after.counts.given ≡ mid.counts.given + 1) (s : WritesSession settings ended mid after now new) where
+    more_sessions : (P : List Session → Type 0) → P (record { cause = ended; text = s.text } ∷ w.sessions) → WritesSessions settings before after P old new
+    more_sessions P p = record {
+      sessions = record { cause = ended; text = s.text } ∷ w.sessions;
+      over = (
+        mid.counts.given,
+        one,
+        subst (λ (e : Ended). ends_run e ≡ false) w.ends goes,
+        s.writes,
+        sessions_stay settings mid after g before.counts.given mid.counts.given w.sessions (omega arith) w.over,
+      );
+      ends = p;
+      lines = Appends-trans old now new (text_of w.sessions) s.text w.lines s.lines;
+    }
+
+    -- the run goes on
+    pub lines_further : (next : Ended) → next ≡ first_of first ended → ends_run ended ≡ false → WritesSessions settings before after (λ (sessions : List Session). next ≡ run_cause sessions) old new
+    lines_further next is on = more_sessions (λ (sessions : List Session). next ≡ run_cause sessions)
+        (is ∙ ap (λ (e : Ended). first_of e ended) w.ends ∙ if_not (ends_run ended) ended (first_of (run_cause w.sessions) ended) on)
+
+    -- the session ends it
+    pub lines_ended : ends_run ended ≡ true → WritesSessions settings before after (EndsBy ended) old new
+    lines_ended over = more_sessions (EndsBy ended) (inl (if_so (ends_run ended) ended (first_of (run_cause w.sessions) ended) over))
+
+  -- no link was given
+  pub lines_unlinked : after.counts.given ≡ mid.counts.given → new ≡ now → (cause : Ended) → (cause ≡ Ended.WireFault) ⊎ (cause ≡ Ended.NoMemory) → WritesSessions settings before after (EndsBy cause) old new
+  lines_unlinked none same cause why = record {
+    sessions = w.sessions;
+    over = subst (SessionsOver settings after.state before.counts.given w.sessions) (sym none)
+        (sessions_stay settings mid after g before.counts.given mid.counts.given w.sessions (omega arith) w.over);
+    ends = inr (subst (λ (e : Ended). ends_run e ≡ false) w.ends goes, why);
+    lines = subst (λ (o : Option (List ℕ)). Appends old o (text_of w.sessions)) (sym same) w.lines;
+  }
+
+-- nothing was written before the first
+pub no_lines : (settings : Settings) (before : Seen) (old : Option (List ℕ)) → WritesSessions settings before before (λ (sessions : List Session). Ended.Released ≡ run_cause sessions) old old
+no_lines settings before old = record { sessions = []; over = refl; ends = refl; lines = Appends-nil old }
+
+-- all sessions are over
+pub all_lines : (settings : Settings) (before after : Seen) (cause : Ended) (old new : Option (List ℕ)) → WritesSessions settings before after (λ (sessions : List Session). cause ≡ run_cause sessions) old new
+    → WritesSessions settings before after (EndsBy cause) old new
+all_lines settings before after cause old new w = record { sessions = w.sessions; over = w.over; ends = inl w.ends; lines = w.lines }
+
+-- ---- the last line
+
+pub last_line : (settings : Settings) (before after : Seen) (cause : Ended) (status : ℕ) (old middle new : SinkState) → old.faults ≤ middle.faults
+    → WritesSessions settings before after (EndsBy cause) old.written middle.written → Tells (ended_status cause) (ended_line cause) status middle new → WritesLines settings before after status old new
+last_line settings before after cause status old middle new kept w last =
+    record { sessions = w.sessions; over = w.over; cause = cause; ends = w.ends; middle = middle; kept = kept; lines = w.lines; last = last }
+
+-- out of memory before anything was done
+pub none_written : (settings : Settings) (before : Seen) (old : SinkState) → WritesLines settings before before 7 old old
+none_written settings before old = record {
+  sessions = [];
+  over = refl;
+  cause = Ended.NoMemory;
+  ends = inr (refl, inr refl);
+  middle = old;
+  kept = omega arith;
+  lines = Appends-nil old.written;
+  last = whole_line refl (Appends-nil old.written);
+}
