@@ -110,8 +110,8 @@ SendCause cause settings before after =
     RunCause (Rose before.counts.dials after.counts.dials) 1 cause Role.Initiator settings before
     after
 
--- a run of `send` that ended with a release sent all of these lines: the log of its link shows each,
--- once and in order, where it is told
+-- a run of `send` that ended with a release sent all of these lines: the log of its link shows
+-- each, once and in order, where it is told
 abbrev pub SendsLines : Ended → Settings → List (List ℕ) → Seen → Seen → Type 0
 SendsLines cause settings lines before after = cause ≡ Ended.Released
     → EachOf before after (λ link. WhereTold (SendsAll (sender_plan settings lines)) link.log)

@@ -180,7 +180,13 @@ fn ends_run(ended: Ended) -> bool
 {
     match ended {
         Ended::WriteFault | Ended::NoMemory => true,
-        _ => false,
+        Ended::Released
+        | Ended::Broken(..)
+        | Ended::WireFault
+        | Ended::Refused(_)
+        | Ended::Cut(_)
+        | Ended::Idle(_)
+        | Ended::Spent(_) => false,
     }
 }
 
@@ -189,6 +195,13 @@ fn first_of(first: Ended, ended: Ended) -> Ended
 {
     match first {
         Ended::Released => ended,
-        _ => first,
+        Ended::Broken(..)
+        | Ended::WriteFault
+        | Ended::WireFault
+        | Ended::NoMemory
+        | Ended::Refused(_)
+        | Ended::Cut(_)
+        | Ended::Idle(_)
+        | Ended::Spent(_) => first,
     }
 }

@@ -100,7 +100,14 @@ fn tell_record<O: Sink>(out: &mut Octets, ended: Ended, output: &mut O) -> u8
 {
     match ended {
         Ended::NoMemory => 7,
-        _ => tell_whole(out, status_of(ended), output),
+        Ended::Released
+        | Ended::Broken(..)
+        | Ended::WriteFault
+        | Ended::WireFault
+        | Ended::Refused(_)
+        | Ended::Cut(_)
+        | Ended::Idle(_)
+        | Ended::Spent(_) => tell_whole(out, status_of(ended), output),
     }
 }
 

@@ -171,8 +171,8 @@ pub record Takes (plan : PlainPlan) (bodies : List Body) (buffer text : List ℕ
       (cut_from (so_far head.channel head.ansno journal) (first_answer head.ansno) front)
       ≡ text ++ buffer
 
--- the same while a frame of this number, which arrived last, is taken: of its marks some were taken,
--- by so many parts at most, and the others are left
+-- the same while a frame of this number, which arrived last, is taken: of its marks some were
+-- taken, by so many parts at most, and the others are left
 pub record ListensTaking (number count : ℕ) (session : Held) (bodies : List Body)
     (buffer : List ℕ) (log : List Moment) (text : List ℕ) : Type 0 where
   pub on : StandsOn session log

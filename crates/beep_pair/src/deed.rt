@@ -115,6 +115,13 @@ pub(crate) fn is_given(act: Act, answer: &Answer) -> bool
     match answer {
         Answer::Told(_) => true,
         Answer::Done => matches!(act, Act::Reply | Act::Refuse | Act::Done),
-        _ => false,
+        Answer::NoChannel
+        | Answer::NotOwed
+        | Answer::Answering
+        | Answer::Start(_)
+        | Answer::Ask(_)
+        | Answer::Give(_)
+        | Answer::Close(_)
+        | Answer::Release(_) => false,
     }
 }

@@ -51,7 +51,7 @@ fn a_text_that_is_none_is_refused_at_its_place(rt: HostRuntime) -> Result<(), Fa
     for (table, rows) in refused::tables().iter().enumerate() {
         for (row, (text, at, from)) in rows.iter().enumerate() {
             let refused = is_refused(rt.alloc(), text, *at, *from);
-            let stops = stops(rt.alloc(), text, *at, *from).map_err(|_| "memory")?;
+            let stops = stops(rt.alloc(), text, *at, *from)?;
             assert!(rt; refused && stops, "at {table}, {row}");
         }
     }
@@ -61,9 +61,9 @@ fn a_text_that_is_none_is_refused_at_its_place(rt: HostRuntime) -> Result<(), Fa
 #[test]
 fn a_text_of_repeated_parts_is_refused_at_its_place(rt: HostRuntime) -> Result<(), Fail> {
     for (row, (parts, at, from)) in made::REFUSED.iter().enumerate() {
-        let text = made::text(rt.alloc(), *parts).map_err(|_| "memory")?;
+        let text = made::text(rt.alloc(), *parts)?;
         let refused = is_refused(rt.alloc(), text.as_slice(), *at, *from);
-        let stops = stops(rt.alloc(), text.as_slice(), *at, *from).map_err(|_| "memory")?;
+        let stops = stops(rt.alloc(), text.as_slice(), *at, *from)?;
         assert!(rt; refused && stops, "at {row}");
     }
     Ok(())
@@ -73,8 +73,8 @@ fn a_text_of_repeated_parts_is_refused_at_its_place(rt: HostRuntime) -> Result<(
 fn a_text_that_is_read_is_written_in_its_canonical_form(rt: HostRuntime) -> Result<(), Fail> {
     for (table, rows) in read::tables().iter().enumerate() {
         for (row, (text, canonical)) in rows.iter().enumerate() {
-            let is_read = is_read(rt.alloc(), text, canonical).map_err(|_| "memory")?;
-            let says = says(rt.alloc(), text, canonical).map_err(|_| "memory")?;
+            let is_read = is_read(rt.alloc(), text, canonical)?;
+            let says = says(rt.alloc(), text, canonical)?;
             assert!(rt; is_read && says, "at {table}, {row}");
         }
     }
@@ -84,12 +84,10 @@ fn a_text_that_is_read_is_written_in_its_canonical_form(rt: HostRuntime) -> Resu
 #[test]
 fn a_text_of_repeated_parts_is_read(rt: HostRuntime) -> Result<(), Fail> {
     for (row, (parts, canonical)) in made::READ.iter().enumerate() {
-        let text = made::text(rt.alloc(), *parts).map_err(|_| "memory")?;
-        let written = made::text(rt.alloc(), *canonical).map_err(|_| "memory")?;
-        let is_read = is_read(rt.alloc(), text.as_slice(), written.as_slice()).map_err(
-            |_| "memory",
-        )?;
-        let says = says(rt.alloc(), text.as_slice(), written.as_slice()).map_err(|_| "memory")?;
+        let text = made::text(rt.alloc(), *parts)?;
+        let written = made::text(rt.alloc(), *canonical)?;
+        let is_read = is_read(rt.alloc(), text.as_slice(), written.as_slice())?;
+        let says = says(rt.alloc(), text.as_slice(), written.as_slice())?;
         assert!(rt; is_read && says, "at {row}");
     }
     Ok(())
@@ -98,11 +96,9 @@ fn a_text_of_repeated_parts_is_read(rt: HostRuntime) -> Result<(), Fail> {
 #[test]
 fn a_body_of_65536_octets_is_read(rt: HostRuntime) -> Result<(), Fail> {
     for (row, (parts, canonical)) in made::LONG_READ.iter().enumerate() {
-        let text = made::text(rt.alloc(), *parts).map_err(|_| "memory")?;
-        let written = made::text(rt.alloc(), *canonical).map_err(|_| "memory")?;
-        let is_read = is_read(rt.alloc(), text.as_slice(), written.as_slice()).map_err(
-            |_| "memory",
-        )?;
+        let text = made::text(rt.alloc(), *parts)?;
+        let written = made::text(rt.alloc(), *canonical)?;
+        let is_read = is_read(rt.alloc(), text.as_slice(), written.as_slice())?;
         assert!(rt; is_read && text.len() == MAX_TEXT, "at {row}");
     }
     Ok(())
@@ -111,7 +107,7 @@ fn a_body_of_65536_octets_is_read(rt: HostRuntime) -> Result<(), Fail> {
 #[test]
 fn a_text_of_65536_octets_is_refused_at_its_place(rt: HostRuntime) -> Result<(), Fail> {
     for (row, (parts, at, from)) in made::LONG_REFUSED.iter().enumerate() {
-        let text = made::text(rt.alloc(), *parts).map_err(|_| "memory")?;
+        let text = made::text(rt.alloc(), *parts)?;
         let refused = is_refused(rt.alloc(), text.as_slice(), *at, *from);
         assert!(rt; refused && text.len() == MAX_TEXT, "at {row}");
     }
@@ -121,7 +117,7 @@ fn a_text_of_65536_octets_is_refused_at_its_place(rt: HostRuntime) -> Result<(),
 #[test]
 fn a_body_of_65537_octets_is_too_long(rt: HostRuntime) -> Result<(), Fail> {
     for (row, parts) in made::TOO_LONG.iter().enumerate() {
-        let text = made::text(rt.alloc(), *parts).map_err(|_| "memory")?;
+        let text = made::text(rt.alloc(), *parts)?;
         let error = read_element(rt.alloc(), text.as_slice()).err();
         assert_eq!(rt; error, Some(TextError::TooLong), "at {row}");
     }
@@ -132,14 +128,14 @@ fn a_body_of_65537_octets_is_too_long(rt: HostRuntime) -> Result<(), Fail> {
 // 1,819 of them the first name stands again from 65,487 on, and its `=` at 65,492.
 #[test]
 fn a_body_that_is_all_attributes_is_answered(rt: HostRuntime) -> Result<(), Fail> {
-    let text = made::attributes(rt.alloc(), 1820, b"            />").map_err(|_| "memory")?;
+    let text = made::attributes(rt.alloc(), 1820, b"            />")?;
     let last = match read_element(rt.alloc(), text.as_slice()) {
         Ok(element) => element.attr_at(1819).is_some() && element.attr_at(1820).is_none(),
         Err(_) => false,
     };
     assert!(rt; last && text.len() == MAX_TEXT);
     let end = b" a0000='abcdefghijklmnopqrstuvwxyz............'/>";
-    let text = made::attributes(rt.alloc(), 1819, end).map_err(|_| "memory")?;
+    let text = made::attributes(rt.alloc(), 1819, end)?;
     assert!(rt; is_refused(rt.alloc(), text.as_slice(), 65492, None));
     Ok(())
 }
@@ -149,7 +145,7 @@ fn a_body_that_is_all_attributes_is_answered(rt: HostRuntime) -> Result<(), Fail
 #[test]
 fn a_name_ends_where_no_longer_one_is_new(rt: HostRuntime) -> Result<(), Fail> {
     for (row, (count, end, error)) in made::LONGER_NAMES.iter().enumerate() {
-        let text = made::longer_names(rt.alloc(), *count, end).map_err(|_| "memory")?;
+        let text = made::longer_names(rt.alloc(), *count, end)?;
         let found = read_element(rt.alloc(), text.as_slice()).err();
         assert_eq!(rt; found, *error, "at {row}");
     }

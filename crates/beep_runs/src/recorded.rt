@@ -303,7 +303,14 @@ fn put_record<W: Wires, K: Known>(
 {
     match ended {
         Ended::NoMemory => Ended::NoMemory,
-        _ => match recorder.put_record(out) {
+        Ended::Released
+        | Ended::Broken(..)
+        | Ended::WriteFault
+        | Ended::WireFault
+        | Ended::Refused(_)
+        | Ended::Cut(_)
+        | Ended::Idle(_)
+        | Ended::Spent(_) => match recorder.put_record(out) {
             Ok(()) => ended,
             Err(NoMemory) => Ended::NoMemory,
         },

@@ -66,7 +66,7 @@ fn drain_in(text: &[u8]) -> Option<PairEvent>
     }
     match numbers_in(&text[5..])? {
         Numbers::Two(max, piece) => Some(PairEvent::Drain { max, piece }),
-        _ => None,
+        Numbers::Zero | Numbers::One(_) | Numbers::Three(..) => None,
     }
 }
 
@@ -121,7 +121,16 @@ fn with_none(at: End, verb: Verb) -> Option<PairEvent>
 {
     match verb {
         Verb::Release => Some(bare_act(at, Act::Release, 0)),
-        _ => None,
+        Verb::Start
+        | Verb::Ask
+        | Verb::Reply
+        | Verb::Refuse
+        | Verb::Answer
+        | Verb::Done
+        | Verb::Close
+        | Verb::Send
+        | Verb::Get
+        | Verb::Take => None,
     }
 }
 
@@ -134,7 +143,7 @@ fn with_one(at: End, verb: Verb, n: u32) -> Option<PairEvent>
         Verb::Close => Some(bare_act(at, Act::Close, n)),
         Verb::Send => Some(PairEvent::Send { at, max: n }),
         Verb::Get => Some(PairEvent::Get { at, count: n }),
-        _ => None,
+        Verb::Ask | Verb::Reply | Verb::Refuse | Verb::Answer | Verb::Release | Verb::Take => None,
     }
 }
 
@@ -147,7 +156,16 @@ fn with_two(at: End, verb: Verb, n: u32, m: u32) -> Option<PairEvent>
             channel: n,
             count: m,
         }),
-        _ => None,
+        Verb::Start
+        | Verb::Ask
+        | Verb::Reply
+        | Verb::Refuse
+        | Verb::Answer
+        | Verb::Done
+        | Verb::Close
+        | Verb::Release
+        | Verb::Send
+        | Verb::Get => None,
     }
 }
 
@@ -159,7 +177,13 @@ fn with_three(at: End, verb: Verb, n: u32, len: u32, fill: u32) -> Option<PairEv
         Verb::Reply => message_act(at, Act::Reply, n, len, fill),
         Verb::Refuse => message_act(at, Act::Refuse, n, len, fill),
         Verb::Answer => message_act(at, Act::Answer, n, len, fill),
-        _ => None,
+        Verb::Start
+        | Verb::Done
+        | Verb::Close
+        | Verb::Release
+        | Verb::Send
+        | Verb::Get
+        | Verb::Take => None,
     }
 }
 

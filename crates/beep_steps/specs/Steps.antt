@@ -135,8 +135,8 @@ pub record CameBelow (journal now : List Item) : Type 0 where
   pub journal_is : now ≡ gained ++ journal
   pub none_above : list_any is_above gained ≡ false
 
--- what a log shows of a session that is released, or whose peer breaks a rule, since its journal was
--- this one
+-- what a log shows of a session that is released, or whose peer breaks a rule, since its journal
+-- was this one
 abbrev pub EndsSo : Stop → List Item → List Moment → Type 0
 EndsSo Stop.Released journal log =
     (past : Past) → Shows none_tunes log past → CameBelow journal past.journal

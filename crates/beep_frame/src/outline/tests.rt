@@ -224,50 +224,54 @@ static BEHIND: [(&str, &str, u64, Rule, u64); 3] = [
     ),
 ];
 
+/// Whether these octets are these frames, with so many octets left, and die so or not at all.
+fn is_outline(
+    alloc: Global,
+    input: &str,
+    frames: &str,
+    rest: u64,
+    dead: Option<(Rule, u64)>,
+) -> Result<bool, NoMemory> {
+    let outline = Outline::of(alloc, input.as_bytes())?;
+    let listed = texts(alloc, &outline.frames)?;
+    Ok(listed.as_str() == frames && outline.rest == rest && outline.dead == dead)
+}
+
 #[test]
 fn what_is_alive_has_its_frames_and_its_rest(rt: HostRuntime) -> Result<(), NoMemory> {
-    for (input, frames, rest) in ALIVE {
-        let outline = Outline::of(rt.alloc(), input.as_bytes())?;
-        let listed = texts(rt.alloc(), &outline.frames)?;
-        assert_eq!(rt; listed.as_str(), frames, "at {input:?}");
-        assert_eq!(rt; (outline.rest, outline.dead), (rest, None), "at {input:?}");
+    for (input, frames, rest) in &ALIVE {
+        let is = is_outline(rt.alloc(), input, frames, *rest, None)?;
+        assert!(rt; is, "at {input:?}");
     }
     Ok(())
 }
 
 #[test]
 fn a_line_dies_at_its_first_bad_octet(rt: HostRuntime) -> Result<(), NoMemory> {
-    for (input, place) in BAD_LINES {
-        let outline = Outline::of(rt.alloc(), input.as_bytes())?;
-        let dead = Some((Rule::Header, place));
-        assert_eq!(rt; (outline.rest, outline.dead), (place, dead), "at {input:?}");
-        assert_eq!(rt; outline.frames.len(), 0, "at {input:?}");
+    for (input, place) in &BAD_LINES {
+        let dead = Some((Rule::Header, *place));
+        let is = is_outline(rt.alloc(), input, "", *place, dead)?;
+        assert!(rt; is, "at {input:?}");
     }
     Ok(())
 }
 
 #[test]
 fn a_trailer_dies_at_its_first_bad_octet(rt: HostRuntime) -> Result<(), NoMemory> {
-    for (input, place) in BAD_TRAILERS {
-        let outline = Outline::of(rt.alloc(), input.as_bytes())?;
-        let dead = Some((Rule::Trailer, place));
-        assert_eq!(rt; (outline.rest, outline.dead), (place, dead), "at {input:?}");
-        assert_eq!(rt; outline.frames.len(), 0, "at {input:?}");
+    for (input, place) in &BAD_TRAILERS {
+        let dead = Some((Rule::Trailer, *place));
+        let is = is_outline(rt.alloc(), input, "", *place, dead)?;
+        assert!(rt; is, "at {input:?}");
     }
     Ok(())
 }
 
 #[test]
 fn what_dies_keeps_the_frames_before(rt: HostRuntime) -> Result<(), NoMemory> {
-    for (input, frames, rest, rule, place) in BEHIND {
-        let outline = Outline::of(rt.alloc(), input.as_bytes())?;
-        let listed = texts(rt.alloc(), &outline.frames)?;
-        assert_eq!(rt; listed.as_str(), frames, "at {input:?}");
-        assert_eq!(rt;
-            (outline.rest, outline.dead),
-            (rest, Some((rule, place))),
-            "at {input:?}"
-        );
+    for (input, frames, rest, rule, place) in &BEHIND {
+        let dead = Some((*rule, *place));
+        let is = is_outline(rt.alloc(), input, frames, *rest, dead)?;
+        assert!(rt; is, "at {input:?}");
     }
     Ok(())
 }

@@ -144,7 +144,7 @@ fn is_read(alloc: Global, payload: &[u8], written: &[u8]) -> Result<bool, NoMemo
 #[test]
 fn each_form_is_read(rt: HostRuntime) -> Result<(), Fail> {
     for (at, (payload, written)) in READ.iter().enumerate() {
-        let is = is_read(rt.alloc(), payload, written).map_err(|_| "memory")?;
+        let is = is_read(rt.alloc(), payload, written)?;
         assert!(rt; is, "at {at}");
     }
     Ok(())
@@ -188,9 +188,9 @@ fn repeated(
 // A message of channel zero has at most 65,536 octets, of which the element here takes 6.
 #[test]
 fn one_octet_too_many_is_too_long(rt: HostRuntime) -> Result<(), Fail> {
-    let most = repeated(rt.alloc(), b"", 65530, b" ", b"<ok />").map_err(|_| "memory")?;
-    let more = repeated(rt.alloc(), b"", 65531, b" ", b"<ok />").map_err(|_| "memory")?;
-    let is = is_read(rt.alloc(), most.as_slice(), b"<ok />").map_err(|_| "memory")?;
+    let most = repeated(rt.alloc(), b"", 65530, b" ", b"<ok />")?;
+    let more = repeated(rt.alloc(), b"", 65531, b" ", b"<ok />")?;
+    let is = is_read(rt.alloc(), most.as_slice(), b"<ok />")?;
     let error = read_mgmt(rt.alloc(), more.as_slice()).err();
     assert!(rt; is && error == Some(MgmtError::TooLong));
     Ok(())
@@ -225,12 +225,12 @@ fn is_content(
 #[test]
 fn a_plain_content_is_read(rt: HostRuntime) -> Result<(), Fail> {
     for (at, (content, octets)) in PLAIN.iter().enumerate() {
-        let is = is_content(rt.alloc(), b">", content, Encoding::Plain, Some(octets));
-        assert!(rt; is.is_ok_and(|is| is), "at {at}");
+        let is = is_content(rt.alloc(), b">", content, Encoding::Plain, Some(octets))?;
+        assert!(rt; is, "at {at}");
     }
     for (at, (tag, encoding)) in ENCODINGS.iter().enumerate() {
-        let is = is_content(rt.alloc(), tag, b"", *encoding, Some(b"Zg=="));
-        assert!(rt; is.is_ok_and(|is| is), "at {at}");
+        let is = is_content(rt.alloc(), tag, b"", *encoding, Some(b"Zg=="))?;
+        assert!(rt; is, "at {at}");
     }
     Ok(())
 }
@@ -239,8 +239,8 @@ fn a_plain_content_is_read(rt: HostRuntime) -> Result<(), Fail> {
 fn a_content_in_base64_is_read(rt: HostRuntime) -> Result<(), Fail> {
     let tag = b" encoding='base64'>";
     for (at, (content, octets)) in BASE64.iter().enumerate() {
-        let is = is_content(rt.alloc(), tag, content, Encoding::Base64, *octets);
-        assert!(rt; is.is_ok_and(|is| is), "at {at}");
+        let is = is_content(rt.alloc(), tag, content, Encoding::Base64, *octets)?;
+        assert!(rt; is, "at {at}");
     }
     Ok(())
 }
@@ -248,10 +248,10 @@ fn a_content_in_base64_is_read(rt: HostRuntime) -> Result<(), Fail> {
 // 4,096 octets of content are kept.
 #[test]
 fn one_octet_too_many_of_content_is_unreadable(rt: HostRuntime) -> Result<(), Fail> {
-    let kept = repeated(rt.alloc(), b"", 4096, b"b", b"").map_err(|_| "memory")?;
+    let kept = repeated(rt.alloc(), b"", 4096, b"b", b"")?;
     let front = b"<profile uri='a'>";
-    let most = repeated(rt.alloc(), front, 4096, b"b", b"</profile>").map_err(|_| "memory")?;
-    let more = repeated(rt.alloc(), front, 4097, b"b", b"</profile>").map_err(|_| "memory")?;
+    let most = repeated(rt.alloc(), front, 4096, b"b", b"</profile>")?;
+    let more = repeated(rt.alloc(), front, 4097, b"b", b"</profile>")?;
     assert!(rt;
         has_content(
             rt.alloc(),

@@ -22,7 +22,7 @@ static SYMBOLS: [(&[u8], &str); 8] = [
 #[test]
 fn base64_is_that_of_the_standard(rt: HostRuntime) -> Result<(), Fail> {
     for (at, (octets, symbols)) in SYMBOLS.iter().enumerate() {
-        let text = base64_text(rt.alloc(), octets).map_err(|_| "memory")?;
+        let text = base64_text(rt.alloc(), octets)?;
         assert_eq!(rt; text.as_str(), *symbols, "at {at}");
         let back = STANDARD
             .decode(rt.alloc(), symbols.as_bytes())

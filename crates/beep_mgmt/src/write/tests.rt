@@ -71,7 +71,7 @@ fn has_size(alloc: Global, element: &[u8], size: usize) -> Result<bool, NoMemory
 #[test]
 fn a_message_is_its_element_in_a_frame_of_40_octets(rt: HostRuntime) -> Result<(), Fail> {
     for (at, (element, size)) in SIZES.iter().enumerate() {
-        let has = has_size(rt.alloc(), element, *size).map_err(|_| "memory")?;
+        let has = has_size(rt.alloc(), element, *size)?;
         assert!(rt; has, "at {at}");
     }
     Ok(())
@@ -103,7 +103,7 @@ fn is_written(alloc: Global, content: &[u8], element: &[u8]) -> Result<bool, NoM
 #[test]
 fn a_profile_is_written_by_its_uri_and_its_octets(rt: HostRuntime) -> Result<(), Fail> {
     for (at, (content, element)) in PROFILES.iter().enumerate() {
-        let is = is_written(rt.alloc(), content, element).map_err(|_| "memory")?;
+        let is = is_written(rt.alloc(), content, element)?;
         assert!(rt; is, "at {at}");
     }
     Ok(())
@@ -126,13 +126,13 @@ fn put_start(alloc: Global, out: &mut Octets) -> Result<(), NoMemory> {
 #[test]
 fn a_value_that_is_built_is_written(rt: HostRuntime) -> Result<(), Fail> {
     let mut out = Octets::new(rt.alloc());
-    out.extend(b"...").map_err(|_| "memory")?;
-    put_start(rt.alloc(), &mut out).map_err(|_| "memory")?;
+    out.extend(b"...")?;
+    put_start(rt.alloc(), &mut out)?;
     let m = Mgmt::Fault {
         code: 7,
         note: Text::new(rt.alloc()),
     };
-    write_mgmt_element(&m, &mut out).map_err(|_| "memory")?;
+    write_mgmt_element(&m, &mut out)?;
     let start = "...<start number='4294967295' serverName='a.b'><profile uri='urn:x' /></start>";
     let fault = "<error code='007' />";
     assert!(rt; out.as_slice().starts_with(start.as_bytes()));
@@ -145,8 +145,8 @@ fn a_value_that_is_built_is_written(rt: HostRuntime) -> Result<(), Fail> {
 fn a_profile_is_taken_out(rt: HostRuntime) -> Result<(), Fail> {
     let mut profiles = Profiles::new(rt.alloc());
     for content in [b"a", b"b"] {
-        let profile = profile(rt.alloc(), content).map_err(|_| "memory")?;
-        profiles.push(profile).map_err(|_| "memory")?;
+        let profile = profile(rt.alloc(), content)?;
+        profiles.push(profile)?;
     }
     assert!(rt; profiles.len() == 2 && !profiles.is_empty());
     assert!(rt; profiles.get(1).is_some() && profiles.get(2).is_none());

@@ -19,8 +19,8 @@ END\\r\\n\n";
 static OPENED: &[u8] =
     b"> RPY 0 0 . 0 52\n< RPY 0 0 . 0 52\n< MSG 0 1 . 52 89\n> RPY 0 1 . 52 63\n";
 
-/// What the opening and these lines show, where the report of their log, and that of their text, has
-/// these lines after the opening's.
+/// What the opening and these lines show, where the report of their log, and that of their text,
+/// has these lines after the opening's.
 fn shows(alloc: Global, lines: &[u8], after: &[u8]) -> Result<Option<Verdict>, NoMemory> {
     let mut text = Octets::new(alloc);
     text.extend(OPENING)?;

@@ -5,8 +5,8 @@ use Rattle.beep_cmd.specs.Recording.{TellsWhole}
 use Rattle.beep_cmd.proofs.RecordedLemmas.{status_within, tells_record}
 use Rattle.beep_cmd.proofs.recorded.tell_record.Goals as goal
 
-pub returns-in_default : goal.returns-in_default
-returns-in_default g c = λ role link recorded.
+pub returns-in-Released : goal.returns-in-Released
+returns-in-Released g c = λ role link recorded.
     let O = g.O.Sink in
     let some : c.args.ended ≢ Ended.NoMemory = search rules in
     let within : c.status_of.result ≤ MAX_STATUS = subst (λ (n : ℕ). n ≤ MAX_STATUS) (sym c.status_of.ensures) (status_within c.args.ended) in
