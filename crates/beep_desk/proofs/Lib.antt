@@ -1,0 +1,13 @@
+pub mod AlikeLemmas
+pub mod NumberLemmas
+pub mod LiveLemmas
+pub mod OwnLemmas
+pub mod KeptLemmas
+pub mod TheirLemmas
+pub mod StandLemmas
+pub mod TurnLemmas
+pub mod DrainLemmas
+pub mod ClearLemmas
+pub mod OwedLemmas
+pub mod WaitLemmas
+pub mod DeskLemmas

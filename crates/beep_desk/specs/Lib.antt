@@ -1,0 +1,4 @@
+-- What public clauses cite.
+pub mod Alike
+pub mod Listed
+pub mod Waiting
