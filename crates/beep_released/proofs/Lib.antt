@@ -1,0 +1,5 @@
+mod ReleaseLemmas
+mod MomentLemmas
+mod GrantLemmas
+mod TextsLemmas
+pub mod ClosedLemmas
