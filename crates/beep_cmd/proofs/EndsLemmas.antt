@@ -33,20 +33,20 @@ module _ (settings : Settings) (before after : Seen) (run : Run) (octets : List 
   absurd_status : (result : ℕ) → result ≡ 7 → result ≡ 5 → ⊥
   absurd_status result e f = absurd (omega (arith, e, f))
 
-  starved : (result : ℕ) → result ≡ 7 → Tells 7 [] result run.sink run.sink_after → Sent settings before after result run
-  starved result e (whole_line is appended) = send_starved e (record { octets = octets; text = []; consumed = consumed; appended = appended; holds = refl })
-  starved result e (line_begun is rose prefix) = absurd (absurd_status result e is)
+  starved : after ≡ before → (result : ℕ) → result ≡ 7 → Tells 7 [] result run.sink run.sink_after → Sent settings before after result run
+  starved same result e (whole_line is appended) = send_starved e (record { octets = octets; text = []; consumed = consumed; appended = appended; holds = (refl, inl same) })
+  starved same result e (line_begun is rose prefix) = absurd (absurd_status result e is)
 
 -- why there are no lines to send was told
 pub unsent : (settings : Settings) (before : Seen) (run : Run) (why : Unlisted) (result : ℕ) → IsUnlisted why run.source run.source_after → Tells (unlisted_status why) (unlisted_line why) result run.sink run.sink_after
     → (unlisted_line why ≡ [] → (result ≡ unlisted_status why) × (run.sink_after.faults ≡ run.sink.faults)) → Sent settings before before result run
 unsent settings before run (Unlisted.Bad number) result u t s = sent settings before before run u.octets u.consumed 2 (bad_line number) result (bad_input number u.bad refl refl refl) t
 unsent settings before run Unlisted.Fault result u t s = sent settings before before run u.1.octets u.1.consumed 4 read_fault_line result (unread_input u.0 refl refl refl) t
-unsent settings before run Unlisted.NoMemory result u t s = starved settings before before run u.0 u.1 result (s refl).0 t
+unsent settings before run Unlisted.NoMemory result u t s = starved settings before before run u.0 u.1 refl result (s refl).0 t
 
 -- ---- `listen`
 
-rose_later : (a b c : ℕ) → a ≤ b → Rose b c → Rose a c
+pub rose_later : (a b c : ℕ) → a ≤ b → Rose b c → Rose a c
 rose_later a b c h = elim [ inl w ↦ inl (omega (arith, h, w)) | inr w ↦ inr w ]
 
 module _ (settings : Settings) (before after : Seen) (source : SourceState) (sink mid sink_after : SinkState) (result : ℕ) (kept : sink.faults ≤ mid.faults) where
@@ -70,4 +70,4 @@ module _ (settings : Settings) (before after : Seen) (source : SourceState) (sin
 -- ---- out of memory before anything was done
 
 pub starved_at_once : (settings : Settings) (before : Seen) (source : SourceState) (sink : SinkState) → Sent settings before before 7 (run_of source source sink sink)
-starved_at_once settings before source sink = send_starved refl (record { octets = []; text = []; consumed = Consumes-nil source.left; appended = Appends-nil sink.written; holds = refl })
+starved_at_once settings before source sink = send_starved refl (record { octets = []; text = []; consumed = Consumes-nil source.left; appended = Appends-nil sink.written; holds = (refl, inl refl) })

@@ -2,6 +2,7 @@
 use Rattle.std.proofs.Common.{◌≡◌, ◌⊎◌, inl, inr, ℕ, ◌+◌, ◌≤◌, ◌<◌, Bool, true, false, if◌then◌else◌, List, [], ◌∷◌, ◌++◌, Option, None, Some, refl, sym, ap, ◌∙◌, subst, arith}
 use Rattle.std.specs.Io.KnownBytes.{Appends}
 use Rattle.std.proofs.KnownBytes.{Appends-nil, Appends-trans}
+use Rattle.beep_wires.specs.Counts.{Rose}
 use Rattle.beep_wires.specs.Log.{Entry}
 use Rattle.beep_wires.specs.Links.{Link}
 use Rattle.beep_wires.specs.States.{SinkState}
@@ -9,10 +10,11 @@ use Rattle.beep_journal.specs.declared.role.Role.{Role}
 use Rattle.beep_settings.specs.declared.settings.Settings.{Settings}
 use Rattle.beep_link.specs.declared.ended.Ended.{Ended}
 use Rattle.beep_link.specs.Causes.{Seen, WhereTold, WithText}
+use Rattle.beep_steps.specs.Scripting.{KeepsAboveOn}
 use Rattle.beep_steps.specs.Logs.{moments, Shows, terms_by}
 use Rattle.beep_ends.specs.Listening.{is_whole, listener_plan, AreLinesOf}
-use Rattle.beep_cmd.specs.Ends.{ended_line, ended_status, EachOf, Tells, whole_line}
-use Rattle.beep_cmd.specs.Listening.{AreTold, EndsBy, ends_run, first_of, run_cause, Session, SessionsOver, text_of, WritesLines, WritesOf}
+use Rattle.beep_cmd.specs.Ends.{ended_line, ended_status, ends_run, EachOf, Tells, whole_line}
+use Rattle.beep_cmd.specs.Listening.{AreTold, EndsBy, first_of, run_cause, Session, SessionsOver, text_of, WritesLines, WritesOf}
 use Rattle.beep_cmd.specs.Serving.{GoesOn, WritesSession, WritesSessions}
 
 -- ---- which logs are told
@@ -33,21 +35,23 @@ module _ (settings : Settings) (cause : Ended) (before used after : Seen) (link 
   at_it = ap (λ (n : ℕ). (after.state n).log) (sym is) ∙ ap (λ (l : Link). l.log) shut
 
   session_by : (log : List Entry) → (after.state before.counts.given).log ≡ Some log → Shows (terms_by Role.Listener settings) cause log
-      → WithText old new (AreLinesOf (listener_plan settings) (is_whole cause) (moments log)) → WritesSession settings cause before after old new
-  session_by log told shows text = record {
+      → WithText old new (AreLinesOf (listener_plan settings) (is_whole cause) (moments log)) → KeepsAboveOn (listener_plan settings) log
+      → WritesSession settings cause before after old new
+  session_by log told shows text above = record {
     text = text.0;
     lines = text.1;
-    writes = subst (WhereTold (WritesOf settings (record { cause = cause; text = text.0 }))) (sym told) (record { shows = shows; lines = text.2 });
+    writes = subst (WhereTold (WritesOf settings (record { cause = cause; text = text.0 }))) (sym told) (record { shows = shows; lines = text.2; above = above });
   }
 
   pub session_lines : WhereTold (Shows (terms_by Role.Listener settings) cause) (used.state link).log
       → WhereTold (λ log. WithText old new (AreLinesOf (listener_plan settings) (is_whole cause) (moments log))) (used.state link).log
-      → AreTold before after → WritesSession settings cause before after old new
-  session_lines shows text told =
+      → WhereTold (KeepsAboveOn (listener_plan settings)) (used.state link).log → AreTold before after → WritesSession settings cause before after old new
+  session_lines shows text above told =
       let it = told before.counts.given (omega arith) (omega (arith, one)) in
       let of : (used.state link).log ≡ Some it.0 = sym at_it ∙ it.1 in
       session_by it.0 it.1 (subst (WhereTold (Shows (terms_by Role.Listener settings) cause)) of shows)
       (subst (WhereTold (λ log. WithText old new (AreLinesOf (listener_plan settings) (is_whole cause) (moments log)))) of text)
+      (subst (WhereTold (KeepsAboveOn (listener_plan settings))) of above)
 
 -- ---- session after session
 
@@ -94,11 +98,13 @@ module _ (settings : Settings) (before mid after : Seen) (first ended : Ended) (
         (is ∙ ap (λ (e : Ended). first_of e ended) w.ends ∙ if_not (ends_run ended) ended (first_of (run_cause w.sessions) ended) on)
 
     -- the session ends it
-    pub lines_ended : ends_run ended ≡ true → WritesSessions settings before after (EndsBy ended) old new
-    lines_ended over = more_sessions (EndsBy ended) (inl (if_so (ends_run ended) ended (first_of (run_cause w.sessions) ended) over))
+    pub lines_ended : ends_run ended ≡ true → WritesSessions settings before after (EndsBy settings before after ended) old new
+    lines_ended over = more_sessions (EndsBy settings before after ended)
+        (inl (if_so (ends_run ended) ended (first_of (run_cause w.sessions) ended) over, λ goes_on. absurd (let h : true ≡ false = sym over ∙ goes_on in cc)))
 
   -- no link was given
-  pub lines_unlinked : after.counts.given ≡ mid.counts.given → new ≡ now → (cause : Ended) → (cause ≡ Ended.WireFault) ⊎ (cause ≡ Ended.NoMemory) → WritesSessions settings before after (EndsBy cause) old new
+  pub lines_unlinked : after.counts.given ≡ mid.counts.given → new ≡ now → (cause : Ended)
+      → (cause ≡ Ended.WireFault) × Rose before.counts.accepts after.counts.accepts ⊎ (cause ≡ Ended.NoMemory) → WritesSessions settings before after (EndsBy settings before after cause) old new
   lines_unlinked none same cause why = record {
     sessions = w.sessions;
     over = subst (SessionsOver settings after.state before.counts.given w.sessions) (sym none)
@@ -112,14 +118,14 @@ pub no_lines : (settings : Settings) (before : Seen) (old : Option (List ℕ)) �
 no_lines settings before old = record { sessions = []; over = refl; ends = refl; lines = Appends-nil old }
 
 -- all sessions are over
-pub all_lines : (settings : Settings) (before after : Seen) (cause : Ended) (old new : Option (List ℕ)) → WritesSessions settings before after (λ (sessions : List Session). cause ≡ run_cause sessions) old new
-    → WritesSessions settings before after (EndsBy cause) old new
-all_lines settings before after cause old new w = record { sessions = w.sessions; over = w.over; ends = inl w.ends; lines = w.lines }
+pub all_lines : (settings : Settings) (before after : Seen) (cause : Ended) (old new : Option (List ℕ)) → after.counts.given ≡ before.counts.given + settings.sessions
+    → WritesSessions settings before after (λ (sessions : List Session). cause ≡ run_cause sessions) old new → WritesSessions settings before after (EndsBy settings before after cause) old new
+all_lines settings before after cause old new all w = record { sessions = w.sessions; over = w.over; ends = inl (w.ends, λ goes_on. all); lines = w.lines }
 
 -- ---- the last line
 
 pub last_line : (settings : Settings) (before after : Seen) (cause : Ended) (status : ℕ) (old middle new : SinkState) → old.faults ≤ middle.faults
-    → WritesSessions settings before after (EndsBy cause) old.written middle.written → Tells (ended_status cause) (ended_line cause) status middle new → WritesLines settings before after status old new
+    → WritesSessions settings before after (EndsBy settings before after cause) old.written middle.written → Tells (ended_status cause) (ended_line cause) status middle new → WritesLines settings before after status old new
 last_line settings before after cause status old middle new kept w last =
     record { sessions = w.sessions; over = w.over; cause = cause; ends = w.ends; middle = middle; kept = kept; lines = w.lines; last = last }
 

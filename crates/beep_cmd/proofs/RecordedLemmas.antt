@@ -13,6 +13,7 @@ use Rattle.beep_settings.specs.declared.settings.Settings.{Settings}
 use Rattle.beep_link.specs.declared.ended.Ended.{Ended}
 use Rattle.beep_link.specs.Causes.{Seen, WhereTold}
 use Rattle.beep_steps.specs.Logs.{IsLawfulOn, terms_by}
+use Rattle.beep_steps.specs.Scripting.{KeepsAboveOn}
 use Rattle.beep_steps.specs.Sending.{sender_plan, SendsAll}
 use Rattle.beep_recorder.specs.Kept.{RecordsLink}
 use Rattle.beep_runs.specs.Runs.{AsksThis, IsRecorded, NotGiven, Ran, SentAll}
@@ -96,7 +97,7 @@ module _ (Cause : Ended → Type 0) (role : Role) (before after : Seen) (result 
   whole_of : (cause : Ended) → cause ≢ Ended.WriteFault → cause ≢ Ended.NoMemory → Cause cause → after.counts.given ≡ before.counts.given + 1
       → TellsWhole role (after.state before.counts.given) (ended_status cause) result old new → EndsRecorded Cause role before after result old new
   whole_of cause n m c one (whole_record text is tells) = record_told cause n m c text (recorded refl one is) tells
-  whole_of cause n m c one (no_record is none) = record_starved is none
+  whole_of cause n m c one (no_record is none) = record_starved cause c is none
 
   -- a link was given
   pub ends_recorded : (cause : Ended) → cause ≢ Ended.WriteFault → Cause cause → after.counts.given ≡ before.counts.given + 1 → TellsRecord role (after.state before.counts.given) cause result old new
@@ -105,7 +106,7 @@ module _ (Cause : Ended → Type 0) (role : Role) (before after : Seen) (result 
   ends_recorded (Ended.Broken rule place) n c one t = whole_of (Ended.Broken rule place) n (λ e. cc) c one t
   ends_recorded Ended.WriteFault n c one t = absurd (n refl)
   ends_recorded Ended.WireFault n c one t = whole_of Ended.WireFault n (λ e. cc) c one t
-  ends_recorded Ended.NoMemory n c one t = record_starved t.0 t.1
+  ends_recorded Ended.NoMemory n c one t = record_starved Ended.NoMemory c t.0 t.1
   ends_recorded (Ended.Refused code) n c one t = whole_of (Ended.Refused code) n (λ e. cc) c one t
   ends_recorded (Ended.Cut left) n c one t = whole_of (Ended.Cut left) n (λ e. cc) c one t
   ends_recorded (Ended.Idle reads) n c one t = whole_of (Ended.Idle reads) n (λ e. cc) c one t
@@ -116,14 +117,14 @@ module _ (Cause : Ended → Type 0) (role : Role) (before after : Seen) (result 
   untold is (line_begun e rose prefix) = absurd (seven_five result is e)
 
   -- no link was given
-  pub ends_unlinked : (cause : Ended) (a b : ℕ) → NotGiven cause a b before after → (Rose a b → Cause Ended.WireFault) → Tells (ended_status cause) (ended_line cause) result old new
+  pub ends_unlinked : (cause : Ended) (a b : ℕ) → NotGiven cause a b before after → (Rose a b → Cause Ended.WireFault) → Cause Ended.NoMemory → Tells (ended_status cause) (ended_line cause) result old new
       → (ended_line cause ≡ [] → (result ≡ ended_status cause) × (new.faults ≡ old.faults)) → EndsRecorded Cause role before after result old new
-  ends_unlinked cause a b g asked tells none = elim g.why as (λ _. EndsRecorded Cause role before after result old new) [
+  ends_unlinked cause a b g asked starved tells none = elim g.why as (λ _. EndsRecorded Cause role before after result old new) [
     | inl wire ↦ record_told Ended.WireFault (λ e. cc) (λ e. cc) (asked wire.1) (ended_line Ended.WireFault) (lined (inr g.given) refl)
         (subst (λ (c : Ended). Tells (ended_status c) (ended_line c) result old new) wire.0 tells)
     | inr short ↦
         let is : result ≡ 7 = (subst (λ (c : Ended). ended_line c ≡ [] → (result ≡ ended_status c) × (new.faults ≡ old.faults)) short none refl).0 in
-        record_starved is (untold is (subst (λ (c : Ended). Tells (ended_status c) (ended_line c) result old new) short tells))
+        record_starved Ended.NoMemory starved is (untold is (subst (λ (c : Ended). Tells (ended_status c) (ended_line c) result old new) short tells))
   ]
 
 -- the record of a run, whose octets began with none
@@ -139,14 +140,14 @@ pub sent_recorded : (settings : Settings) (before after : Seen) (result : ℕ) (
 sent_recorded settings before after result run octets consumed recording ended lines are (record_told cause n m c text ending tells) =
     sent settings before after run octets consumed (ended_status cause) text result
     (over ended lines are cause n c.0 c.1 refl (subst (λ b. IsEnding b Role.Initiator before after (ended_status cause) (ended_line cause) text) (sym recording) ending)) tells
-sent_recorded settings before after result run octets consumed recording ended lines are (record_starved is none) =
-    send_starved is (record { octets = octets; text = []; consumed = consumed; appended = none; holds = refl })
+sent_recorded settings before after result run octets consumed recording ended lines are (record_starved cause c is none) =
+    send_starved is (record { octets = octets; text = []; consumed = consumed; appended = none; holds = (refl, inr (lines, are, c.1.above)) })
 
 pub listened_recorded : (settings : Settings) (before after : Seen) (result : ℕ) (source : SourceState) (sink sink_after : SinkState) → ListenRecorded settings before after result sink sink_after
     → Listened settings before after result (run_of source source sink sink_after)
 listened_recorded settings before after result source sink sink_after (record_told cause n m c text ending (whole_line is appended)) = listen_told cause n m c is
 listened_recorded settings before after result source sink sink_after (record_told cause n m c text ending (line_begun is rose prefix)) = listen_unwritten is rose
-listened_recorded settings before after result source sink sink_after (record_starved is none) = listen_starved is
+listened_recorded settings before after result source sink sink_after (record_starved cause c is none) = listen_starved is
 
 -- the causes of a run over one link
 pub send_caused : (settings : Settings) (cause : Ended) (before after : Seen) → Ran Role.Initiator settings cause before after → SendCause cause settings before after
@@ -154,12 +155,17 @@ send_caused settings cause before after r = session (cause_of Role.Initiator set
 
 -- what was sent over the one link was sent over each
 pub send_sends : (settings : Settings) (lines : List (List ℕ)) (cause : Ended) (before after : Seen) → after.counts.given ≡ before.counts.given + 1 → SentAll settings lines cause before after → SendsLines cause settings lines before after
-send_sends settings lines cause before after one sent released =
-    each_one (λ link. WhereTold (SendsAll (sender_plan settings lines)) link.log) before after before.counts.given refl one (sent released)
+send_sends settings lines cause before after one sent = record {
+  all = λ released. each_one (λ link. WhereTold (SendsAll (sender_plan settings lines)) link.log) before after before.counts.given refl one (sent.all released);
+  above = each_one (λ link. WhereTold (KeepsAboveOn (sender_plan settings lines)) link.log) before after before.counts.given refl one sent.above;
+}
 
--- no link was given, so that none was released
-pub unlinked_sends : (settings : Settings) (lines : List (List ℕ)) (before after : Seen) → SendsLines Ended.WireFault settings lines before after
-unlinked_sends settings lines before after e = absurd (let h : Ended.WireFault ≡ Ended.Released = e in cc)
+-- no link was given, so that none was released, and none shows otherwise
+pub unlinked_sends : (settings : Settings) (lines : List (List ℕ)) (cause : Ended) → (cause ≡ Ended.Released → ⊥) → (before after : Seen) → after.counts.given ≡ before.counts.given → SendsLines cause settings lines before after
+unlinked_sends settings lines cause other before after same = record {
+  all = λ e. absurd (other e);
+  above = each_none (λ link. WhereTold (KeepsAboveOn (sender_plan settings lines)) link.log) before after same;
+}
 
 pub listen_caused : (settings : Settings) (cause : Ended) (before after : Seen) → settings.sessions ≡ 1 → Ran Role.Listener settings cause before after → ListenCause cause settings before after
 listen_caused settings cause before after one r =

@@ -12,8 +12,8 @@ use Rattle.beep_link.specs.Causes.{HasRead, IsCaused, IsQuiet, IsUnused, Seen, W
 use Rattle.beep_journal.specs.declared.role.Role.{Role}
 use Rattle.beep_steps.specs.Logs.{Shows, terms_by}
 use Rattle.beep_settings.specs.declared.settings.Settings.{Settings}
-use Rattle.beep_cmd.specs.Ends.{HasRisen, OneOf, EachOf, ShowsIn, SessionCause, AsksOnly}
-use Rattle.beep_cmd.specs.Listening.{ends_run, first_of}
+use Rattle.beep_cmd.specs.Ends.{HasRisen, OneOf, EachOf, ShowsIn, SessionCause, AsksOnly, ends_run}
+use Rattle.beep_cmd.specs.Listening.{first_of}
 use Rattle.beep_cmd.specs.Serving.{GoesOn}
 
 -- ---- a link that was given

@@ -1,6 +1,6 @@
 -- What `send` and `listen` end with, status by status (RFC 3195, section 3).
 -- Each cause is read off the links after the run; the code hands on what ended a session.
-use Rattle.std.specs.Prelude.{◌≡◌, ◌≢◌, ℕ, ◌+◌, ◌<◌, ◌≤◌, ◌⊎◌, true, Option, Some, None, List, [], ◌++◌, length, chars}
+use Rattle.std.specs.Prelude.{◌≡◌, ◌≢◌, ℕ, Bool, ◌+◌, ◌<◌, ◌≤◌, ◌⊎◌, true, false, Option, Some, None, List, [], ◌++◌, length, chars}
 use Rattle.std.specs.List.{AllByRecursion}
 use Rattle.std.specs.Borrow.{GName}
 use Rattle.beep_wires.specs.declared.count.TheConstants.{COUNT_MAX}
@@ -13,6 +13,7 @@ use Rattle.beep_link.specs.declared.ended.Ended.{Ended}
 use Rattle.beep_link.specs.Causes.{HasRead, IsQuiet, Seen, WhereTold}
 use Rattle.beep_journal.specs.declared.role.Role.{Role}
 use Rattle.beep_steps.specs.Logs.{IsLawfulOn, Shows, terms_by}
+use Rattle.beep_steps.specs.Scripting.{KeepsAboveOn}
 use Rattle.beep_steps.specs.Sending.{sender_plan, SendsAll}
 use Rattle.beep_settings.specs.declared.settings.Settings.{Settings}
 use Rattle.beep_input.specs.Whole.{HasEnded}
@@ -95,13 +96,26 @@ SessionCause (Ended.Spent octets) role settings before after = (octets ≡ setti
     × OneOf before after (λ link. HasRead settings.octets link.log
     × ShowsIn role settings (Ended.Spent octets) link)
 
--- what ended a run of so many sessions: no link was given, for this reason, or a session ended so
+-- no further link is accepted after a session that ended so
+abbrev pub ends_run : Ended → Bool
+ends_run Ended.Released = false
+ends_run (Ended.Broken rule place) = false
+ends_run Ended.WriteFault = true
+ends_run Ended.WireFault = false
+ends_run Ended.NoMemory = true
+ends_run (Ended.Refused code) = false
+ends_run (Ended.Cut left) = false
+ends_run (Ended.Idle reads) = false
+ends_run (Ended.Spent octets) = false
+
+-- what ended a run of so many sessions: no link was given, for this reason; or a session ended so,
+-- and where that doesn't end the run, all of them were
 pub data RunCause (asked : Type 0) (sessions : ℕ) (cause : Ended) (role : Role)
     (settings : Settings) (before after : Seen) : Type 0 where
   asking : cause ≡ Ended.WireFault → asked
       → RunCause asked sessions cause role settings before after
   session : SessionCause cause role settings before after
-      → (cause ≡ Ended.Released → after.counts.given ≡ before.counts.given + sessions)
+      → (ends_run cause ≡ false → after.counts.given ≡ before.counts.given + sessions)
       → RunCause asked sessions cause role settings before after
 
 -- the run dialled once, or a dial failed
@@ -110,11 +124,19 @@ SendCause cause settings before after =
     RunCause (Rose before.counts.dials after.counts.dials) 1 cause Role.Initiator settings before
     after
 
+-- the log of each link shows, where it is told, that above channel zero the script of a sender of
+-- these lines was kept
+abbrev pub KeepsLines : Settings → List (List ℕ) → Seen → Seen → Type 0
+KeepsLines settings lines before after = EachOf before after
+    (λ link. WhereTold (KeepsAboveOn (sender_plan settings lines)) link.log)
+
 -- a run of `send` that ended with a release sent all of these lines: the log of its link shows
--- each, once and in order, where it is told
-abbrev pub SendsLines : Ended → Settings → List (List ℕ) → Seen → Seen → Type 0
-SendsLines cause settings lines before after = cause ≡ Ended.Released
-    → EachOf before after (λ link. WhereTold (SendsAll (sender_plan settings lines)) link.log)
+-- each, once and in order, where it is told; and whatever ended it, its script was kept
+pub record SendsLines (cause : Ended) (settings : Settings) (lines : List (List ℕ))
+    (before after : Seen) : Type 0 where
+  pub all : cause ≡ Ended.Released
+      → EachOf before after (λ link. WhereTold (SendsAll (sender_plan settings lines)) link.log)
+  pub above : KeepsLines settings lines before after
 
 -- as many links were accepted as the settings say, or an accept failed
 abbrev pub ListenCause : Ended → Settings → Seen → Seen → Type 0
@@ -172,8 +194,13 @@ pub record BeginsSendReport (settings : Settings) (old new : SourceState) (befor
   pub others : List ℕ
   pub report : IsSendReport settings old new before after octets (text ++ others) status
 
+-- no link was asked for; or the script of the lines of these octets was kept
+abbrev pub KeepsInput : Settings → Seen → Seen → List ℕ → Type 0
+KeepsInput settings before after octets = (after ≡ before)
+    ⊎ (lines : List (List ℕ)) × AreLines lines octets × KeepsLines settings lines before after
+
 -- what a run of `send` that ended so reports: a status with its report; 5, where a write failed; 7,
--- where it was out of memory
+-- where it was out of memory, and still sent nothing but its lines
 pub data Sent (settings : Settings) (before after : Seen) (status : ℕ) (run : Run) : Type 0 where
   send_told : Saw (λ octets text.
       IsSendReport settings run.source run.source_after before after octets text status) run
@@ -181,7 +208,8 @@ pub data Sent (settings : Settings) (before after : Seen) (status : ℕ) (run : 
   send_begun : status ≡ 5 → Rose run.sink.faults run.sink_after.faults
       → Saw (BeginsSendReport settings run.source run.source_after before after) run
       → Sent settings before after status run
-  send_starved : status ≡ 7 → Saw (λ octets text. text ≡ []) run
+  send_starved : status ≡ 7
+      → Saw (λ octets text. (text ≡ []) × KeepsInput settings before after octets) run
       → Sent settings before after status run
 
 -- ---- `listen`

@@ -4,6 +4,7 @@
 -- shut.
 use Rattle.std.specs.Prelude.{◌≡◌, ◌⊎◌, ℕ, ◌+◌, ◌≤◌, Bool, true, false, if◌then◌else◌, Option, Some, List, [], ◌∷◌, ◌++◌}
 use Rattle.std.specs.Io.KnownBytes.{Appends}
+use Rattle.beep_wires.specs.Counts.{Rose}
 use Rattle.beep_wires.specs.Log.{Entry}
 use Rattle.beep_wires.specs.Links.{Link}
 use Rattle.beep_wires.specs.States.{SinkState}
@@ -11,9 +12,10 @@ use Rattle.beep_journal.specs.declared.role.Role.{Role}
 use Rattle.beep_settings.specs.declared.settings.Settings.{Settings}
 use Rattle.beep_link.specs.declared.ended.Ended.{Ended}
 use Rattle.beep_link.specs.Causes.{Seen, WhereTold}
+use Rattle.beep_steps.specs.Scripting.{KeepsAboveOn}
 use Rattle.beep_steps.specs.Logs.{moments, Shows, terms_by}
 use Rattle.beep_ends.specs.Listening.{is_whole, listener_plan, AreLinesOf}
-use Rattle.beep_cmd.specs.Ends.{ended_line, ended_status, EachOf, Tells}
+use Rattle.beep_cmd.specs.Ends.{ended_line, ended_status, ends_run, EachOf, Tells}
 
 -- ---- what ends a run
 
@@ -29,24 +31,12 @@ first_of (Ended.Cut left) ended = Ended.Cut left
 first_of (Ended.Idle reads) ended = Ended.Idle reads
 first_of (Ended.Spent octets) ended = Ended.Spent octets
 
--- no further link is accepted behind a session that ended so
-abbrev pub ends_run : Ended → Bool
-ends_run Ended.Released = false
-ends_run (Ended.Broken rule place) = false
-ends_run Ended.WriteFault = true
-ends_run Ended.WireFault = false
-ends_run Ended.NoMemory = true
-ends_run (Ended.Refused code) = false
-ends_run (Ended.Cut left) = false
-ends_run (Ended.Idle reads) = false
-ends_run (Ended.Spent octets) = false
-
 -- one session of a run: what ended it, and what was written of it
 pub record Session : Type 0 where
   pub cause : Ended
   pub text : List ℕ
 
--- what sessions say of their run, the latest first: what ended the one behind which no link is
+-- what sessions say of their run, the latest first: what ended the one after which no link is
 -- accepted, or else the first that wasn't released
 abbrev pub run_cause : List Session → Ended
 run_cause [] = Ended.Released
@@ -61,11 +51,13 @@ AreTold before after =
     EachOf before after (λ link. (log : List Entry) × (link.log ≡ Some log))
 
 -- what was written of a session is the lines that its log shows, or a beginning of them where it
--- ended in want of memory, by a refusal or by a fault of the output
+-- ended out of memory, by a refusal or by a fault of the output; and above channel zero what was
+-- sent is the beginning of its script
 pub record WritesOf (settings : Settings) (session : Session) (log : List Entry) : Type 0 where
   pub shows : Shows (terms_by Role.Listener settings) session.cause log
   pub lines : AreLinesOf (listener_plan settings) (is_whole session.cause) (moments log)
       session.text
+  pub above : KeepsAboveOn (listener_plan settings) log
 
 -- the sessions over the links from this number on up to another, the latest first
 abbrev pub SessionsOver : Settings → (ℕ → Link) → ℕ → List Session → ℕ → Type 0
@@ -80,11 +72,14 @@ abbrev pub text_of : List Session → List ℕ
 text_of [] = []
 text_of (session ∷ earlier) = text_of earlier ++ session.text
 
--- what ends the run is what its sessions say, or an accept that gave no link
-abbrev pub EndsBy : Ended → List Session → Type 0
-EndsBy cause sessions = (cause ≡ run_cause sessions)
+-- what ends the run is what its sessions say, and all of them were where none ended the run; or an
+-- accept that gave no link, since it failed or was out of memory
+abbrev pub EndsBy : Settings → Seen → Seen → Ended → List Session → Type 0
+EndsBy settings before after cause sessions = (cause ≡ run_cause sessions)
+    × (ends_run cause ≡ false → after.counts.given ≡ before.counts.given + settings.sessions)
     ⊎ (ends_run (run_cause sessions) ≡ false)
-    × ((cause ≡ Ended.WireFault) ⊎ (cause ≡ Ended.NoMemory))
+    × ((cause ≡ Ended.WireFault) × Rose before.counts.accepts after.counts.accepts
+    ⊎ (cause ≡ Ended.NoMemory))
 
 -- a run of so many sessions wrote the lines of each, one after another, and then the last line of
 -- what ended it; or where a write of that failed, a beginning of it
@@ -93,7 +88,7 @@ pub record WritesLines (settings : Settings) (before after : Seen) (status : ℕ
   pub sessions : List Session
   pub over : SessionsOver settings after.state before.counts.given sessions after.counts.given
   pub cause : Ended
-  pub ends : EndsBy cause sessions
+  pub ends : EndsBy settings before after cause sessions
   pub middle : SinkState
   pub kept : old.faults ≤ middle.faults
   pub lines : Appends old.written middle.written (text_of sessions)

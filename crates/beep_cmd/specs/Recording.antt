@@ -12,7 +12,7 @@ use Rattle.beep_cmd.specs.Recorded.{IsEnding, IsRecordOf}
 use Rattle.beep_cmd.specs.Ends.{ended_line, ended_status, ListenCause, SendCause, SendsLines, Tells}
 
 -- a run that is recorded was ended by a cause that holds, and what is due at its end was written,
--- or begun where the write failed; or it was out of memory, and wrote nothing
+-- or begun where the write failed; or it was out of memory, and wrote nothing, whatever ended it
 pub data EndsRecorded (Cause : Ended → Type 0) (role : Role) (before after : Seen) (status : ℕ)
     (old new : SinkState) : Type 0 where
   record_told : (cause : Ended) → cause ≢ Ended.WriteFault → cause ≢ Ended.NoMemory → Cause cause
@@ -20,7 +20,8 @@ pub data EndsRecorded (Cause : Ended → Type 0) (role : Role) (before after : S
       → IsEnding true role before after (ended_status cause) (ended_line cause) text
       → Tells (ended_status cause) text status old new
       → EndsRecorded Cause role before after status old new
-  record_starved : status ≡ 7 → Appends old.written new.written []
+  record_starved : (cause : Ended) → Cause cause → status ≡ 7
+      → Appends old.written new.written []
       → EndsRecorded Cause role before after status old new
 
 -- a record of a link with a status was written, or begun; or memory ran out, and nothing was

@@ -4,8 +4,8 @@ ghost use Rattle.beep_journal.specs.declared.role.Role.{Role as RoleValue};
 ghost use Rattle.beep_steps.specs.Ends.{AreFit};
 ghost use Rattle.beep_link.specs.Causes.{IsWritten};
 ghost use Rattle.beep_wires.specs.States.{SourceState};
-ghost use Rattle.beep_cmd.specs.Ends.{AcceptsAtMost, ListenCause, Listened, seen_of, WritesLawfully};
-ghost use Rattle.beep_cmd.specs.Listening.{AreTold, ends_run, EndsBy, first_of, WritesLines};
+ghost use Rattle.beep_cmd.specs.Ends.{AcceptsAtMost, ends_run, ListenCause, Listened, seen_of, WritesLawfully};
+ghost use Rattle.beep_cmd.specs.Listening.{AreTold, EndsBy, first_of, WritesLines};
 ghost use Rattle.beep_cmd.specs.Serving.{NotAccepted, Served, WritesSession, WritesSessions};
 ghost use Rattle.beep_cmd.specs.Recording.{ListenRecorded};
 ghost use Rattle.beep_show.specs.Show.{run_of};
@@ -96,7 +96,12 @@ fn listen_all<O: Sink, W: Wires>(
         (W.asked wires.old) (W.lent wires.old))
         (seen_of (W.state wires.new) (W.counts wires.new)
         (W.asked wires.new) (W.lent wires.new))
-        (EndsBy result) (O.state output.old).written (O.state output.new).written }
+        (EndsBy settings.now
+        (seen_of (W.state wires.old) (W.counts wires.old)
+        (W.asked wires.old) (W.lent wires.old))
+        (seen_of (W.state wires.new) (W.counts wires.new)
+        (W.asked wires.new) (W.lent wires.new)) result)
+        (O.state output.old).written (O.state output.new).written }
     ensures lawful { WritesLawfully RoleValue.Listener settings.now
         (seen_of (W.state wires.old) (W.counts wires.old)
         (W.asked wires.old) (W.lent wires.old))
@@ -174,7 +179,7 @@ fn listen_once<O: Sink, W: Wires>(
     Ok(ended)
 }
 
-/// Whether no further link is accepted behind a session that ended so.
+/// Whether no further link is accepted after a session that ended so.
 fn ends_run(ended: Ended) -> bool
     ensures { result ≡ ends_run ended }
 {

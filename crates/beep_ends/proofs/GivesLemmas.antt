@@ -1,5 +1,5 @@
 -- What a sender gives next on its channel: the answer of its next line, or the end of its answers.
-use Rattle.std.proofs.Common.{◌≡◌, ℕ, zero, suc, ◌+◌, ◌-◌, ◌<◌, ◌≤◌, ◌%◌, ◌^◌, Bool, true, false, not, ◌&&◌, if◌then◌else◌, List, [], ◌∷◌, ◌++◌, map, take, drop, flat_map, length, slice_get, Option, None, Some, refl, sym, ap, ◌∙◌, subst, arith}
+use Rattle.std.proofs.Common.{◌≡◌, ℕ, zero, suc, ◌+◌, ◌<◌, ◌≤◌, ◌%◌, Bool, true, false, ◌&&◌, if◌then◌else◌, List, [], ◌∷◌, ◌++◌, map, take, flat_map, length, slice_get, None, Some, refl, sym, ap, ◌∙◌, arith}
 use Rattle.std.specs.List.{list_all}
 use Rattle.std.proofs.lemmas.List.{append_assoc, append-nil, take_all}
 use Rattle.std.proofs.lemmas.Grind.{flat_map-append}
@@ -14,7 +14,7 @@ use Rattle.beep_outbox.specs.Queue.{message_marks as given_marks}
 use Rattle.beep_giving.specs.Giving.{next_message}
 use Rattle.beep_lawful.specs.declared.limits.TheConstants.{MESSAGE_NUMBERS}
 use Rattle.prof_raw.specs.Entries.{body_of}
-use Rattle.beep_talk.specs.Talk.{message_of, answers_from, nul, reply_of}
+use Rattle.beep_talk.specs.Talk.{message_of, answers_from, nul}
 use Rattle.beep_script.specs.Script.{message_marks}
 use Rattle.beep_script.specs.Sending.{is_of_reply, answers_of, whole_answer, LinesGiven, some_given, all_given}
 use Rattle.beep_script.proofs.SentLemmas.{reply-marks}
@@ -50,7 +50,7 @@ length-take [] (suc count) few = absurd (omega (arith, few))
 length-take (line ∷ lines) (suc count) few = ap suc (length-take lines count (omega (arith, few)))
 
 -- the ends and the answers among marks that grow
-ends-append : (test : Kind → Bool) (xs ys : List Mark) → ends_of test (xs ++ ys) ≡ ends_of test xs + ends_of test ys
+pub ends-append : (test : Kind → Bool) (xs ys : List Mark) → ends_of test (xs ++ ys) ≡ ends_of test xs + ends_of test ys
 ends-append test [] ys = omega arith
 ends-append test (octet tag value ∷ xs) ys = ends-append test xs ys
 ends-append test (end tag ∷ xs) ys = of (test tag.kind) (ends-append test xs ys)
@@ -68,7 +68,7 @@ one-end tag [] = of (ends_reply tag.kind)
     of false = refl
 one-end tag (c ∷ cs) = one-end tag cs
 
-no-ends : (place : ℕ) (lines : List (List ℕ)) → ends_of ends_reply (flat_map message_marks (answers_from 0 place lines)) ≡ 0
+pub no-ends : (place : ℕ) (lines : List (List ℕ)) → ends_of ends_reply (flat_map message_marks (answers_from 0 place lines)) ≡ 0
 no-ends place [] = refl
 no-ends place (line ∷ lines) =
     ends-append ends_reply (message_marks (message_of Kind.Ans 0 (place % MESSAGE_NUMBERS) (body_of (line ∷ [])))) (flat_map message_marks (answers_from 0 (place + 1) lines))
@@ -102,17 +102,16 @@ one-more lines line =
 
 -- ---- the next message
 
--- the answer of the next line
-pub gives-answer : (lines : List (List ℕ)) (count : ℕ) (given : List Mark) (line : List ℕ) → LinesGiven lines count given → slice_get lines count ≡ Some line
-    → LinesGiven lines (count + 1) (given ++ given_marks (next_message Kind.Ans (body_of (line ∷ [])) given))
-gives-answer lines count given line (all_given others all is replies) at = absurd (let within = within-of lines count line at in omega (arith, within, all))
-gives-answer lines count given line (some_given is) at =
-    some_given (ap (λ (ms : List Mark). ms ++ given_marks (next_message Kind.Ans (body_of (line ∷ [])) ms)) is
+-- the answer of the next line after those of the lines before
+pub next-answer : (lines : List (List ℕ)) (count : ℕ) (given : List Mark) (line : List ℕ) → given ≡ answers_of (take count lines) → slice_get lines count ≡ Some line
+    → given ++ given_marks (next_message Kind.Ans (body_of (line ∷ [])) given) ≡ answers_of (take (count + 1) lines)
+next-answer lines count given line is at =
+    ap (λ (ms : List Mark). ms ++ given_marks (next_message Kind.Ans (body_of (line ∷ [])) ms)) is
     ∙ ap (λ (t : Tag). answers_of (take count lines) ++ (map (octet t) (body_of (line ∷ [])) ++ end t ∷ [])) tag-is
     ∙ sym (flat_map-append message_marks (answers_from 0 0 (take count lines)) (message_of Kind.Ans 0 (length (take count lines) % MESSAGE_NUMBERS) (body_of (line ∷ [])) ∷ [])
     ∙ ap (λ (ms : List Mark). answers_of (take count lines) ++ ms) (append-nil _))
     ∙ ap (flat_map message_marks) (sym (one-more (take count lines) line))
-    ∙ sym (ap answers_of (take-more lines count line at)))
+    ∙ sym (ap answers_of (take-more lines count line at))
   where
     an-answer : ℕ → ℕ → Tag
     an-answer request ansno = record { kind = Kind.Ans; request = request; ansno = ansno }
@@ -122,6 +121,20 @@ gives-answer lines count given line (some_given is) at =
     tag-is =
         ap (λ (n : ℕ). an-answer (modulo_2_64 n) (message_number (answers_after 0 (answers_of (take count lines))))) (no-ends 0 (take count lines))
         ∙ ap (λ (n : ℕ). an-answer 0 (message_number n)) (all-lines (take count lines))
+
+-- the answer of the next line
+pub gives-answer : (lines : List (List ℕ)) (count : ℕ) (given : List Mark) (line : List ℕ) → LinesGiven lines count given → slice_get lines count ≡ Some line
+    → LinesGiven lines (count + 1) (given ++ given_marks (next_message Kind.Ans (body_of (line ∷ [])) given))
+gives-answer lines count given line (all_given others all is replies) at = absurd (let within = within-of lines count line at in omega (arith, within, all))
+gives-answer lines count given line (some_given is) at = some_given (next-answer lines count given line is at)
+
+-- the end of the answers after those of all lines
+pub next-nul : (lines : List (List ℕ)) (count : ℕ) (given : List Mark) → given ≡ answers_of (take count lines) → length lines ≤ count
+    → given ++ given_marks (next_message Kind.Nul [] given) ≡ answers_of lines ++ flat_map message_marks (nul 0 ∷ [])
+next-nul lines count given is enough =
+    ap (λ (ms : List Mark). ms ++ given_marks (next_message Kind.Nul [] ms)) is
+    ∙ ap (λ (n : ℕ). answers_of (take count lines) ++ end (record { kind = Kind.Nul; request = modulo_2_64 n; ansno = 0 }) ∷ []) (no-ends 0 (take count lines))
+    ∙ ap (λ (ls : List (List ℕ)). answers_of ls ++ end (record { kind = Kind.Nul; request = 0; ansno = 0 }) ∷ []) (take_all count lines enough)
 
 -- the end of the answers
 pub gives-nul : (lines : List (List ℕ)) (count : ℕ) (given : List Mark) → LinesGiven lines count given → length lines ≤ count

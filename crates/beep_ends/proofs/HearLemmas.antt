@@ -20,7 +20,7 @@ use Rattle.beep_steps.specs.Steps.{EndsSo, IsUntaken, TookNone, TookPart}
 use Rattle.beep_steps.proofs.OnLemmas.{got-rest}
 use Rattle.beep_ends.specs.Listening.{Listens, ListensDry, ListensTaking, ListensWaiting, PartOf, TellsLines, WritesLines, is_whole, part_lines, plan_of}
 use Rattle.beep_ends.proofs.ListenLemmas.{stays-listens}
-use Rattle.beep_ends.proofs.PartLemmas.{taking-ends, taking-part, taking-stops}
+use Rattle.beep_ends.proofs.PartLemmas.{taking-ends, taking-last, taking-part, taking-stops}
 use Rattle.beep_ends.proofs.TextLemmas.{nothing-writes, shown-all, stop-writes, writes-less, written-all, written-some}
 
 -- nothing more was written
@@ -102,6 +102,11 @@ module _ (number count : ℕ) (old new : Held) (bodies now : List Body) (buffer 
       → WithText mid after (λ more. ListensTaking number (count + 1) new now later log (text ++ more))
   takes-one stays p mid after g =
       text-map mid after _ _ (λ more e. taking-part number count old new bodies now buffer later text more log t part octets stays took-of p e) g
+
+  pub takes-last : part.ended ≡ true → StaysOn old new → PartOf number (part_marks part octets) bodies now → (mid after : Option (List ℕ))
+      → GathersAll mid after buffer (part_lines number part octets bodies) later → WithText mid after (λ more. Listens new now later log (text ++ more))
+  takes-last ended stays p mid after g =
+      text-map mid after _ _ (λ more e. taking-last number count old new bodies now buffer later text more log t part octets ended stays took-of p e) g
 
   pub takes-less : (plan : PlainPlan) → plan_of old ≡ plan → (mid after : Option (List ℕ)) → GathersSome mid after buffer (part_lines number part octets bodies) later
       → WithText mid after (λ more. WritesLines plan false log ((text ++ more) ++ later))

@@ -1,6 +1,6 @@
 -- A frame that arrived is taken, part by part.
 use Rattle.std.proofs.Common.{◌≡◌, ◌∙◌, refl, sym, ap, subst, ℕ, suc, ◌==◌, ◌<◌, ◌≤◌, ◌+◌, Bool, true, false, not, ◌&&◌, if◌then◌else◌, List, [], ◌∷◌, ◌++◌, flat_map, length, map, take, Option, Some, None, append-nil, append_assoc, length-append, arith}
-use Rattle.std.specs.Prelude.{is_some, OnErr, Result, Ok, Err}
+use Rattle.std.specs.Prelude.{is_some, nat_lt, ◌||◌, OnErr, Result, Ok, Err}
 use Rattle.std.proofs.lemmas.Grind.{flat_map-append}
 use Rattle.std.proofs.lemmas.Bool.Decides.{nat_tests}
 use Rattle.beep_frame.specs.declared.head.Head.{Head}
@@ -12,7 +12,7 @@ use Rattle.beep_history.specs.Moments.{mark_tag}
 use Rattle.beep_history.specs.Messages.{same_tag, left_from, cut_from}
 use Rattle.beep_inbox.specs.declared.part.Part.{Part}
 use Rattle.beep_inbox.specs.Laws.{part_marks}
-use Rattle.beep_inbox.specs.Runs.{marks_of, marks_with}
+use Rattle.beep_inbox.specs.Runs.{AllMarked, Run, marks_of, marks_with}
 use Rattle.beep_journal.specs.Broken.{none_tunes}
 use Rattle.beep_journal.specs.Journal.{Past}
 use Rattle.beep_journal.specs.Life.{history, is_released, is_there, life_now, life_under_way}
@@ -479,6 +479,77 @@ taking-ends number count old new bodies buffer text log t none =
             dead : (b : Bool) → is_there t.head.channel t.before ≡ b → map mark_modulo_2_64 (arrived_marks t.head t.payload t.before) ≡ []
             dead true e = absurd (let h : true ≡ false = sym e ∙ gone in cc)
             dead false e = rw e refl
+
+-- marks of which only the last one ends a message
+abbrev EndsLast : List Mark → Type 0
+EndsLast [] = Unit {0}
+EndsLast (octet tag value ∷ others) = EndsLast others
+EndsLast (end tag ∷ others) = others ≡ []
+
+ends-behind : (front rest : List Mark) → EndsLast (front ++ rest) → EndsLast rest
+ends-behind [] rest e = e
+ends-behind (octet tag value ∷ front) rest e = ends-behind front rest e
+ends-behind (end tag ∷ front) rest e = by front rest e
+  where
+    by : (xs ys : List Mark) → xs ++ ys ≡ [] → EndsLast ys
+    by [] [] e = tt
+    by [] (y ∷ ys) e = absurd (let h : y ∷ ys ≡ [] = e in cc)
+    by (x ∷ xs) ys e = absurd (let h : x ∷ (xs ++ ys) ≡ [] = e in cc)
+
+ends-with : (tag : Tag) (octets : List ℕ) (ended : Bool) → EndsLast (map mark_modulo_2_64 (marks_with tag octets ended))
+ends-with tag [] true = refl
+ends-with tag [] false = tt
+ends-with tag (value ∷ octets) ended = ends-with tag octets ended
+
+ends-part : (tag : Tag) (octets : List ℕ) (rest : List Mark) → EndsLast (marks_with tag octets true ++ rest) → rest ≡ []
+ends-part tag [] rest e = e
+ends-part tag (value ∷ octets) rest e = ends-part tag octets rest e
+
+-- after the end of its message nothing is left of a frame
+last-rest : (head : Head) (payload : List ℕ) (before : List Item) (part : Part) (octets : List ℕ) (front rest : List Mark)
+    → map mark_modulo_2_64 (arrived_marks head payload before) ≡ front ++ (part_marks part octets ++ rest) → part.ended ≡ true → rest ≡ []
+last-rest head payload before part octets front rest are ended =
+    ends-part part.tag (take part.len octets) rest
+    (subst (λ e. EndsLast (marks_with part.tag (take part.len octets) e ++ rest)) ended
+    (ends-behind front (part_marks part octets ++ rest) (subst EndsLast are
+    (arrived (is_there head.channel before && life_under_way head.channel Side.Received before == life_now head.channel before)))))
+  where
+    arrived : (b : Bool) → EndsLast (map mark_modulo_2_64 (if b then frame_marks (tag_of Side.Received (history head.channel before) head) head payload else []))
+    arrived true =
+        let tag = tag_of Side.Received (history head.channel before) head in
+        subst (λ m. EndsLast (map mark_modulo_2_64 m)) (sym (frame-with tag head payload)) (ends-with tag payload (not head.more))
+    arrived false = tt
+
+-- marked runs without a mark are none
+runs-none : (runs : List Run) → AllMarked runs → marks_of runs ≡ [] → runs ≡ []
+runs-none [] all e = refl
+runs-none (run ∷ runs) all e = absurd (by run.octets run.ended all.0 e)
+  where
+    by : (octets : List ℕ) (ended : Bool) → (nat_lt 0 (length octets) || ended) ≡ true → marks_with run.tag octets ended ++ marks_of runs ≡ [] → ⊥
+    by [] true h e = let k : end run.tag ∷ marks_of runs ≡ [] = e in cc
+    by [] false h e = cc
+    by (x ∷ octets) ended h e = let k : octet run.tag x ∷ (marks_with run.tag octets ended ++ marks_of runs) ≡ [] = e in cc
+
+-- all of the frame is taken, by its last part
+taking-done : (number count : ℕ) (session : Held) (bodies : List Body) (buffer text : List ℕ) (log : List Moment) (t : ListensTaking number count session bodies buffer log text)
+    → t.left ≡ [] → Listens session bodies buffer log text
+taking-done number count session bodies buffer text log t none =
+    taking-ends number count session session bodies buffer text log t (record { same = refl; taken = at-number })
+  where
+    at-number : IsTakenAt number session.peer.lives
+    at-number above channel at =
+        let here : live_at t.head.channel session.peer.lives ≡ Some channel = ap (λ n. live_at n session.peer.lives) t.channel ∙ at in
+        let there = t.on.stands.stands.holds.live.above t.head.channel channel t.above here in
+        runs-none channel.held.inbox there.held.sums.marked (t.untaken.own channel here ∙ none)
+
+-- a take by which the end of its message is taken takes the last of a frame
+pub taking-last : (number count : ℕ) (old new : Held) (bodies now : List Body) (buffer later text more : List ℕ) (log : List Moment) (t : ListensTaking number count old bodies buffer log text)
+    (part : Part) (octets : List ℕ) → part.ended ≡ true → StaysOn old new → TookPart number part octets t.left new → PartOf number (part_marks part octets) bodies now
+    → buffer ++ part_lines number part octets bodies ≡ more ++ later → Listens new now later log (text ++ more)
+unfolding taking-part
+taking-last number count old new bodies now buffer later text more log t part octets ended stays took p e =
+    taking-done number (count + 1) new now later (text ++ more) log (taking-part number count old new bodies now buffer later text more log t part octets stays took p e)
+    (last-rest t.head t.payload t.before part octets t.front took.rest (t.marks_are ∙ ap (λ x. t.front ++ x) took.left_is) ended)
 
 -- nothing is left
 pub taking-over : (number count : ℕ) (session : Held) (bodies : List Body) (buffer text : List ℕ) (log : List Moment) → ListensTaking number count session bodies buffer log text

@@ -1,28 +1,26 @@
 -- What each step of a sender leaves of what it has said.
-use Rattle.std.proofs.Common.{◌≡◌, ℕ, ◌+◌, ◌≤◌, Bool, true, false, ◌||◌, ◌&&◌, List, [], ◌∷◌, length, slice_get, Option, None, Some, refl, sym, ap, ◌∙◌, subst}
+use Rattle.std.proofs.Common.{◌≡◌, ℕ, ◌+◌, ◌≤◌, Bool, true, false, ◌||◌, List, [], ◌∷◌, length, slice_get, Some, refl, sym, ap, ◌∙◌, subst}
 use Rattle.std.specs.Prelude.{Result, Ok, Err, OnOk, IfOk}
 use Rattle.beep_frame.specs.declared.kind.Kind.{Kind}
 use Rattle.beep_history.specs.Journal.{Item}
-use Rattle.beep_history.specs.Marks.{Mark}
 use Rattle.beep_journal.specs.Life.{is_there}
 use Rattle.beep_journal.specs.Log.{Moment}
 use Rattle.beep_standing.specs.Standing.{Marks}
 use Rattle.beep_peer.specs.Peering.{IsPeer}
-use Rattle.beep_session.specs.Channels.{IsOpen, Gives, IsStill}
+use Rattle.beep_session.specs.Channels.{IsOpen, Gives}
 use Rattle.beep_session.specs.Lawfully.{terms_of, KeepsUpright}
 use Rattle.beep_lawful.specs.declared.terms.Terms.{Terms}
 use Rattle.beep_session.specs.Session.{Held}
 use Rattle.prof_raw.specs.Entries.{body_of}
 use Rattle.beep_talk.specs.declared.plan.Command.{Command}
 use Rattle.beep_talk.specs.Plan.{PlainPlan}
-use Rattle.beep_script.specs.Sending.{LinesGiven}
 use Rattle.beep_steps.specs.Sending.{Progress, SendsOn, SendsWaiting, KeepsSending, at_next}
 use Rattle.beep_steps.proofs.CallSends.{gives-sends}
 use Rattle.beep_ends.specs.Sender.{plan_by}
 use Rattle.beep_ends.proofs.GivesLemmas.{gives-answer, gives-nul}
 
 -- a channel that is open is live
-alive-at : (session : Held) → IsOpen 1 session → (journal : List Item) (given taken : Marks) (fed rest : List ℕ)
+pub alive-at : (session : Held) → IsOpen 1 session → (journal : List Item) (given taken : Marks) (fed rest : List ℕ)
     → IsPeer session.limits.window fed rest journal given taken session.peer → is_there 1 journal ≡ true
 alive-at session live journal given taken fed rest is = is.holds.live.there 1 ∙ live.live
 
@@ -87,6 +85,10 @@ pub always-ok : {A E : Type 0} (result : Result A E) (P : Type 0) → P → OnOk
 always-ok (Ok value) P p = p
 always-ok (Err error) P p = tt
 
+pub ok-both : {A E : Type 0} (result : Result A E) (P Q R : A → Type 0) → ((a : A) → P a → Q a → R a) → IfOk result P → IfOk result Q → IfOk result R
+ok-both (Ok value) P Q R f p q = f value p q
+ok-both (Err error) P Q R f p q = p
+
 pub ok-all : {A E : Type 0} (result : Result A E) (P Q R S : A → Type 0) → ((a : A) → P a → Q a → R a → S a) → IfOk result P → IfOk result Q → IfOk result R → IfOk result S
 ok-all (Ok value) P Q R S f p q r = f value p q r
 ok-all (Err error) P Q R S f p q r = p
@@ -102,7 +104,7 @@ waits-terms plan terms p session log s = record {
     fresh = s.sends.fresh;
     some = s.sends.some;
     whole = s.sends.whole;
-    closed = s.sends.closed;
+    closes = s.sends.closes;
   };
 }
 

@@ -1,5 +1,5 @@
 -- All that comes to a listener is served, so what it wrote is the lines of the session that its log shows.
-use Rattle.std.proofs.Common.{◌≡◌, ◌<◌, ◌≤◌, ◌^◌, ℕ, Bool, List, [], ◌∷◌, Option, None, Some, ◌⊎◌, inl, inr, subst, sym, ap, arith}
+use Rattle.std.proofs.Common.{◌≡◌, ◌<◌, ◌^◌, ℕ, Bool, List, [], ◌∷◌, Option, None, Some, ◌⊎◌, inl, inr, subst, sym, ap, arith}
 use Rattle.beep_journal.specs.Broken.{none_tunes}
 use Rattle.beep_journal.specs.Journal.{Past, Shows}
 use Rattle.beep_decide.specs.Decide.{PlainOffer}

@@ -2,19 +2,19 @@
 -- octets so far of each answer that has come in part, and the lines of those that are whole (RFC
 -- 3195, section 3).
 -- The code keeps no journal, no marks, and no list of the answers that are whole.
-use Rattle.std.specs.Prelude.{◌≡◌, ℕ, ◌+◌, ◌<◌, ◌≤◌, ◌^◌, ◌==◌, Bool, true, false, ◌&&◌, List, [], ◌∷◌, ◌++◌, flat_map, length, map}
+use Rattle.std.specs.Prelude.{◌≡◌, ℕ, ◌+◌, ◌≤◌, ◌==◌, Bool, true, false, ◌&&◌, List, [], ◌∷◌, ◌++◌, flat_map, length, map}
 use Rattle.beep_frame.specs.declared.head.Head.{Head}
 use Rattle.beep_frame.specs.declared.kind.Kind.{Kind}
 use Rattle.beep_frame.specs.declared.tag.Tag.{Tag}
 use Rattle.beep_frame.specs.Frame.{same_kind}
 use Rattle.beep_history.specs.declared.journal.Side.{Side}
-use Rattle.beep_history.specs.Journal.{Item, began, passed, told}
-use Rattle.beep_history.specs.Marks.{Mark, marks, mark_modulo_2_64, position_of}
+use Rattle.beep_history.specs.Journal.{Item, passed}
+use Rattle.beep_history.specs.Marks.{Mark, marks, mark_modulo_2_64}
 use Rattle.beep_history.specs.Messages.{cut_from, left_from}
 use Rattle.beep_journal.specs.Broken.{none_tunes}
 use Rattle.beep_journal.specs.Journal.{Past, Shows}
 use Rattle.beep_journal.specs.declared.role.Role.{Role}
-use Rattle.beep_journal.specs.Life.{history, is_released, is_there, life_now}
+use Rattle.beep_journal.specs.Life.{history, is_released, is_there}
 use Rattle.beep_journal.specs.Log.{Moment}
 use Rattle.beep_inbox.specs.declared.part.Part.{Part}
 use Rattle.beep_inbox.specs.Laws.{part_marks}
@@ -33,6 +33,7 @@ use Rattle.beep_link.specs.declared.ended.Ended.{Ended}
 use Rattle.beep_settings.specs.declared.settings.Settings.{Settings}
 use Rattle.beep_wires.specs.Log.{Entry}
 use Rattle.beep_steps.specs.Logs.{moments, terms_by, AreTaken, Shows as ShowsEnd, StandsOn, WaitsOn}
+use Rattle.beep_steps.specs.Refusing.{GoesUnrefused, IsUnrefused, Unrefused}
 use Rattle.beep_steps.specs.Serving.{ServesOn, ShowsServing}
 use Rattle.beep_steps.specs.Steps.{arrived_marks, IsUntaken}
 
@@ -88,7 +89,8 @@ pub record TellsLines (plan : PlainPlan) (cause : Ended) (log : List Entry) (tex
 
 -- the same, of an end that served its profile alone
 abbrev pub TellsServed : PlainPlan → Ended → List Entry → List ℕ → Type 0
-TellsServed plan cause log text = TellsLines plan cause log text × ShowsServing plan (moments log)
+TellsServed plan cause log text = TellsLines plan cause log text
+    × ShowsServing plan (moments log) × GoesUnrefused plan.terms cause log
 
 -- what was written is the lines of the session that a log shows, or a beginning of them, whatever
 -- came
@@ -142,10 +144,22 @@ pub record ListensDry (session : Held) (bodies : List Body) (buffer : List ℕ) 
   pub listens : Listens session bodies buffer log text
   pub dry : buffer ≡ []
 
--- the same, of a session that served its profile alone
+-- a listener stands for what a log shows, in which the peer refused nothing
+pub record UnrefusedOn (session : Held) (log : List Moment) : Type 0 where
+  pub on : StandsOn session log
+  pub role : session.role ≡ Role.Listener
+  pub unrefused : IsUnrefused Command.Listen false log
+
+-- the same while a message of channel zero waits
+pub record UnrefusedWaiting (session : Held) (log : List Moment) : Type 0 where
+  pub on : WaitsOn session log
+  pub role : session.role ≡ Role.Listener
+  pub unrefused : Unrefused Command.Listen false on.journal
+
+-- it stands for it between two reads, served its profile alone, and was refused nothing
 abbrev pub ListensServed : Held → List Body → List ℕ → List Moment → List ℕ → Type 0
-ListensServed session bodies buffer log text =
-    ListensDry session bodies buffer log text × ServesOn (plan_of session) session log
+ListensServed session bodies buffer log text = ListensDry session bodies buffer log text
+    × ServesOn (plan_of session) session log × UnrefusedOn session log
 
 -- the same while a message of channel zero waits
 pub record ListensWaiting (session : Held) (bodies : List Body) (buffer : List ℕ)

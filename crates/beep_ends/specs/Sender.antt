@@ -6,6 +6,8 @@ use Rattle.beep_session.specs.Session.{Held}
 use Rattle.beep_talk.specs.declared.plan.Command.{Command}
 use Rattle.beep_talk.specs.Plan.{PlainPlan}
 use Rattle.beep_ends.specs.declared.sender.Sender.{Sender}
+use Rattle.beep_steps.specs.Scripting.{ScriptedOn, ScriptedWaiting}
+use Rattle.beep_steps.specs.Refusing.{IsUnrefused}
 use Rattle.beep_steps.specs.Sending.{Progress, SendsOn, SendsWaiting}
 
 -- what a sender over this session is to do, that asks for this profile and has these lines
@@ -27,7 +29,6 @@ progress_of sender = record {
   next = sender.next;
   asked = sender.asked;
   is_sent = sender.is_sent;
-  is_closed = sender.is_closed;
 }
 
 -- it stands for what a log shows, and has said so much of what it is to say
@@ -40,3 +41,21 @@ SendsWaitingBy sender log = SendsWaiting (plan_of sender) (progress_of sender) s
 -- a call that takes a sender so far leaves it further, whatever the log shows
 abbrev pub KeepsSendingBy : Sender → Sender → Type 0
 KeepsSendingBy old new = (log : List Moment) → SendsBy old log → SendsBy new log
+
+-- ---- its script
+
+-- it stands for what a log shows, and kept its script above channel zero so far
+abbrev pub ScriptsBy : Sender → List Moment → Type 0
+ScriptsBy sender log = ScriptedOn (plan_of sender) (progress_of sender) sender.session log
+
+abbrev pub ScriptsWaitingBy : Sender → List Moment → Type 0
+ScriptsWaitingBy sender log =
+    ScriptedWaiting (plan_of sender) (progress_of sender) sender.session log
+
+-- and the peer refused it nothing
+abbrev pub StandsBy : Sender → List Moment → Type 0
+StandsBy sender log = ScriptsBy sender log × IsUnrefused Command.Send sender.is_closing log
+
+-- a call leaves a sender that kept its script one that keeps it, whatever the log shows
+abbrev pub KeepsScriptingBy : Sender → Sender → Type 0
+KeepsScriptingBy old new = (log : List Moment) → ScriptsBy old log → ScriptsBy new log

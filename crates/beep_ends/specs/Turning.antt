@@ -7,6 +7,7 @@ use Rattle.beep_frame.specs.declared.rule.Rule.{Rule}
 use Rattle.beep_frame.specs.declared.seq.Seq.{Seq}
 use Rattle.beep_history.specs.declared.journal.Side.{Side}
 use Rattle.beep_history.specs.Journal.{Item, began, passed, told}
+use Rattle.beep_journal.specs.declared.role.Role.{Role}
 use Rattle.beep_journal.specs.Broken.{none_tunes, broken_head, broken_content, broken_seq}
 use Rattle.beep_journal.specs.Journal.{Past, Shows, TakesOctet, TakesWhere, goes_on, begins, passes, seq_ends}
 use Rattle.beep_journal.specs.Log.{Moment, put, put_all}
@@ -17,17 +18,19 @@ use Rattle.beep_logged.specs.Logged.{IsLogged}
 use Rattle.beep_logged.proofs.EndLemmas.{put-append}
 use Rattle.beep_logged.proofs.ReadLemmas.{quiet-logged, over-logged}
 use Rattle.beep_peer.specs.Peering.{is_over}
+use Rattle.beep_talk.specs.declared.plan.Command.{Command}
 use Rattle.beep_talk.specs.Plan.{PlainPlan}
 use Rattle.beep_script.specs.Lines.{lines}
 use Rattle.beep_lines.specs.declared.bodies.Body.{Body}
 use Rattle.beep_wires.specs.Log.{Entry, wrote, quiet, ended}
 use Rattle.beep_link.specs.Causes.{IsOfFaults, IsOfReads}
 use Rattle.beep_link.specs.declared.ended.Ended.{Ended}
-use Rattle.beep_steps.specs.Logs.{moments}
-use Rattle.beep_steps.specs.Turning.{shown_on, spends_on, stops_on, closes_serving, quiets_serving, writes_serving}
+use Rattle.beep_steps.specs.Logs.{moments, command_of}
+use Rattle.beep_steps.specs.Refusing.{GoesUnrefused, IsUnrefused}
+use Rattle.beep_steps.specs.Turning.{shown_on, spends_on, stops_on, none_refused, faults_refused, writes_on, quiets_on, closes_on, closes_serving, quiets_serving, writes_serving, writes_unrefused, quiets_unrefused, closes_unrefused}
 use Rattle.beep_steps.proofs.ServeLemmas.{shows-served}
 use Rattle.beep_steps.proofs.StepLemmas.{same-lines}
-use Rattle.beep_ends.specs.Listening.{plan_of, IsServed, ListensDry, ListensServed, TellsLines, TellsServed, WritesLines, is_whole}
+use Rattle.beep_ends.specs.Listening.{plan_of, IsServed, ListensDry, ListensServed, TellsLines, TellsServed, UnrefusedOn, WritesLines, is_whole}
 
 -- ---- what is written brings no line
 
@@ -216,6 +219,44 @@ module _ (session : Held) (bodies : List Body) (buffer : List ℕ) where
       lines = spends_lines cause is;
     }
 
+  -- ---- one that was refused nothing
+
+  -- a listener was told to listen
+  as_told : session.role ≡ Role.Listener → (log : List Moment)
+      → IsUnrefused Command.Listen false log → IsUnrefused (command_of session.role) false log
+  as_told role log u =
+      subst (λ (c : Command). IsUnrefused c false log) (sym (ap command_of role)) u
+
+  pub goes_refused : (log : List Entry) (cause : Ended) → UnrefusedOn session (moments log)
+      → GoesUnrefused (terms_of session) cause log
+  goes_refused log cause u =
+      none_refused (terms_of session) false cause log (as_told u.role (moments log) u.unrefused)
+
+  writes_refusing : (log : List Entry) (front octets : List ℕ)
+      → UnrefusedOn session (put_all (front ++ octets) (moments log))
+      → UnrefusedOn session (put_all octets (moments (wrote front ∷ log)))
+  writes_refusing log front octets u = record {
+    on = writes_on session log front octets u.on;
+    role = u.role;
+    unrefused = writes_unrefused Command.Listen false log front octets u.unrefused;
+  }
+
+  quiets_refusing : (log : List Entry) → UnrefusedOn session (moments log)
+      → UnrefusedOn session (moments (quiet ∷ log))
+  quiets_refusing log u = record {
+    on = quiets_on session log u.on;
+    role = u.role;
+    unrefused = quiets_unrefused Command.Listen false log u.unrefused;
+  }
+
+  closes_refusing : (log : List Entry) → UnrefusedOn session (moments log)
+      → UnrefusedOn session (moments (ended ∷ log))
+  closes_refusing log u = record {
+    on = closes_on session log u.on;
+    role = u.role;
+    unrefused = closes_unrefused Command.Listen false log u.unrefused;
+  }
+
   -- ---- one that served its profile alone
 
   pub writes_served : (log : List Entry) (front octets text : List ℕ)
@@ -224,19 +265,26 @@ module _ (session : Held) (bodies : List Body) (buffer : List ℕ) where
   writes_served log front octets text s = (
     writes_listening log front octets text s.0,
     writes_serving (plan_of session) session log front octets s.1,
+    writes_refusing log front octets s.2,
   )
 
   pub quiets_served : (log : List Entry) (text : List ℕ)
       → ListensServed session bodies buffer (moments log) text
       → ListensServed session bodies buffer (moments (quiet ∷ log)) text
-  quiets_served log text s =
-      (quiets_listening log text s.0, quiets_serving (plan_of session) session log s.1)
+  quiets_served log text s = (
+    quiets_listening log text s.0,
+    quiets_serving (plan_of session) session log s.1,
+    quiets_refusing log s.2,
+  )
 
   pub closes_served : (log : List Entry) (text : List ℕ)
       → ListensServed session bodies buffer (moments log) text
       → ListensServed session bodies buffer (moments (ended ∷ log)) text
-  closes_served log text s =
-      (closes_listening log text s.0, closes_serving (plan_of session) session log s.1)
+  closes_served log text s = (
+    closes_listening log text s.0,
+    closes_serving (plan_of session) session log s.1,
+    closes_refusing log s.2,
+  )
 
   pub stops_served : (log : List Entry) (octets text : List ℕ)
       → ListensServed session bodies buffer (put_all octets (moments log)) text
@@ -244,6 +292,7 @@ module _ (session : Held) (bodies : List Body) (buffer : List ℕ) where
   stops_served log octets text s cause is = (
     stops_listening log octets text s.0 cause is,
     shows-served (plan_of session) session octets (moments log) s.1,
+    faults_refused (terms_of session) cause log is,
   )
 
   pub spends_served : (log : List Entry) (text : List ℕ)
@@ -253,4 +302,5 @@ module _ (session : Held) (bodies : List Body) (buffer : List ℕ) where
   spends_served log text s cause is going = (
     spends_listening log text s.0 cause is going,
     shows-served (plan_of session) session [] (moments log) s.1,
+    goes_refused log cause s.2,
   )

@@ -6,6 +6,7 @@ mod asking;
 mod listener;
 mod listening;
 mod pruning;
+mod refusing;
 #[cfg(test)]
 mod samples;
 mod sender;

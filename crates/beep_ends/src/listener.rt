@@ -1,24 +1,29 @@
 //! What a listener does as messages come and go: it asks for lines on each channel, and writes the
 //! lines of each answer (RFC 3195, section 3.1).
-ghost use Rattle.std.specs.Prelude.{◌≡◌, ◌≤◌, ◌∷◌, ◌++◌, [], ℕ, List, vec_len, false, IfErr, IfOk, OnOk};
+ghost use Rattle.std.specs.Prelude.{◌≡◌, ◌≤◌, ◌∷◌, ◌++◌, ◌==◌, [], ℕ, List, vec_len, true, false, IfErr, IfOk, OnOk};
 ghost use Rattle.beep_wires.specs.Counts.{Rose};
 ghost use Rattle.beep_wires.specs.Log.{Entry, read as came};
 ghost use Rattle.beep_journal.specs.Log.{Moment, put_all};
 ghost use Rattle.beep_peer.specs.Peering.{is_over};
+ghost use Rattle.beep_mgmt.specs.Form.{fault};
+ghost use Rattle.beep_mgmt.specs.Message.{message_text};
+ghost use Rattle.beep_journal.specs.Life.{is_there};
+ghost use Rattle.beep_decide.specs.Decide.{note_of};
 ghost use Rattle.beep_talk.specs.Plan.{PlainPlan};
 ghost use Rattle.beep_link.specs.Causes.{ended_by, WithText};
 ghost use Rattle.beep_link.specs.declared.end.TheConstants.{FRAME_ROOM};
 ghost use Rattle.beep_link.specs.declared.ended.Stop.{Stop as StopValue};
 ghost use Rattle.beep_ends.specs.declared.listener.TheConstants.{TAKEN};
-ghost use Rattle.beep_ends.specs.Listening.{plan_of, Listens, ListensServed, TellsServed};
+ghost use Rattle.beep_ends.specs.Listening.{plan_of, Listens, UnrefusedOn};
 ghost use Rattle.beep_steps.specs.Logs.{moments, StaysOn};
 ghost use Rattle.beep_steps.specs.Serving.{KeepsServing, ServesOn};
 
 mod hearing;
 
-use crate::asking::{ask_lines, first_live, refusal_text, refuse_oldest};
+use crate::asking::{
+    ask_lines, first_live, has_number, keep_live, keep_others, refusal_text, refuse_oldest,
+};
 use crate::pruning::prune;
-use beep_frame::Head;
 use beep_lines::{Bodies, Lines};
 use beep_link::{BUFFER, End, FRAME_ROOM, Stop};
 use beep_octets::{NoMemory, Octets};
@@ -31,25 +36,34 @@ use std::alloc::Global;
 /// How many octets are taken at once: a frame has no more.
 const TAKEN: usize = 65536;
 
-/// A session that listens.
+/// A session that listens. It notes the numbers of the starts that it granted and that have no
+/// life yet, those of the lives in which it said what is to be said first, and whether the peer has
+/// asked to close the session.
 #[derive(Drop)]
 pub(crate) struct Listener {
     session: Session,
     refusal: Octets,
     starting: Vec<u32>,
+    spoken: Vec<u32>,
     owing: Vec<u32>,
+    leaving: bool,
     bodies: Bodies,
     taken: Vec<u8>,
     lines: Lines,
     ghost room: { vec_len taken ≡ TAKEN },
+    ghost refuses: { refusal.octets ≡ message_text (fault 550 (note_of 550)) },
 }
 
 impl Listener {
+    ghost use Rattle.beep_steps.specs.Speaking.{no_notes, IsBorn};
+    ghost use Rattle.beep_ends.specs.Speaking.{notes_of, KeepsSpeakingBy, SpeaksBy, SpeaksGoneBy};
+
     /// A listener over a session in which nothing has happened.
     pub(crate) fn new(alloc: Global, session: Session) -> Result<Listener, NoMemory>
         ensures session { IfOk result (λ listener. listener.session ≡ session) }
         ensures bodies { IfOk result (λ listener. listener.bodies ≡ []) }
         ensures lines { IfOk result (λ listener. listener.lines.octets.octets ≡ []) }
+        ensures notes { IfOk result (λ listener. notes_of listener ≡ no_notes) }
     {
         let mut taken = Vec::new(alloc);
         taken.resize(TAKEN, 0)?;
@@ -57,7 +71,9 @@ impl Listener {
             session,
             refusal: refusal_text(alloc)?,
             starting: Vec::new(alloc),
+            spoken: Vec::new(alloc),
             owing: Vec::new(alloc),
+            leaving: false,
             bodies: Bodies::new(alloc),
             taken,
             lines: Lines::new(alloc)?,
@@ -75,6 +91,13 @@ impl Listener {
         ensures serving { (plan : PlainPlan) (log : List Moment)
             → ServesOn plan self.old.session (put_all out.old.octets log)
             → ServesOn plan self.new.session (put_all out.new.octets log) }
+        ensures speaking { (plan : PlainPlan) (log : List Moment)
+            → ServesOn plan self.old.session (put_all out.old.octets log)
+            → SpeaksBy plan self.old (put_all out.old.octets log)
+            → SpeaksBy plan self.new (put_all out.new.octets log) }
+        ensures unrefused { (log : List Moment)
+            → UnrefusedOn self.old.session (put_all out.old.octets log)
+            → UnrefusedOn self.new.session (put_all out.new.octets log) }
         ensures plan { plan_of self.new.session ≡ plan_of self.old.session }
         ensures lines { self.new.lines ≡ self.old.lines }
     {
@@ -84,7 +107,7 @@ impl Listener {
                     return Ok(true);
                 }
                 prune(&mut self.bodies, &self.session);
-                self.begun(&head)
+                self.begun()
             }
             Emit::Seq(_) => Ok(true),
             Emit::Nothing => Ok(false),
@@ -93,22 +116,47 @@ impl Listener {
 
     /// Does what a frame of channel zero calls for that went out. Where it begins a life, and it
     /// begins one at most, the lines are asked for.
-    fn begun(&mut self, head: &Head) -> Result<bool, NoMemory>
+    fn begun(&mut self) -> Result<bool, NoMemory>
         ensures stays { StaysOn self.old.session self.new.session }
         ensures serving { (plan : PlainPlan)
             → KeepsServing plan self.old.session self.new.session }
+        ensures speaking { (plan : PlainPlan) (log : List Moment) → SpeaksGoneBy plan self.old log
+            → SpeaksBy plan self.new log }
         ensures bodies { self.new.bodies ≡ self.old.bodies }
         ensures lines { self.new.lines ≡ self.old.lines }
     {
-        if head.more || self.session.is_over() {
+        keep_live(&self.session, &mut self.spoken);
+        let begun = first_live(&self.session, self.starting.as_slice());
+        keep_others(&self.session, &mut self.starting);
+        match begun {
+            Some(number) => self.speak_first(number),
+            None => Ok(true),
+        }
+    }
+
+    /// Asks for lines in a life that begins. Once the peer has asked to close the session nothing
+    /// is asked. A life in which that can't be done is left alone.
+    fn speak_first(&mut self, number: u32) -> Result<bool, NoMemory>
+        ensures stays { StaysOn self.old.session self.new.session }
+        ensures serving { (plan : PlainPlan)
+            → KeepsServing plan self.old.session self.new.session }
+        ensures speaking { (plan : PlainPlan) (log : List Moment) (s : SpeaksBy plan self.old log)
+            → (number == 0) ≡ false → is_there number s.on.journal ≡ true
+            → IsBorn plan (notes_of self.old) number s.on.journal → SpeaksBy plan self.new log }
+        ensures bodies { self.new.bodies ≡ self.old.bodies }
+        ensures lines { self.new.lines ≡ self.old.lines }
+    {
+        self.spoken.reserve(1)?;
+        if self.leaving {
+            self.spoken.push_reserved(number);
             return Ok(true);
         }
-        let Some(i) = first_live(&self.session, self.starting.as_slice()) else {
-            return Ok(true);
-        };
-        let number = self.starting.remove(i);
         match ask_lines(&mut self.session, number) {
-            Ok(()) => Ok(true),
+            Ok(true) => {
+                self.spoken.push_reserved(number);
+                Ok(true)
+            }
+            Ok(false) => Ok(true),
             Err(NoMemory) => Err(NoMemory),
         }
     }
@@ -118,6 +166,7 @@ impl Listener {
         ensures stays { StaysOn self.old.session self.new.session }
         ensures serving { (plan : PlainPlan)
             → KeepsServing plan self.old.session self.new.session }
+        ensures speaking { (plan : PlainPlan) → KeepsSpeakingBy plan self.old self.new }
         ensures bodies { self.new.bodies ≡ self.old.bodies }
         ensures lines { self.new.lines ≡ self.old.lines }
     {
@@ -134,9 +183,13 @@ impl Listener {
         ensures stays { StaysOn self.old.session self.new.session }
         ensures serving { (plan : PlainPlan)
             → KeepsServing plan self.old.session self.new.session }
+        ensures speaking { (plan : PlainPlan) → KeepsSpeakingBy plan self.old self.new }
         ensures bodies { self.new.bodies ≡ self.old.bodies }
         ensures lines { self.new.lines ≡ self.old.lines }
     {
+        if !has_number(self.spoken.as_slice(), number) {
+            return Ok(());
+        }
         let is_given = refuse_oldest(&mut self.session, number, self.refusal.as_slice())?;
         if !is_given {
             self.owing.reserve(1)?;
@@ -147,33 +200,34 @@ impl Listener {
 }
 
 impl End for Listener {
-    ghost use Rattle.beep_ends.specs.Turning.{closes_served, quiets_served, spends_served, stops_served, writes_served};
+    ghost use Rattle.beep_ends.specs.Speaking.{notes_of};
+    ghost use Rattle.beep_ends.specs.SpeakingTurning.{ListensScripted, TellsScripted, closes_scripted, quiets_scripted, spends_scripted, stops_scripted, writes_scripted};
 
     ghost Terms = { PlainPlan };
 
     ghost terms = { λ listener. plan_of listener.session };
 
-    ghost stands = { λ one log octets text. ListensServed one.session one.bodies
-        one.lines.octets.octets (put_all octets (moments log)) text };
+    ghost stands = { λ one log octets text. ListensScripted one.session one.bodies
+        one.lines.octets.octets (notes_of one) (put_all octets (moments log)) text };
 
-    ghost tells = { λ plan ended log text. TellsServed plan ended log text };
+    ghost tells = { λ plan ended log text. TellsScripted plan ended log text };
 
     ghost goes = { λ listener. is_over listener.session.peer ≡ false };
 
-    ghost writes = { λ one log front octets text s. writes_served one.session one.bodies
-        one.lines.octets.octets log front octets text s };
+    ghost writes = { λ one log front octets text s. writes_scripted one.session one.bodies
+        one.lines.octets.octets (notes_of one) log front octets text s };
 
-    ghost quiets = { λ one log text s. quiets_served one.session one.bodies
-        one.lines.octets.octets log text s };
+    ghost quiets = { λ one log text s. quiets_scripted one.session one.bodies
+        one.lines.octets.octets (notes_of one) log text s };
 
-    ghost closes = { λ one log text s. closes_served one.session one.bodies
-        one.lines.octets.octets log text s };
+    ghost closes = { λ one log text s. closes_scripted one.session one.bodies
+        one.lines.octets.octets (notes_of one) log text s };
 
-    ghost stops = { λ one log octets text ended is s. stops_served one.session one.bodies
-        one.lines.octets.octets log octets text s ended is };
+    ghost stops = { λ one log octets text ended is s. stops_scripted one.session one.bodies
+        one.lines.octets.octets (notes_of one) log octets text s ended is };
 
-    ghost spends = { λ one log text ended is going s. spends_served one.session one.bodies
-        one.lines.octets.octets log text s ended is going };
+    ghost spends = { λ one log text ended is going s. spends_scripted one.session one.bodies
+        one.lines.octets.octets (notes_of one) log text s ended is going };
 
     fn gather(&mut self, out: &mut Octets) -> Result<bool, NoMemory> {
         let is_given = self.refill()?;
@@ -189,16 +243,18 @@ impl End for Listener {
     }
 
     fn hear<O: Sink>(&mut self, bytes: &[u8], output: &mut O) -> Result<(), Stop>
-        ensures heard { (log : List Entry) (text : List ℕ) → ListensServed self.old.session
-            self.old.bodies self.old.lines.octets.octets (moments log) text → OnOk result
+        ensures heard { (log : List Entry) (text : List ℕ) → ListensScripted self.old.session
+            self.old.bodies self.old.lines.octets.octets (notes_of self.old) (moments log) text
+            → OnOk result
             (WithText (O.state output.old).written (O.state output.new).written
-            (λ more. ListensServed self.new.session self.new.bodies self.new.lines.octets.octets
+            (λ more. ListensScripted self.new.session self.new.bodies
+            self.new.lines.octets.octets (notes_of self.new)
             (moments (came bytes.now ∷ log)) (text ++ more))) }
-        ensures stopped { (log : List Entry) (text : List ℕ) → ListensServed self.old.session
-            self.old.bodies self.old.lines.octets.octets (moments log) text
+        ensures stopped { (log : List Entry) (text : List ℕ) → ListensScripted self.old.session
+            self.old.bodies self.old.lines.octets.octets (notes_of self.old) (moments log) text
             → IfErr result (λ stop.
             WithText (O.state output.old).written (O.state output.new).written
-            (λ more. TellsServed (plan_of self.old.session) (ended_by stop)
+            (λ more. TellsScripted (plan_of self.old.session) (ended_by stop)
             (came bytes.now ∷ log) (text ++ more))) }
         ensures failed { IfErr result (λ stop. stop ≡ StopValue.WriteFault
             → Rose (O.state output.old).faults (O.state output.new).faults) }

@@ -6,8 +6,12 @@ ghost use Rattle.beep_answering.specs.Sent.{is_uri};
 ghost use Rattle.beep_decide.specs.Plain.{plain_offer};
 ghost use Rattle.beep_journal.specs.declared.role.Role.{Role as RoleValue};
 ghost use Rattle.beep_link.specs.Causes.{IsBounded, IsCaused, IsUnused, IsWritten, Keeps, WhereTold, WithText};
-ghost use Rattle.beep_ends.specs.Listening.{is_whole, listener_plan, plan_of, AreLinesOf, ListensServed};
+ghost use Rattle.beep_ends.specs.Listening.{is_whole, listener_plan, plan_of, AreLinesOf};
+ghost use Rattle.beep_ends.specs.Speaking.{notes_of};
+ghost use Rattle.beep_ends.specs.SpeakingTurning.{ListensScripted};
+ghost use Rattle.beep_steps.specs.Scripting.{KeepsAboveOn};
 ghost use Rattle.beep_steps.specs.Ends.{AreFit, reads_of};
+ghost use Rattle.beep_steps.specs.Refusing.{GoesUnrefused};
 ghost use Rattle.beep_steps.specs.Logs.{moments, IsLawfulOn, Shows, terms_by};
 
 use crate::listener::Listener;
@@ -43,11 +47,17 @@ pub fn listen_end<W: Wires, O: Sink>(
         (W.state wires.new link).log }
     ensures told { WhereTold (Shows (terms_by RoleValue.Listener settings.now) result)
         (W.state wires.new link).log }
+    ensures unrefused { WhereTold (GoesUnrefused (terms_by RoleValue.Listener settings.now)
+        result) (W.state wires.new link).log }
 
     // What was written is the lines that came, or a beginning of them.
     ensures lines { WhereTold (λ log.
         WithText (O.state output.old).written (O.state output.new).written
         (AreLinesOf (listener_plan settings.now) (is_whole result) (moments log)))
+        (W.state wires.new link).log }
+
+    // What was sent in each life above channel zero is the beginning of its script.
+    ensures scripted { WhereTold (KeepsAboveOn (listener_plan settings.now))
         (W.state wires.new link).log }
 
     // What stays, and how much and how often is read.
@@ -85,8 +95,8 @@ pub fn listen_end<W: Wires, O: Sink>(
 /// A listener that offers the profile RAW.
 fn begin(alloc: Global, settings: &Settings) -> Result<Listener, NoMemory>
     requires fit { AreFit settings.now }
-    ensures stands { IfOk result (λ listener. ListensServed listener.session listener.bodies
-        listener.lines.octets.octets [] []) }
+    ensures stands { IfOk result (λ listener. ListensScripted listener.session listener.bodies
+        listener.lines.octets.octets (notes_of listener) [] []) }
     ensures plan { IfOk result (λ listener.
         plan_of listener.session ≡ listener_plan settings.now) }
 {

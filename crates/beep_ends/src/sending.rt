@@ -5,8 +5,10 @@ ghost use Rattle.beep_link.specs.Causes.{IsCaused, IsUnused, Keeps, WhereTold};
 ghost use Rattle.beep_link.specs.declared.ended.Ended.{Ended as EndedValue};
 ghost use Rattle.beep_steps.specs.Ends.{AreFit, reads_of};
 ghost use Rattle.beep_steps.specs.Logs.{IsLawfulOn, Shows, terms_by};
+ghost use Rattle.beep_steps.specs.Refusing.{GoesUnrefused};
+ghost use Rattle.beep_steps.specs.Scripting.{KeepsAboveOn};
 ghost use Rattle.beep_steps.specs.Sending.{sender_plan, SendsAll};
-ghost use Rattle.beep_ends.specs.Sender.{plan_of, SendsBy};
+ghost use Rattle.beep_ends.specs.Sender.{plan_of, SendsBy, StandsBy};
 
 use crate::sender::Sender;
 use beep_answering::Offers;
@@ -41,10 +43,16 @@ pub fn send_end<W: Wires>(
         (W.state wires.new link).log }
     ensures told { WhereTold (Shows (terms_by RoleValue.Initiator settings.now) result)
         (W.state wires.new link).log }
+    ensures unrefused { WhereTold (GoesUnrefused (terms_by RoleValue.Initiator settings.now)
+        result) (W.state wires.new link).log }
 
     // Where the session is released all was sent.
     ensures sent { result ≡ EndedValue.Released → WhereTold
         (SendsAll (sender_plan settings.now lines.now)) (W.state wires.new link).log }
+
+    // What was sent on each channel above zero is the beginning of what is to be said there.
+    ensures scripted { WhereTold (KeepsAboveOn (sender_plan settings.now lines.now))
+        (W.state wires.new link).log }
 
     // What stays, and how often is read.
     ensures keeps { Keeps link
@@ -84,7 +92,8 @@ fn begin<'l>(
     lines: &'l Entries,
 ) -> Result<Sender<'l>, NoMemory>
     requires fit { AreFit settings.now }
-    ensures stands { IfOk result (λ sender. SendsBy sender []) }
+    ensures sends { IfOk result (λ sender. SendsBy sender []) }
+    ensures stands { IfOk result (λ sender. StandsBy sender []) }
     ensures plan { IfOk result (λ sender. plan_of sender ≡ sender_plan settings.now lines.now) }
 {
     let offers = Offers::new(alloc);

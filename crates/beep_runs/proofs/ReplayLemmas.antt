@@ -92,10 +92,7 @@ replayed terms Ended.NoMemory log verdict old new s r = elim s as (λ _. IsFineB
   | inl sound ↦ subst (IsFineBefore log) (sym (sound-fine terms log verdict old new r sound)) tt
   | inr stops ↦ stopped-fine terms log verdict old new r stops
 ]
-replayed terms (Ended.Refused code) log verdict old new s r = elim s as (λ _. IsFineBefore log verdict) [
-  | inl stops ↦ stopped-fine terms log verdict old new r stops
-  | inr released ↦ subst (IsFineBefore log) (sym (sound-fine terms log verdict old new r released.release.sound)) tt
-]
+replayed terms (Ended.Refused code) log verdict old new s r = stopped-fine terms log verdict old new r s.0
 replayed terms (Ended.Cut left) log verdict old new s r = sound-fine terms log verdict old new r s.sound
 replayed terms (Ended.Idle reads) log verdict old new s r = sound-fine terms log verdict old new r s.sound
 replayed terms (Ended.Spent octets) log verdict old new s r = sound-fine terms log verdict old new r s.sound

@@ -1,5 +1,5 @@
 -- What became of a link that was asked for, used and shut.
-use Rattle.std.proofs.Common.{◌≡◌, ◌≢◌, ◌⊎◌, inl, inr, ℕ, ◌+◌, false, List, Option, None, Some, sym, ap, ◌∙◌, subst, arith}
+use Rattle.std.proofs.Common.{◌≡◌, ◌≢◌, ◌⊎◌, inl, inr, ⊎_elim, ℕ, ◌+◌, false, List, Option, None, Some, sym, ap, ◌∙◌, subst, arith}
 use Rattle.beep_wires.specs.Links.{Link, Counts, IsFresh, SameBeside}
 use Rattle.beep_journal.specs.declared.role.Role.{Role}
 use Rattle.beep_lawful.specs.declared.terms.Terms.{Terms}
@@ -9,6 +9,7 @@ use Rattle.beep_link.specs.declared.ended.Ended.{Ended}
 use Rattle.beep_link.specs.Causes.{IsCaused, Keeps, Seen, WhereTold}
 use Rattle.beep_steps.specs.Ends.{reads_of}
 use Rattle.beep_steps.specs.Logs.{IsLawfulOn, Shows, terms_by}
+use Rattle.beep_steps.specs.Scripting.{KeepsAboveOn}
 use Rattle.beep_steps.specs.Sending.{sender_plan, SendsAll}
 use Rattle.beep_recorder.specs.Kept.{Recording, RecordsKnown}
 use Rattle.beep_runs.specs.Runs.{IsRecorded, Ran, SentAll}
@@ -20,8 +21,7 @@ starved terms (Ended.Broken rule place) log s = inr s.1
 starved terms Ended.WriteFault log s = inr s
 starved terms Ended.WireFault log s = inl s
 starved terms Ended.NoMemory log s = s
-starved terms (Ended.Refused code) log (inl s) = inr s
-starved terms (Ended.Refused code) log (inr s) = inl s.release.sound
+starved terms (Ended.Refused code) log s = inr s.0
 starved terms (Ended.Cut left) log s = inl s.sound
 starved terms (Ended.Idle reads) log s = inl s.sound
 starved terms (Ended.Spent octets) log s = inl s.sound
@@ -69,11 +69,16 @@ module _ (role : Role) (settings : Settings) (cause : Ended) (before given used 
 
 -- what was sent by the end of the session was sent by the end of the run
 pub sent_all : (settings : Settings) (lines : List (List ℕ)) (cause result : Ended) (before used after : Seen) (link : ℕ) → link ≡ before.counts.given → after.state link ≡ record (used.state link) { is_open = false }
-    → (cause ≡ Ended.Released → WhereTold (SendsAll (sender_plan settings lines)) (used.state link).log) → (result ≡ cause) ⊎ (result ≡ Ended.NoMemory) → SentAll settings lines result before after
-sent_all settings lines cause result before used after link is shut sent (inl same) released =
-    subst (λ (n : ℕ). WhereTold (SendsAll (sender_plan settings lines)) (after.state n).log) is
-    (subst (λ (l : Link). WhereTold (SendsAll (sender_plan settings lines)) l.log) (sym shut) (sent (sym same ∙ released)))
-sent_all settings lines cause result before used after link is shut sent (inr short) released = absurd (let h : Ended.NoMemory ≡ Ended.Released = sym short ∙ released in cc)
+    → (cause ≡ Ended.Released → WhereTold (SendsAll (sender_plan settings lines)) (used.state link).log) → WhereTold (KeepsAboveOn (sender_plan settings lines)) (used.state link).log
+    → (result ≡ cause) ⊎ (result ≡ Ended.NoMemory) → SentAll settings lines result before after
+sent_all settings lines cause result before used after link is shut sent above ended = record {
+  all = λ released. on (SendsAll (sender_plan settings lines)) (⊎_elim (λ same. sent (sym same ∙ released))
+      (λ short. absurd (let h : Ended.NoMemory ≡ Ended.Released = sym short ∙ released in cc)) ended);
+  above = on (KeepsAboveOn (sender_plan settings lines)) above;
+}
+  where
+    on : (P : List Entry → Type 0) → WhereTold P (used.state link).log → WhereTold P (after.state before.counts.given).log
+    on P p = subst (λ (n : ℕ). WhereTold P (after.state n).log) is (subst (λ (l : Link). WhereTold P l.log) (sym shut) p)
 
 -- what holds of links as a recorder has them holds of the links that were lent to it
 pub moved : {A : Type 0} (P : A → A → Type 0) (before before2 after after2 : A) → before2 ≡ before → after ≡ after2 → P before2 after2 → P before after

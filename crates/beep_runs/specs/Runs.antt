@@ -12,6 +12,7 @@ use Rattle.beep_link.specs.declared.ended.Ended.{Ended}
 use Rattle.beep_link.specs.Causes.{IsCaused, Seen, WhereTold}
 use Rattle.beep_steps.specs.Ends.{reads_of}
 use Rattle.beep_steps.specs.Logs.{IsLawfulOn, Shows, terms_by}
+use Rattle.beep_steps.specs.Scripting.{KeepsAboveOn}
 use Rattle.beep_steps.specs.Sending.{sender_plan, SendsAll}
 use Rattle.beep_recorder.specs.Kept.{RecordsLink}
 
@@ -36,10 +37,14 @@ pub record Ran (role : Role) (settings : Settings) (cause : Ended) (before after
   pub given : after.counts.given ≡ before.counts.given + 1
   pub others : SameBeside before.counts.given before.state after.state
 
--- where the session was released, the log of the link that was given shows that all lines were sent
-abbrev pub SentAll : Settings → List (List ℕ) → Ended → Seen → Seen → Type 0
-SentAll settings lines cause before after = cause ≡ Ended.Released
-    → WhereTold (SendsAll (sender_plan settings lines)) (after.state before.counts.given).log
+-- the log of the link that was given shows that all lines were sent, where the session was
+-- released, and that above channel zero its script was kept, whatever ended it
+pub record SentAll (settings : Settings) (lines : List (List ℕ)) (cause : Ended)
+    (before after : Seen) : Type 0 where
+  pub all : cause ≡ Ended.Released
+      → WhereTold (SendsAll (sender_plan settings lines)) (after.state before.counts.given).log
+  pub above : WhereTold (KeepsAboveOn (sender_plan settings lines))
+      (after.state before.counts.given).log
 
 -- no link was given, for this reason, where the count of such faults was that and is this
 pub record NotGiven (cause : Ended) (old new : ℕ) (before after : Seen) : Type 0 where

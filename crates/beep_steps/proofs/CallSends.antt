@@ -1,12 +1,12 @@
 -- What each call of a session leaves of a sender that stands for a log.
-use Rattle.std.proofs.Common.{◌≡◌, ℕ, zero, suc, ◌+◌, ◌<◌, ◌≤◌, ◌==◌, nat_lt, Bool, true, false, not, ◌&&◌, ◌||◌, if◌then◌else◌, List, [], ◌∷◌, ◌++◌, map, take, length, Option, None, Some, refl, sym, ap, ◌∙◌, subst, arith}
-use Rattle.std.specs.Prelude.{is_some, Result, Ok, Err, OnOk, OnErr, IfOk, IfSome, IfNone}
+use Rattle.std.proofs.Common.{◌≡◌, ℕ, ◌≤◌, nat_lt, Bool, true, false, not, ◌&&◌, ◌||◌, if◌then◌else◌, List, [], ◌∷◌, ◌++◌, take, Option, None, Some, refl, sym, ap, ◌∙◌, subst, arith}
+use Rattle.std.specs.Prelude.{IfSome, IfNone}
 use Rattle.std.specs.List.{list_any}
 use Rattle.std.proofs.lemmas.List.{append-nil}
 use Rattle.beep_frame.specs.declared.kind.Kind.{Kind}
 use Rattle.beep_frame.specs.Frame.{is_msg}
 use Rattle.beep_history.specs.Journal.{Item}
-use Rattle.beep_history.specs.Marks.{Mark, octet, end}
+use Rattle.beep_history.specs.Marks.{Mark}
 use Rattle.beep_journal.specs.Laws.{rest_from}
 use Rattle.beep_journal.specs.Lives.{lives, has_ended}
 use Rattle.beep_journal.specs.Zero.{events}
@@ -21,12 +21,12 @@ use Rattle.beep_outbox.specs.Queue.{Message, message_marks, marks_of}
 use Rattle.beep_inbox.specs.declared.part.Part.{Part}
 use Rattle.beep_standing.specs.Standing.{Marks, with_marks}
 use Rattle.beep_standing.proofs.SendLemmas.{with-same, with-other}
-use Rattle.beep_spoken.specs.Spoken.{Spoken, AreSpoken}
+use Rattle.beep_spoken.specs.Spoken.{Spoken}
 use Rattle.beep_management.specs.Managed.{Prepared}
-use Rattle.beep_management.specs.Manages.{Manages, ArePrepared, IsPrepared}
+use Rattle.beep_management.specs.Manages.{ArePrepared}
 use Rattle.beep_hearing.specs.declared.ear.Ear.{Ear}
-use Rattle.beep_hearing.specs.Hears.{Hears, SameAbove}
-use Rattle.beep_giving.specs.Giving.{next_message, GivesMessage}
+use Rattle.beep_hearing.specs.Hears.{Hears}
+use Rattle.beep_giving.specs.Giving.{next_message}
 use Rattle.beep_peer.specs.declared.peer.Peer.{Peer}
 use Rattle.beep_peer.specs.Acts.{IsUnchanged}
 use Rattle.beep_peer.specs.Calls.{GivesFirst, words_of}
@@ -34,13 +34,12 @@ use Rattle.beep_peer.specs.Peering.{IsPeer}
 use Rattle.beep_peer.specs.Waiting.{AreGiven}
 use Rattle.beep_session.specs.Acts.{AsksZero, start_text}
 use Rattle.beep_session.specs.Channels.{IsOfPeer, IsStill, Gives, Takes, Closes}
-use Rattle.beep_session.specs.Lawfully.{terms_of, KeepsUpright}
+use Rattle.beep_session.specs.Lawfully.{KeepsUpright}
 use Rattle.beep_session.specs.Session.{Held}
 use Rattle.beep_talk.specs.Plan.{PlainPlan}
 use Rattle.beep_script.specs.Requested.{requests_from, sender_texts}
 use Rattle.beep_script.specs.Sending.{LinesGiven}
 use Rattle.beep_script.proofs.RequestedLemmas.{requests-append, one-request, one-rest}
-use Rattle.beep_steps.specs.Logs.{StandsOn}
 use Rattle.beep_steps.specs.Sending.{Progress, Sends, IsSender, SendsOn, KeepsSending}
 use Rattle.beep_steps.proofs.CallLemmas.{on-so}
 use Rattle.beep_steps.proofs.SendsLemmas.{given-sends}
@@ -65,7 +64,7 @@ no-requests (m ∷ messages) none =
     rest-false false b e = e
 
 -- what is given after whole messages
-after-whole : (given more : List Mark) → rest_from [] given ≡ [] → requests_from [] (given ++ more) ≡ requests_from [] given ++ requests_from [] more
+pub after-whole : (given more : List Mark) → rest_from [] given ≡ [] → requests_from [] (given ++ more) ≡ requests_from [] given ++ requests_from [] more
 after-whole given more whole =
     requests-append [] given more ∙ ap (λ (begun : List ℕ). requests_from [] given ++ requests_from begun more) whole
 
@@ -118,7 +117,7 @@ first-none given now answers peer none whole g =
     ∙ append-nil (requests_from [] (given 0))
 
 -- where a channel is live some life has begun
-some-lives : (journal : List Item) → is_there 1 journal ≡ true → lives 1 (events journal) ≡ 0 → ⊥
+pub some-lives : (journal : List Item) → is_there 1 journal ≡ true → lives 1 (events journal) ≡ 0 → ⊥
 some-lives journal alive none =
     absurd (let dead : is_there 1 journal ≡ false = ap (λ (n : ℕ). nat_lt 0 n && not (has_ended 1 n (events journal))) none in cc (alive, dead))
 
@@ -132,7 +131,7 @@ module _ (plan : PlainPlan) (old new : Held) (same : IsOfPeer old new) where
   Moves = (fed rest : List ℕ) (journal : List Item) (given taken : Marks) → IsPeer old.limits.window fed rest journal given taken old.peer
       → (now : Marks) × (later : Marks) × IsPeer old.limits.window fed rest journal now later new.peer
 
-  peer-sends : (p q : Progress) (f : Moves) → KeepsUpright old new
+  abbrev pub peer-sends : (p q : Progress) (f : Moves) → KeepsUpright old new
       → ((fed rest : List ℕ) (journal : List Item) (given taken : Marks) (is : IsPeer old.limits.window fed rest journal given taken old.peer) → Sends plan p journal given
       → Sends plan q journal (f fed rest journal given taken is).0) → KeepsSending plan p q old new
   peer-sends p q f upright step log s =
@@ -145,7 +144,7 @@ module _ (plan : PlainPlan) (old new : Held) (same : IsOfPeer old new) where
         sends = step on.fed on.rest on.journal on.given on.taken on.stands.stands s.sends;
       }
 
-  pub unchanged-sends : (p : Progress) → IsUnchanged old.peer new.peer → KeepsUpright old new → KeepsSending plan p p old new
+  abbrev pub unchanged-sends : (p : Progress) → IsUnchanged old.peer new.peer → KeepsUpright old new → KeepsSending plan p p old new
   unchanged-sends p g upright = peer-sends p p (λ fed rest journal given taken is. (
     given,
     taken,
@@ -157,10 +156,11 @@ module _ (plan : PlainPlan) (old new : Held) (same : IsOfPeer old new) where
   )) upright (λ fed rest journal given taken is s. s)
 
   -- a request is asked, which is the next
-  pub asks-sends : (p q : Progress) (text : List ℕ) → take p.asked (sender_texts plan.raw_uri) ++ text ∷ [] ≡ take q.asked (sender_texts plan.raw_uri) → q ≡ record p { asked = q.asked }
+  abbrev pub asks-sends : (p q : Progress) (text : List ℕ) → take p.asked (sender_texts plan.raw_uri) ++ text ∷ [] ≡ take q.asked (sender_texts plan.raw_uri) → q ≡ record p { asked = q.asked }
+      → ((2 ≤ p.asked → p.is_sent ≡ true) → 2 ≤ q.asked → p.is_sent ≡ true)
       → ((fed rest : List ℕ) (journal : List Item) (given taken : Marks) → IsPeer old.limits.window fed rest journal given taken old.peer
       → AsksZero old.limits.window fed rest journal given taken text new.peer) → KeepsUpright old new → KeepsSending plan p q old new
-  asks-sends p q text next is_q f upright =
+  asks-sends p q text next is_q sent f upright =
       peer-sends p q (λ fed rest journal given taken is. (_, taken, (f fed rest journal given taken is).stands)) upright
       (λ fed rest journal given taken is s.
       subst (λ (r : Progress). Sends plan r journal (with_marks 0 (given 0 ++ message_marks (f fed rest journal given taken is).ask) given)) (sym is_q) (asked-more journal given (f fed rest journal given taken is) is s))
@@ -178,11 +178,11 @@ module _ (plan : PlainPlan) (old new : Held) (same : IsOfPeer old new) where
         fresh = s.fresh;
         some = s.some;
         whole = s.whole;
-        closed = s.closed;
+        closes = sent s.closes;
       }
 
   -- a message is given on channel 1
-  pub gives-sends : (p q : Progress) (kind : Kind) (octets : List ℕ)
+  abbrev pub gives-sends : (p q : Progress) (kind : Kind) (octets : List ℕ)
       → ((given : List Mark) → LinesGiven plan.lines p.next given → LinesGiven plan.lines q.next (given ++ message_marks (next_message kind octets given)))
       → q ≡ record p { next = q.next } → Gives 1 kind octets old new → KeepsUpright old new
       → ((journal : List Item) (given taken : Marks) (fed rest : List ℕ) → IsPeer old.limits.window fed rest journal given taken old.peer → is_there 1 journal ≡ true)
@@ -200,11 +200,11 @@ module _ (plan : PlainPlan) (old new : Held) (same : IsOfPeer old new) where
         fresh = λ none. absurd (some-lives journal there none);
         some = s.some;
         whole = s.whole;
-        closed = s.closed;
+        closes = s.closes;
       }
 
   -- a part is taken
-  pub takes-sends : (p : Progress) (number : ℕ) (part : Part) (octets : List ℕ) → Takes number part octets old new → KeepsUpright old new → KeepsSending plan p p old new
+  abbrev pub takes-sends : (p : Progress) (number : ℕ) (part : Part) (octets : List ℕ) → Takes number part octets old new → KeepsUpright old new → KeepsSending plan p p old new
   takes-sends p number part octets g upright =
       peer-sends p p (λ fed rest journal given taken is. let m = g.takes fed rest journal given taken is in (m.given_now, _, m.stands)) upright
       (λ fed rest journal given taken is s.
@@ -234,31 +234,31 @@ with-terms plan terms p session log s = record {
     fresh = s.sends.fresh;
     some = s.sends.some;
     whole = s.sends.whole;
-    closed = s.sends.closed;
+    closes = s.sends.closes;
   };
 }
 
 module _ (plan : PlainPlan) (p : Progress) (old new : Held) where
-  pub still-sends : IsStill old new → KeepsUpright old new → KeepsSending plan p p old new
+  abbrev pub still-sends : IsStill old new → KeepsUpright old new → KeepsSending plan p p old new
   still-sends s upright = unchanged-sends plan old new s.same p s.peer upright
 
   -- the start of channel 1, its close, and the release
-  pub starts-sends : (profiles : List PlainProfile) → profiles ≡ profile_of plan.raw_uri ∷ [] → p.asked ≡ 0 → IsOfPeer old new
+  abbrev pub starts-sends : (profiles : List PlainProfile) → profiles ≡ profile_of plan.raw_uri ∷ [] → p.asked ≡ 0 → IsOfPeer old new
       → ((fed rest : List ℕ) (journal : List Item) (given taken : Marks) → IsPeer old.limits.window fed rest journal given taken old.peer
       → AsksZero old.limits.window fed rest journal given taken (start_text 1 profiles) new.peer) → KeepsUpright old new → KeepsSending plan p (record p { asked = 1 }) old new
   starts-sends profiles are at same f upright =
       asks-sends plan old new same p (record p { asked = 1 }) (start_text 1 profiles)
-      (ap (λ (n : ℕ). take n (sender_texts plan.raw_uri) ++ start_text 1 profiles ∷ []) at ∙ ap (λ (ps : List PlainProfile). start_text 1 ps ∷ []) are) refl f upright
+      (ap (λ (n : ℕ). take n (sender_texts plan.raw_uri) ++ start_text 1 profiles ∷ []) at ∙ ap (λ (ps : List PlainProfile). start_text 1 ps ∷ []) are) refl (λ was two. absurd (omega (arith, two))) f upright
 
-  pub closes-sends : (number : ℕ) → number ≡ 1 → p.asked ≡ 1 → Closes number old new → KeepsUpright old new → KeepsSending plan p (record p { asked = 2 }) old new
-  closes-sends number is at g upright =
+  abbrev pub closes-sends : (number : ℕ) → number ≡ 1 → p.asked ≡ 1 → p.is_sent ≡ true → Closes number old new → KeepsUpright old new → KeepsSending plan p (record p { asked = 2 }) old new
+  closes-sends number is at sent g upright =
       asks-sends plan old new g.same p (record p { asked = 2 }) (message_text (closing_of number))
       (ap (λ (n : ℕ). take n (sender_texts plan.raw_uri) ++ message_text (closing_of number) ∷ []) at
-      ∙ ap (λ (n : ℕ). message_text (start 1 None (profile_of plan.raw_uri ∷ [])) ∷ message_text (closing_of n) ∷ []) is) refl g.closes upright
+      ∙ ap (λ (n : ℕ). message_text (start 1 None (profile_of plan.raw_uri ∷ [])) ∷ message_text (closing_of n) ∷ []) is) refl (λ was two. sent) g.closes upright
 
-  pub releases-sends : p.asked ≡ 2 → IsOfPeer old new
+  abbrev pub releases-sends : p.asked ≡ 2 → IsOfPeer old new
       → ((fed rest : List ℕ) (journal : List Item) (given taken : Marks) → IsPeer old.limits.window fed rest journal given taken old.peer
       → AsksZero old.limits.window fed rest journal given taken (message_text (closing_of 0)) new.peer) → KeepsUpright old new → KeepsSending plan p (record p { asked = 3 }) old new
   releases-sends at same f upright =
       asks-sends plan old new same p (record p { asked = 3 }) (message_text (closing_of 0))
-      (ap (λ (n : ℕ). take n (sender_texts plan.raw_uri) ++ message_text (closing_of 0) ∷ []) at) refl f upright
+      (ap (λ (n : ℕ). take n (sender_texts plan.raw_uri) ++ message_text (closing_of 0) ∷ []) at) refl (λ was three. was (omega (arith, at))) f upright

@@ -1,14 +1,13 @@
 -- What goes out leaves of a sender that stands for a log.
-use Rattle.std.proofs.Common.{◌≡◌, ℕ, zero, suc, ◌<◌, ◌≤◌, ◌==◌, nat_lt, ltb-true, eqb-true, Bool, true, false, not, ◌||◌, ◌&&◌, if◌then◌else◌, List, [], ◌∷◌, ◌++◌, map, slice_get, Option, None, Some, refl, sym, ap, ◌∙◌, subst, arith}
+use Rattle.std.proofs.Common.{◌≡◌, ℕ, zero, suc, ◌≤◌, ◌==◌, nat_lt, ltb-true, eqb-true, Bool, true, false, not, ◌||◌, ◌&&◌, if◌then◌else◌, List, [], ◌∷◌, ◌++◌, map, slice_get, Option, None, Some, refl, sym, ap, ◌∙◌, subst, arith}
 use Rattle.std.specs.Prelude.{is_some}
 use Rattle.beep_frame.specs.declared.head.Head.{Head}
-use Rattle.beep_frame.specs.declared.kind.Kind.{Kind}
 use Rattle.beep_frame.specs.declared.seq.Seq.{Seq}
 use Rattle.beep_frame.specs.Frame.{framed, seq_frame, is_nul}
 use Rattle.beep_frame.specs.Spelling.{spelling}
 use Rattle.beep_history.specs.declared.journal.Side.{Side}
 use Rattle.beep_history.specs.Journal.{Item, began, passed, told}
-use Rattle.beep_history.specs.Marks.{Mark, marks, mark_modulo_2_64}
+use Rattle.beep_history.specs.Marks.{marks, mark_modulo_2_64}
 use Rattle.beep_history.specs.Broken.{KeepsExchangeRules}
 use Rattle.beep_journal.specs.Lives.{Event, lives, is_live, has_ended}
 use Rattle.beep_journal.specs.Zero.{events}
@@ -31,7 +30,6 @@ use Rattle.beep_session.specs.Session.{Held}
 use Rattle.beep_logged.proofs.EndLemmas.{put-append}
 use Rattle.beep_logged.proofs.WriteLemmas.{frame-written, seq-written, lawful-frame}
 use Rattle.beep_talk.specs.Plan.{PlainPlan}
-use Rattle.beep_script.specs.EachEnd.{WasGranted}
 use Rattle.beep_script.specs.Requested.{requests_from}
 use Rattle.beep_script.specs.Sending.{LinesGiven, SentSome, SentWhole}
 use Rattle.beep_script.proofs.LineLemmas.{whole-goes-on, nul-ends, some-goes-on, frame-life}
@@ -39,7 +37,7 @@ use Rattle.beep_steps.specs.Sending.{Progress, Sends, SendsOn, went_by}
 use Rattle.beep_steps.proofs.CallLemmas.{on-so}
 use Rattle.beep_steps.proofs.CallSends.{sender-so, first-none, prepared-none}
 use Rattle.beep_steps.proofs.HeardSends.{few-now}
-use Rattle.beep_steps.proofs.SendsLemmas.{few-lives, item-sends, item-step, LivesStep, Follows, lines-on, fresh-on, granted-later}
+use Rattle.beep_steps.proofs.SendsLemmas.{few-lives, item-sends, item-step, LivesStep, Follows, lines-on, fresh-on}
 
 -- ---- tests
 
@@ -51,7 +49,7 @@ or-there : (a b : Bool) → (a || b) ≡ true → a ≡ false → b ≡ true
 or-there true b e f = absurd cc
 or-there false b e f = e
 
-there-at : (channels : List Live) (place : ℕ) (channel : Live) (number : ℕ) → slice_get channels place ≡ Some channel → (channel.held.number == number) ≡ true
+pub there-at : (channels : List Live) (place : ℕ) (channel : Live) (number : ℕ) → slice_get channels place ≡ Some channel → (channel.held.number == number) ≡ true
     → is_some (live_at number channels) ≡ true
 there-at [] place channel number at named = absurd (let g : None ≡ Some channel = at in cc)
 there-at (c ∷ channels) zero channel number at named =
@@ -70,7 +68,7 @@ some-there None is = absurd (let g : false ≡ true = is in cc)
 some-there (Some c) is = (c, refl)
 
 -- the one life that has begun is live
-only-life : (es : List Event) → is_live 1 es ≡ true → lives 1 es ≤ 1 → (if is_live 1 es then lives 1 es else 0) ≡ 1
+pub only-life : (es : List Event) → is_live 1 es ≡ true → lives 1 es ≤ 1 → (if is_live 1 es then lives 1 es else 0) ≡ 1
 only-life es alive few =
     ap (λ (b : Bool). if b then lives 1 es else 0) alive
     ∙ (let some = ltb-true 0 (lives 1 es) (left (nat_lt 0 (lives 1 es)) (not (has_ended 1 (lives 1 es) es)) alive) in omega (arith, some, few))
@@ -85,7 +83,7 @@ module _ (plan : PlainPlan) (p : Progress) (old new : Held) (before after : List
   abbrev journal : List Item
   journal = s.on.journal
 
-  few-before : lives 1 (events journal) ≤ 1
+  pub few-before : lives 1 (events journal) ≤ 1
   few-before = few-now plan p old s.on.fed s.on.rest journal s.on.given s.on.taken s.sender s.on.stands s.sends
 
   module _ (head : Head) (m : SendsLawfully (terms_of old) s.on.fed s.on.rest journal s.on.given s.on.taken head old.peer new.peer before after)
@@ -93,19 +91,19 @@ module _ (plan : PlainPlan) (p : Progress) (old new : Held) (before after : List
     abbrev now : List Item
     now = passed Side.Sent head m.payload ∷ began Side.Sent head ∷ journal
 
-    begun-same : events (began Side.Sent head ∷ journal) ≡ events journal
+    pub begun-same : events (began Side.Sent head ∷ journal) ≡ events journal
     begun-same = quiet-events journal (began Side.Sent head) refl
 
-    step : LivesStep (events journal) (events now)
+    pub step : LivesStep (events journal) (events now)
     step = subst (λ (es : List Event). LivesStep es (events now)) begun-same (item-step (passed Side.Sent head m.payload) (began Side.Sent head ∷ journal))
 
-    asked : requests_from [] (m.sent.given_now 0) ≡ requests_from [] (s.on.given 0)
+    pub asked : requests_from [] (m.sent.given_now 0) ≡ requests_from [] (s.on.given 0)
     asked =
         let manages = s.on.stands.stands.holds.manages in
         first-none s.on.given m.sent.given_now old.peer.management.answers new.peer (prepared-none old.peer.management.answers manages.prepared manages.is.answers)
         manages.is.spoken_is.whole m.sent.gives
 
-    few : lives 1 (events now) ≤ 1
+    pub few : lives 1 (events now) ≤ 1
     few =
         few-lives plan.raw_uri s.sender.texts (terms_of old) s.sender.role now m.sent.given_now m.sent.taken_now new.peer.lives m.sent.stands.holds.live p.asked
         (asked ∙ s.sends.asked) m.lawful
@@ -198,23 +196,19 @@ module _ (plan : PlainPlan) (p : Progress) (old new : Held) (before after : List
     by-channel true is = (some-one is, whole-one is p.is_sent refl)
     by-channel false is = (some-apart is, whole-apart is p.is_sent refl)
 
-    frame-sends : Sends plan (went_by (Emit.Data head) p) now m.sent.given_now
+    pub frame-sends : Sends plan (went_by (Emit.Data head) p) now m.sent.given_now
     frame-sends = record {
       asked = asked ∙ s.sends.asked;
       lines = lines;
       fresh = fresh-on plan p journal now s.on.given m.sent.given_now s.sends step follows few;
       some = (by-channel (head.channel == 1) refl).0;
       whole = (by-channel (head.channel == 1) refl).1;
-      closed = λ is.
-          let c = s.sends.closed is in (
-            ap (λ (b : Bool). b || (head.channel == 1 && is_nul head.kind)) c.0,
-            granted-later (passed Side.Sent head m.payload) (began Side.Sent head ∷ journal) (granted-later (began Side.Sent head) journal c.1),
-          );
+      closes = λ two. ap (λ (b : Bool). b || (head.channel == 1 && is_nul head.kind)) (s.sends.closes two);
     }
 
   -- ---- a SEQ
 
-  seq-sends : (seq : Seq) → Sends plan p (told Side.Sent seq ∷ journal) s.on.given
+  pub seq-sends : (seq : Seq) → Sends plan p (told Side.Sent seq ∷ journal) s.on.given
   seq-sends seq =
       let same : events (told Side.Sent seq ∷ journal) ≡ events journal = quiet-events journal (told Side.Sent seq) refl in
       item-sends plan p (told Side.Sent seq) journal s.on.given s.on.given s.sends tt

@@ -1,24 +1,20 @@
 -- What goes out and what comes, by what a listener keeps.
-use Rattle.std.proofs.Common.{◌≡◌, ◌∙◌, refl, sym, ap, subst, ℕ, ◌==◌, ◌≤◌, Bool, true, false, not, ◌&&◌, ◌||◌, List, [], ◌∷◌, ◌++◌, length, take, map, Some, None, Option, arith}
-use Rattle.std.specs.Prelude.{Result, Ok, Err, OnOk}
+use Rattle.std.proofs.Common.{◌≡◌, ◌∙◌, refl, sym, ap, subst, ℕ, ◌==◌, Bool, true, false, not, ◌&&◌, ◌||◌, List, [], ◌∷◌, ◌++◌, take, map, arith}
 use Rattle.std.specs.List.{list_any}
 use Rattle.beep_frame.specs.declared.head.Head.{Head}
 use Rattle.beep_frame.specs.Frame.{framed, seq_frame}
 use Rattle.beep_frame.specs.Spelling.{spelling}
 use Rattle.beep_history.specs.declared.journal.Side.{Side}
-use Rattle.beep_history.specs.Journal.{Item, began, passed, told}
-use Rattle.beep_history.specs.Marks.{Mark, marks, mark_modulo_2_64}
+use Rattle.beep_history.specs.Journal.{Item, began, passed, told, same_side}
+use Rattle.beep_history.specs.Marks.{marks, mark_modulo_2_64}
 use Rattle.beep_journal.specs.Broken.{none_tunes}
 use Rattle.beep_journal.specs.Journal.{Past, Shows}
 use Rattle.beep_journal.specs.Life.{history, is_there, is_released}
 use Rattle.beep_journal.specs.Log.{Moment, got, got_all, put_all}
 use Rattle.beep_journal.proofs.JournalLemmas.{above-there, above-others}
-use Rattle.beep_journal.proofs.MomentLemmas.{same-number}
 use Rattle.beep_journal.proofs.ShownLemmas.{one-shown}
-use Rattle.beep_channel.specs.Held.{Live}
-use Rattle.beep_lives.specs.Lives.{live_at}
 use Rattle.beep_lawful.specs.declared.terms.Terms.{Terms}
-use Rattle.beep_hearing.specs.Hears.{ends_zero, is_above}
+use Rattle.beep_hearing.specs.Hears.{Join, MayJoin, ends_zero}
 use Rattle.beep_speaking.specs.declared.emit.Emit.{Emit}
 use Rattle.beep_upright.specs.Frames.{AreFrames, IsFramed}
 use Rattle.beep_standing.specs.Standing.{Marks}
@@ -27,7 +23,6 @@ use Rattle.beep_steps.proofs.OnLemmas.{Heard}
 use Rattle.beep_peer.specs.Calls.{Settles}
 use Rattle.beep_peer.specs.Lawfully.{SpeaksLawfully}
 use Rattle.beep_session.specs.declared.event.Event.{Event}
-use Rattle.beep_session.specs.Channels.{IsOfPeer}
 use Rattle.beep_session.specs.Feeds.{Feeds, GainsSome, HasArrived, ZeroWaits}
 use Rattle.beep_session.specs.Lawfully.{terms_of, IsLawfulSession}
 use Rattle.beep_session.specs.Session.{Held}
@@ -38,8 +33,8 @@ use Rattle.beep_logged.proofs.WriteLemmas.{frame-written, seq-written, lawful-fr
 use Rattle.beep_talk.specs.declared.plan.Command.{Command}
 use Rattle.beep_talk.specs.Plan.{PlainPlan}
 use Rattle.beep_steps.specs.Logs.{AreTaken, StandsOn, WaitsOn}
-use Rattle.beep_steps.specs.Steps.{Says, Spoke, CameMore, CameFrame, CameZero, SettledOn, IsUntaken, arrived_marks}
-use Rattle.beep_steps.proofs.StepLemmas.{told-rests, said-steps, quiet-rests, zero-steps, rests-here}
+use Rattle.beep_steps.specs.Steps.{Spoke, CameMore, CameFrame, CameZero, SettledOn, arrived_marks, is_own}
+use Rattle.beep_steps.proofs.StepLemmas.{told-rests, said-steps, quiet-rests, zero-steps}
 use Rattle.beep_steps.proofs.ArrivedLemmas.{own-marks, turn}
 use Rattle.beep_steps.proofs.TakenLemmas.{all-rests, all-steps, from-all, taken-at, there-at, to-all, untaken-is}
 
@@ -126,6 +121,17 @@ rests-so session log s = record { on = s; says = refl; taken = λ a. a }
 
 -- ---- what comes
 
+-- what joins a journal is the peer's
+their-item : (item : Item) (past : List Item) → MayJoin item past → is_own item ≡ false
+their-item (began by head) past may = ap (λ (s : Side). same_side s Side.Sent) may.0
+their-item (passed by head payload) past may = ap (λ (s : Side). same_side s Side.Sent) may.0
+their-item (told by seq) past may = ap (λ (s : Side). same_side s Side.Sent) may.0
+
+none-own : (gained journal : List Item) → Join gained journal → list_any is_own gained ≡ false
+none-own [] journal join = refl
+none-own (item ∷ gained) journal join =
+    ap (λ (b : Bool). b || list_any is_own gained) (their-item item (gained ++ journal) join.0) ∙ none-own gained journal join.1
+
 list-or : (a b : Bool) → (a || b) ≡ false → b ≡ false
 list-or true b e = absurd (let h : true ≡ false = e in cc)
 list-or false b e = e
@@ -144,6 +150,7 @@ module _ (octets : List ℕ) (old new : Held) (log : List Moment) (s : StandsOn 
           journal_is = journal-of new (got_all octets log) t (terms_of old) g.rest (f.gained ++ s.journal)
               (read-joins (terms_of old) s.fed s.rest octets s.journal f.gained log old.peer.ear.decoder old.peer.ear.used s.logged s.stands.stands.hears.is_fed g.join g.quiet unreleased
               g.rest new.peer.ear.decoder new.peer.ear.used g.stands.hears.is_fed);
+          none_own = none-own f.gained s.journal g.join;
           quiet = g.quiet;
           none_above = f.none_above;
         };
@@ -168,7 +175,7 @@ module _ (octets : List ℕ) (old new : Held) (log : List Moment) (s : StandsOn 
         journal_is = journal-of new (got_all octets log) t (terms_of old) g.rest now
             (read-joins (terms_of old) s.fed s.rest octets s.journal (passed Side.Received f.head f.payload ∷ f.gained) log old.peer.ear.decoder old.peer.ear.used s.logged s.stands.stands.hears.is_fed
             g.join g.quiet unreleased g.rest new.peer.ear.decoder new.peer.ear.used g.stands.hears.is_fed);
-        came = record { journal_is = refl; quiet = quiet; none_above = f.none_above };
+        came = record { journal_is = refl; none_own = none-own f.gained s.journal g.join.1; quiet = quiet; none_above = f.none_above };
         channel = f.channel;
         above = above;
         framed = omega (arith, g.join.0.1.1, g.join.0.1.0.size);
@@ -196,6 +203,7 @@ module _ (octets : List ℕ) (old new : Held) (log : List Moment) (s : StandsOn 
       journal_is = waiting-of new (got_all octets log) t (terms_of old) f.head f.payload (f.gained ++ s.journal)
           (read-waits (terms_of old) s.fed s.rest octets s.journal f.gained log old.peer.ear.decoder old.peer.ear.used s.logged s.stands.stands.hears.is_fed f.join f.quiet unreleased
           old.limits.window s.given f.taken_now f.head f.payload new.peer.ear new.peer.lives f.waits.waits);
+      none_own = none-own f.gained s.journal f.join;
       quiet = f.quiet;
       none_above = f.none_above;
     };

@@ -1,5 +1,5 @@
 -- What comes leaves of a sender that stands for a log.
-use Rattle.std.proofs.Common.{◌≡◌, ℕ, ◌≤◌, Bool, true, false, ◌||◌, List, [], ◌∷◌, ◌++◌, None, Some, Option, refl, sym, ap, ◌∙◌, subst}
+use Rattle.std.proofs.Common.{◌≡◌, ℕ, ◌≤◌, Bool, true, false, ◌||◌, List, [], ◌∷◌, ◌++◌, refl, sym, ap, ◌∙◌, subst}
 use Rattle.std.specs.List.{list_any}
 use Rattle.beep_history.specs.declared.journal.Side.{Side}
 use Rattle.beep_history.specs.Journal.{Item, began, passed, told}
@@ -18,7 +18,7 @@ use Rattle.beep_session.specs.Lawfully.{terms_of, IsLawfulSession, FeedsLawfully
 use Rattle.beep_session.specs.Session.{Held}
 use Rattle.beep_talk.specs.Plan.{PlainPlan}
 use Rattle.beep_script.proofs.LineLemmas.{IsNoSent}
-use Rattle.beep_steps.specs.Logs.{StandsOn, WaitsOn, ShowsFault}
+use Rattle.beep_steps.specs.Logs.{ShowsFault}
 use Rattle.beep_steps.specs.Sending.{Progress, Sends, IsSender, SendsOn, SendsWaiting}
 use Rattle.beep_steps.proofs.CallLemmas.{gained-on, waits-on, breaks-on}
 use Rattle.beep_steps.proofs.CallSends.{sender-so}
@@ -34,7 +34,7 @@ later-false : (a b : Bool) → (a || b) ≡ false → b ≡ false
 later-false true b e = absurd cc
 later-false false b e = e
 
-received-item : (item : Item) (journal : List Item) → MayJoin item journal → IsNoSent item
+pub received-item : (item : Item) (journal : List Item) → MayJoin item journal → IsNoSent item
 received-item (began by head) journal may = tt
 received-item (passed Side.Received head payload) journal may = tt
 received-item (passed Side.Sent head payload) journal may = absurd (let e : Side.Sent ≡ Side.Received = may.0 in cc)
@@ -76,17 +76,17 @@ FedSending plan p (Event.Broken rule place) terms new log = ShowsFault terms rul
 FedSending plan p Event.NoMemory terms new log = Unit {0}
 
 module _ (plan : PlainPlan) (p : Progress) (octets : List ℕ) (old new : Held) (log : List Moment) (same : IsOfPeer old new) (s : SendsOn plan p old log) (going : old.peer.released ≡ false) where
-  few : lives 1 (events s.on.journal) ≤ 1
+  pub few : lives 1 (events s.on.journal) ≤ 1
   few = few-now plan p old s.on.fed s.on.rest s.on.journal s.on.given s.on.taken s.sender s.on.stands s.sends
 
-  gained-sending : GainsLawfully (terms_of old) octets s.on.fed s.on.journal s.on.given s.on.taken new.peer → SendsOn plan p new (got_all octets log)
+  abbrev pub gained-sending : GainsLawfully (terms_of old) octets s.on.fed s.on.journal s.on.given s.on.taken new.peer → SendsOn plan p new (got_all octets log)
   gained-sending g = record {
     sender = sender-so plan old new same s.sender;
     on = gained-on octets old new log same s.on going g;
     sends = gained-sends plan p g.gained s.on.journal s.on.given g.gains.join g.gains.quiet few s.sends;
   }
 
-  waits-sending : new.peer.released ≡ old.peer.released → WaitsLawfully (terms_of old) octets s.on.fed s.on.journal s.on.given s.on.taken new.peer
+  abbrev pub waits-sending : new.peer.released ≡ old.peer.released → WaitsLawfully (terms_of old) octets s.on.fed s.on.journal s.on.given s.on.taken new.peer
       → SendsWaiting plan p new (got_all octets log)
   waits-sending kept g = record {
     sender = sender-so plan old new same s.sender;

@@ -8,7 +8,6 @@ use Rattle.beep_frame.specs.declared.rule.Rule.{Rule}
 use Rattle.beep_history.specs.Journal.{Item}
 use Rattle.beep_journal.specs.Log.{Moment, got, got_all}
 use Rattle.beep_journal.specs.Life.{is_released}
-use Rattle.beep_journal.specs.declared.role.Role.{Role}
 use Rattle.beep_lawful.specs.declared.terms.Terms.{Terms}
 use Rattle.beep_standing.specs.Standing.{Marks}
 use Rattle.beep_peer.specs.Peering.{IsPeer, is_over}
@@ -23,8 +22,8 @@ use Rattle.beep_wires.specs.Log.{Entry, read, wrote, quiet, ended}
 use Rattle.beep_link.specs.Causes.{WhereTold, ended_by}
 use Rattle.beep_link.specs.declared.ended.Ended.{Ended}
 use Rattle.beep_link.specs.declared.ended.Stop.{Stop}
-use Rattle.beep_steps.specs.Logs.{moments, IsLawfulOn, StandsOn, WaitsOn, Shows, ShowsRelease, ShowsFault, ShowsCut, ShowsUnfinished, StopsInRead, StopsOn, SaysNothing}
-use Rattle.beep_steps.specs.declared.fit.TheConstants.{UNFINISHED}
+use Rattle.beep_steps.specs.Logs.{moments, IsLawfulOn, StandsOn, WaitsOn, Shows, ShowsRelease, ShowsFault, ShowsCut, StopsInRead, StopsOn, SaysNothing}
+use Rattle.beep_steps.specs.Refusing.{RefusesOn}
 use Rattle.beep_steps.proofs.CallLemmas.{Fed, fed-on, left-false}
 
 -- ---- a session that stops within a read
@@ -36,12 +35,13 @@ module _ (session : Held) (log : List Entry) (s : StandsOn session (moments log)
     reads-lawful (terms_of session) s.rest octets s.journal (moments log) s.logged,
   )
 
-  pub stopped-on : (octets : List ℕ) (stop : Stop) → StopsOn (terms_of session) stop (got_all octets (moments log)) → Shows (terms_of session) (ended_by stop) (read octets ∷ log)
-  stopped-on octets Stop.Released h = h
-  stopped-on octets (Stop.Broken rule place) h = (h, stops-in octets)
-  stopped-on octets Stop.WriteFault h = stops-in octets
-  stopped-on octets Stop.NoMemory h = inr (stops-in octets)
-  stopped-on octets (Stop.Refused code) h = inl (stops-in octets)
+  pub stopped-on : (octets : List ℕ) (stop : Stop) → StopsOn (terms_of session) stop (got_all octets (moments log)) → RefusesOn (terms_of session) stop (got_all octets (moments log))
+      → Shows (terms_of session) (ended_by stop) (read octets ∷ log)
+  stopped-on octets Stop.Released h r = h
+  stopped-on octets (Stop.Broken rule place) h r = (h, stops-in octets)
+  stopped-on octets Stop.WriteFault h r = stops-in octets
+  stopped-on octets Stop.NoMemory h r = inr (stops-in octets)
+  stopped-on octets (Stop.Refused code) h r = (stops-in octets, r)
 
 stops-lawful : (terms : Terms) (log : List Entry) → StopsInRead terms log → IsLawfulOn terms log
 stops-lawful terms [] h = absurd h
@@ -88,10 +88,6 @@ module _ (session : Held) (log : List Moment) (s : StandsOn session log) where
     unreleased = ap is_released s.logged.shown.journal_is ∙ unreleased-on going;
     left_is = f s.fed s.rest s.journal s.given s.taken s.stands.stands ∙ ap (λ (x : List ℕ). modulo_2_64 (length x)) (sym s.logged.shown.rest_is);
   }
-
-  -- an initiator refuses a released session
-  pub shows-unfinished : is_over session.peer ≡ true → session.role ≡ Role.Initiator → ShowsUnfinished (terms_of session) UNFINISHED log
-  shows-unfinished e role = record { release = shows-release (over-on e); initiator = role; code_is = refl }
 
 -- ---- octets in pieces
 
@@ -207,8 +203,7 @@ shows-lawful terms Ended.WriteFault log h = stops-lawful terms log h
 shows-lawful terms Ended.WireFault log h = h.lawful
 shows-lawful terms Ended.NoMemory log (inl h) = h.lawful
 shows-lawful terms Ended.NoMemory log (inr h) = stops-lawful terms log h
-shows-lawful terms (Ended.Refused code) log (inl h) = stops-lawful terms log h
-shows-lawful terms (Ended.Refused code) log (inr h) = h.release.sound.lawful
+shows-lawful terms (Ended.Refused code) log h = stops-lawful terms log h.0
 shows-lawful terms (Ended.Cut left) log h = h.sound.lawful
 shows-lawful terms (Ended.Idle count) log h = h.sound.lawful
 shows-lawful terms (Ended.Spent count) log h = h.sound.lawful

@@ -1,12 +1,9 @@
 -- What each call of a session leaves of what a sender has said.
-use Rattle.std.proofs.Common.{◌≡◌, ℕ, zero, suc, ◌+◌, ◌<◌, ◌≤◌, ◌==◌, nat_lt, Bool, true, false, not, ◌&&◌, ◌||◌, if◌then◌else◌, List, [], ◌∷◌, ◌++◌, map, take, length, Option, None, Some, refl, sym, ap, ◌∙◌, subst, arith}
+use Rattle.std.proofs.Common.{◌≡◌, ℕ, ◌+◌, ◌≤◌, ◌==◌, nat_lt, Bool, true, false, not, ◌&&◌, ◌||◌, if◌then◌else◌, List, [], ◌∷◌, ◌++◌, map, take, length, Option, None, Some, refl, sym, ap, ◌∙◌, subst, arith}
 use Rattle.std.specs.Prelude.{is_some}
-use Rattle.std.specs.List.{list_any}
-use Rattle.std.proofs.lemmas.Bool.Decides.{nat_tests}
-use Rattle.std.proofs.lemmas.List.{append_assoc, append-nil}
 use Rattle.beep_frame.specs.declared.head.Head.{Head}
 use Rattle.beep_frame.specs.declared.kind.Kind.{Kind}
-use Rattle.beep_frame.specs.Frame.{is_msg, is_nul, same_kind}
+use Rattle.beep_frame.specs.Frame.{is_msg, same_kind}
 use Rattle.beep_history.specs.declared.journal.Side.{Side}
 use Rattle.beep_history.specs.Journal.{Item, began, passed, told, other}
 use Rattle.beep_history.specs.Marks.{Mark, position_of, marks, mark_modulo_2_64}
@@ -18,24 +15,21 @@ use Rattle.beep_journal.specs.Broken.{none_tunes}
 use Rattle.beep_journal.specs.Laws.{rest_from}
 use Rattle.beep_journal.specs.Lives.{Event, close_came, start_granted, close_granted, lives, has_ended, life_named, is_live}
 use Rattle.beep_journal.specs.Zero.{channel_of, zero_history, zero_events, gathered, asked, said_to, completes_form, effect, coming, granting, events}
-use Rattle.beep_journal.specs.Life.{life, life_now, is_there, history}
+use Rattle.beep_journal.specs.Life.{is_there}
 use Rattle.beep_lawful.specs.declared.terms.Terms.{Terms}
 use Rattle.beep_lawful.specs.Lawful.{IsLawful}
 use Rattle.beep_channel.specs.Held.{Live}
 use Rattle.beep_channel.specs.Stands.{Stands}
 use Rattle.beep_lives.specs.Lives.{live_at}
-use Rattle.beep_outbox.specs.Queue.{Message, message_marks, marks_of, marks_of as unsent_marks}
-use Rattle.beep_standing.specs.Standing.{Marks, AreLiveBy, with_marks}
-use Rattle.beep_hearing.specs.Hears.{Join, ends_zero}
-use Rattle.beep_peer.proofs.GainLemmas.{gained-events}
+use Rattle.beep_outbox.specs.Queue.{marks_of as unsent_marks}
+use Rattle.beep_standing.specs.Standing.{Marks, AreLiveBy}
 use Rattle.beep_talk.specs.Plan.{PlainPlan}
-use Rattle.beep_script.specs.EachEnd.{WasGranted}
 use Rattle.beep_script.specs.Requested.{requests_from, sender_texts, SenderTexts}
-use Rattle.beep_script.specs.Sending.{LinesGiven, some_given, answers_of, SentSome, SentWhole}
-use Rattle.beep_script.proofs.RequestedLemmas.{requests-append, requests-modulo, one-request, own_forms}
-use Rattle.beep_script.proofs.StartedLemmas.{StartsOnce, started-once, IsOnce}
-use Rattle.beep_script.proofs.OwnLemmas.{starts-once, closes-once, ClosesOnce}
-use Rattle.beep_script.proofs.LineLemmas.{IsNoSent, life-some, life-whole, whole-goes-on, nul-ends, some-goes-on, frame-life}
+use Rattle.beep_script.specs.Sending.{LinesGiven, some_given, answers_of}
+use Rattle.beep_script.proofs.RequestedLemmas.{requests-append, requests-modulo, own_forms}
+use Rattle.beep_script.proofs.StartedLemmas.{StartsOnce, started-once}
+use Rattle.beep_script.proofs.OwnLemmas.{starts-once}
+use Rattle.beep_script.proofs.LineLemmas.{IsNoSent, life-some, life-whole}
 use Rattle.beep_steps.specs.Sending.{Progress, Sends}
 
 -- ---- what stands for a lawful journal of an initiator
@@ -56,13 +50,13 @@ module _ (uri : List ℕ) (said : SenderTexts uri) (terms : Terms) (role : terms
   keeps-zero = zero-stands.held.exchange.unbroken
 
   -- what was sent of the requests is their beginning
-  abbrev sent_texts : List (List ℕ)
+  abbrev pub sent_texts : List (List ℕ)
   sent_texts = requests_from [] (marks Side.Sent (zero_history journal))
 
-  later : List (List ℕ)
+  pub later : List (List ℕ)
   later = requests_from (rest_from [] (map mark_modulo_2_64 (marks Side.Sent (zero_history journal)))) (unsent_marks zero-there.0.held.queue)
 
-  texts-are : sent_texts ++ later ≡ take count (sender_texts uri)
+  pub texts-are : sent_texts ++ later ≡ take count (sender_texts uri)
   unfolding later
   texts-are =
       ap (λ (ts : List (List ℕ)). ts ++ requests_from (rest_from [] (map mark_modulo_2_64 (marks Side.Sent (zero_history journal)))) (unsent_marks zero-there.0.held.queue))
@@ -72,9 +66,6 @@ module _ (uri : List ℕ) (said : SenderTexts uri) (terms : Terms) (role : terms
 
   starts : StartsOnce (own_forms (zero_history journal))
   starts = starts-once uri said sent_texts later count texts-are
-
-  pub closes : ClosesOnce (own_forms (zero_history journal))
-  closes = closes-once uri said sent_texts later count texts-are
 
   -- one life of channel 1 at most has begun
   pub few-lives : IsLawful terms none_tunes journal → lives 1 (events journal) ≤ 1
@@ -177,15 +168,6 @@ item-step item journal = of (channel_of item == 0)
 
 -- ---- what is known goes on
 
-pub granted-later : (item : Item) (journal : List Item) → WasGranted 2 journal → WasGranted 2 (item ∷ journal)
-granted-later item journal moment = record {
-  later = item ∷ moment.later;
-  item = moment.item;
-  earlier = moment.earlier;
-  is = ap (λ xs. item ∷ xs) moment.is;
-  grants = moment.grants;
-}
-
 -- the requests that were given, and in a life that goes on what was given in it, stay; in one that
 -- begins nothing was
 pub record Follows (old_there new_there : Bool) (old new : Marks) : Type 0 where
@@ -221,7 +203,7 @@ item-sends plan p item journal given now s other follows few = record {
   fresh = fresh-on plan p journal (item ∷ journal) given now s (item-step item journal) follows few;
   some = λ going. life-some item journal other (s.some going);
   whole = λ is. life-whole plan.lines item journal other (s.whole is);
-  closed = λ is. let c = s.closed is in (c.0, granted-later item journal c.1);
+  closes = s.closes;
 }
 
 -- what was given alone changes
@@ -233,5 +215,5 @@ given-sends plan p journal given now s asked same = record {
   fresh = s.fresh;
   some = s.some;
   whole = s.whole;
-  closed = s.closed;
+  closes = s.closes;
 }

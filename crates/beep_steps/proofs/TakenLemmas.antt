@@ -1,13 +1,11 @@
 -- That nothing above channel zero is untaken, by the marks that were taken.
-use Rattle.std.proofs.Common.{◌≡◌, ◌∙◌, refl, sym, ap, subst, ℕ, ◌==◌, ◌<◌, Bool, true, false, ◌||◌, nat_lt, if◌then◌else◌, List, [], ◌∷◌, ◌++◌, length, map, Option, Some, None, append-nil, append_assoc, arith}
+use Rattle.std.proofs.Common.{◌≡◌, ◌∙◌, refl, sym, ap, ℕ, ◌==◌, Bool, true, false, ◌||◌, nat_lt, if◌then◌else◌, List, [], ◌∷◌, ◌++◌, length, map, Option, Some, None, append-nil, append_assoc}
 use Rattle.std.specs.Prelude.{is_some}
 use Rattle.std.proofs.lemmas.List.{append_cancel_left, map-append}
-use Rattle.std.proofs.lemmas.Bool.Decides.{nat_tests}
-use Rattle.beep_frame.specs.declared.head.Head.{Head}
 use Rattle.beep_history.specs.declared.journal.Side.{Side}
-use Rattle.beep_history.specs.Journal.{Item, passed}
+use Rattle.beep_history.specs.Journal.{Item}
 use Rattle.beep_history.specs.Marks.{Mark, octet, end, marks, mark_modulo_2_64}
-use Rattle.beep_inbox.specs.Runs.{Run, run_marks, marks_of, has_mark, AllMarked}
+use Rattle.beep_inbox.specs.Runs.{Run, marks_of, AllMarked}
 use Rattle.beep_journal.specs.Life.{history, is_there}
 use Rattle.beep_channel.specs.Held.{Live}
 use Rattle.beep_lives.specs.Lives.{live_at}
@@ -17,7 +15,6 @@ use Rattle.beep_hearing.specs.Hears.{SameAbove}
 use Rattle.beep_peer.specs.Peering.{Carries}
 use Rattle.beep_session.specs.Looks.{IsTakenAt}
 use Rattle.beep_talk.specs.Plan.{PlainPlan}
-use Rattle.beep_steps.specs.Steps.{arrived_marks}
 use Rattle.beep_steps.proofs.StepLemmas.{Steps, Rests}
 use Rattle.beep_steps.proofs.ArrivedLemmas.{turn}
 

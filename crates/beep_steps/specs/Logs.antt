@@ -1,7 +1,7 @@
 -- An end on the log of its link: what its session stands for is what the log shows, and what ended
 -- it shows in the log (RFC 3080, section 2.2.1; RFC 3081, section 3.1).
 -- The code keeps neither a log nor a journal.
-use Rattle.std.specs.Prelude.{◌≡◌, ◌⊎◌, ℕ, true, false, List, [], ◌∷◌, length}
+use Rattle.std.specs.Prelude.{◌≡◌, ◌⊎◌, ℕ, true, false, List, [], ◌∷◌, length, Some}
 use Rattle.beep_frame.specs.declared.head.Head.{Head}
 use Rattle.beep_frame.specs.declared.rule.Rule.{Rule}
 use Rattle.beep_frame.specs.Modulo.{modulo_2_64}
@@ -9,6 +9,7 @@ use Rattle.beep_history.specs.declared.journal.Side.{Side}
 use Rattle.beep_history.specs.Journal.{Item}
 use Rattle.beep_journal.specs.declared.role.Role.{Role}
 use Rattle.beep_journal.specs.Broken.{none_tunes}
+use Rattle.beep_journal.specs.Journal.{Past, Shows as ShowsPast}
 use Rattle.beep_journal.specs.Life.{is_released}
 use Rattle.beep_journal.specs.Log.{Moment, got_all, put_all, none, over}
 use Rattle.beep_lawful.specs.declared.terms.Terms.{Terms}
@@ -21,11 +22,12 @@ use Rattle.beep_session.specs.Looks.{IsTakenAt}
 use Rattle.beep_session.specs.Session.{Held}
 use Rattle.beep_session.specs.Lawfully.{terms_of, IsLawfulSession}
 use Rattle.beep_logged.specs.Logged.{IsLogged, IsLoggedWaiting, IsLoggedBroken, IsSound}
+use Rattle.beep_talk.specs.declared.plan.Command.{Command}
+use Rattle.beep_script.specs.Refused.{refusal}
 use Rattle.beep_settings.specs.declared.settings.Settings.{Settings}
 use Rattle.beep_wires.specs.Log.{Entry, read, wrote, quiet, ended}
 use Rattle.beep_link.specs.declared.ended.Ended.{Ended}
 use Rattle.beep_link.specs.declared.ended.Stop.{Stop}
-use Rattle.beep_steps.specs.declared.fit.TheConstants.{UNFINISHED}
 use Rattle.beep_steps.specs.declared.hearing.Came.{Came}
 
 -- the flat log of a link, the latest moment first: how reads and writes were cut isn't in it
@@ -60,11 +62,15 @@ pub record ShowsFault (terms : Terms) (rule : Rule) (place : ℕ) (log : List Mo
   pub place_is : place ≡ modulo_2_64 octet
   pub broken : IsLoggedBroken terms rule octet log
 
--- a log shows a released session, which an initiator refuses with this code
-pub record ShowsUnfinished (terms : Terms) (code : ℕ) (log : List Moment) : Type 0 where
-  pub release : ShowsRelease terms log
-  pub initiator : terms.role ≡ Role.Initiator
-  pub code_is : code ≡ UNFINISHED
+-- what an end of this role is told to do: an initiator sends, and a listener listens
+abbrev pub command_of : Role → Command
+command_of Role.Initiator = Command.Send
+command_of Role.Listener = Command.Listen
+
+-- a log shows that the peer refused, first with this code
+abbrev pub ShowsRefused : Terms → ℕ → List Moment → Type 0
+ShowsRefused terms code log = (past : Past) → ShowsPast none_tunes log past
+    → refusal (command_of terms.role) past.journal ≡ Some code
 
 -- a log shows a session that isn't released, in which no rule was broken
 pub record ShowsGoing (terms : Terms) (log : List Moment) : Type 0 where
@@ -95,7 +101,7 @@ Shows terms Ended.WriteFault log = StopsInRead terms log
 Shows terms Ended.WireFault log = IsSound terms (moments log)
 Shows terms Ended.NoMemory log = IsSound terms (moments log) ⊎ StopsInRead terms log
 Shows terms (Ended.Refused code) log =
-    StopsInRead terms log ⊎ ShowsUnfinished terms code (moments log)
+    StopsInRead terms log × ShowsRefused terms code (moments log)
 Shows terms (Ended.Cut left) log = ShowsCut terms left (moments log)
 Shows terms (Ended.Idle count) log = ShowsGoing terms (moments log)
 Shows terms (Ended.Spent count) log = ShowsGoing terms (moments log)

@@ -1,7 +1,7 @@
 -- A sender on the log of its link: what it asked and answered so far is what it is to say, each
 -- once and in order (RFC 3195, section 3.1).
--- The code keeps the place of the next line, how far it has asked, and two flags.
-use Rattle.std.specs.Prelude.{◌≡◌, ℕ, ◌+◌, ◌==◌, Bool, true, false, ◌||◌, ◌&&◌, List, [], take, Option, Some, None, Result, Ok, Err}
+-- The code keeps the place of the next line, how far it has asked, and a flag.
+use Rattle.std.specs.Prelude.{◌≡◌, ℕ, ◌+◌, ◌≤◌, ◌==◌, Bool, true, false, ◌||◌, ◌&&◌, List, [], take, Result, Ok, Err}
 use Rattle.beep_frame.specs.Frame.{is_nul}
 use Rattle.beep_speaking.specs.declared.emit.Emit.{Emit}
 use Rattle.beep_history.specs.Journal.{Item}
@@ -19,25 +19,25 @@ use Rattle.beep_octets.specs.declared.octets.NoMemory.{NoMemory}
 use Rattle.beep_wires.specs.Log.{Entry}
 use Rattle.beep_link.specs.declared.ended.Ended.{Ended}
 use Rattle.beep_link.specs.declared.ended.Stop.{Stop}
-use Rattle.beep_answering.specs.declared.settled.Settled.{Settled}
 use Rattle.beep_session.specs.Session.{Held}
 use Rattle.beep_talk.specs.declared.plan.Command.{Command}
 use Rattle.beep_talk.specs.Plan.{PlainPlan}
-use Rattle.beep_script.specs.EachEnd.{WasGranted, HasSentAll}
+use Rattle.beep_script.specs.EachEnd.{HasSentAll}
 use Rattle.beep_script.specs.Requested.{requests_from, sender_texts, SenderTexts}
 use Rattle.beep_script.specs.Sending.{LinesGiven, SentSome, SentWhole}
 use Rattle.beep_steps.specs.Logs.{moments, terms_by, StandsOn, WaitsOn, Shows, ShowsFault}
+use Rattle.beep_steps.specs.Refusing.{GoesUnrefused, ShowsNoRefusal}
 use Rattle.beep_steps.specs.declared.hearing.Came.{Came}
 
--- how far a sender is: the place of its next line, how many requests it asked, whether the end of
--- its lines has gone, and whether its close was granted
+-- how far a sender is: the place of its next line, how many requests it asked, and whether the end
+-- of its lines has gone
 pub record Progress : Type 0 where
   pub next : ℕ
   pub asked : ℕ
   pub is_sent : Bool
-  pub is_closed : Bool
 
--- what it asked on channel zero, and what it gave and sent on channel 1
+-- what it asked on channel zero, and what it gave and sent on channel 1; its close was asked once
+-- the end of its lines had gone
 pub record Sends (plan : PlainPlan) (progress : Progress) (journal : List Item) (given : Marks)
     : Type 0 where
   pub asked : requests_from [] (given 0) ≡ take progress.asked (sender_texts plan.raw_uri)
@@ -45,8 +45,7 @@ pub record Sends (plan : PlainPlan) (progress : Progress) (journal : List Item) 
   pub fresh : lives 1 (events journal) ≡ 0 → progress.next ≡ 0
   pub some : progress.is_sent ≡ false → SentSome (life 1 1 journal)
   pub whole : progress.is_sent ≡ true → SentWhole plan.lines (life 1 1 journal)
-  pub closed : progress.is_closed ≡ true
-      → (progress.is_sent ≡ true) × WasGranted 2 journal
+  pub closes : 2 ≤ progress.asked → progress.is_sent ≡ true
 
 -- the session is that of an initiator that sends, whose requests are read as what they say
 pub record IsSender (plan : PlainPlan) (session : Held) : Type 0 where
@@ -79,27 +78,6 @@ ComesSending plan progress Came.More session log = SendsOn plan progress session
 ComesSending plan progress (Came.Arrived number) session log = SendsOn plan progress session log
 ComesSending plan progress Came.Zero session log = SendsWaiting plan progress session log
 
--- a reply grants a close of a channel
-abbrev pub grants_close : Settled → Bool
-grants_close (Settled.Closed number) = true
-grants_close (Settled.Stale None) = true
-grants_close (Settled.Stale (Some code)) = false
-grants_close Settled.Released = false
-grants_close Settled.Greeted = false
-grants_close (Settled.Denied code) = false
-grants_close (Settled.Begun number place content) = false
-grants_close (Settled.NotBegun number code) = false
-grants_close (Settled.PeerStarts number place) = false
-grants_close (Settled.PeerRefused code) = false
-grants_close (Settled.PeerCloses number code) = false
-grants_close (Settled.NotClosed number code) = false
-
--- once the end of its lines has gone, a sender's close is granted by what is settled so
-abbrev pub closed_by : Settled → Progress → Progress
-closed_by settled progress = record progress {
-  is_closed = progress.is_closed || (progress.is_sent && grants_close settled);
-}
-
 -- the end of the lines has gone where what went out is the frame of a NUL on channel 1
 abbrev pub went_by : Emit → Progress → Progress
 went_by (Emit.Data head) progress = record progress {
@@ -122,7 +100,7 @@ sender_plan settings lines = record {
 
 -- it has said nothing
 abbrev pub at_first : Progress
-at_first = record { next = 0; asked = 0; is_sent = false; is_closed = false }
+at_first = record { next = 0; asked = 0; is_sent = false }
 
 -- its next line is at this place
 abbrev pub at_next : ℕ → Progress → Progress
@@ -152,15 +130,16 @@ abbrev pub SendsAll : PlainPlan → List Entry → Type 0
 SendsAll plan log =
     (past : Past) → ShowsPast none_tunes (moments log) past → HasSentAll plan past.journal
 
--- what stops a sender as it uses octets, whose close was granted or not
-abbrev pub StopsSending : PlainPlan → Bool → Stop → List Moment → Type 0
-StopsSending plan is_closed Stop.Released log = is_closed ≡ true → ShowsSent plan log
-StopsSending plan is_closed (Stop.Broken rule place) log = ShowsFault plan.terms rule place log
-StopsSending plan is_closed Stop.WriteFault log = Unit {0}
-StopsSending plan is_closed Stop.NoMemory log = Unit {0}
-StopsSending plan is_closed (Stop.Refused code) log = Unit {0}
+-- what stops a sender as it uses octets: where it is released and was refused nothing, all was sent
+abbrev pub StopsSending : PlainPlan → Stop → List Moment → Type 0
+StopsSending plan Stop.Released log = ShowsNoRefusal plan.terms log → ShowsSent plan log
+StopsSending plan (Stop.Broken rule place) log = ShowsFault plan.terms rule place log
+StopsSending plan Stop.WriteFault log = Unit {0}
+StopsSending plan Stop.NoMemory log = Unit {0}
+StopsSending plan (Stop.Refused code) log = Unit {0}
 
 -- what the log of a link shows of a sender that ended so
 pub record TellsSent (plan : PlainPlan) (cause : Ended) (log : List Entry) : Type 0 where
   pub shows : Shows plan.terms cause log
   pub sent : cause ≡ Ended.Released → ShowsSent plan (moments log)
+  pub unrefused : GoesUnrefused plan.terms cause log

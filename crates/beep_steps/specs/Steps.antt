@@ -5,7 +5,7 @@ use Rattle.std.specs.Prelude.{◌≡◌, ℕ, ◌==◌, Bool, false, ◌&&◌, i
 use Rattle.std.specs.List.{list_any}
 use Rattle.beep_frame.specs.declared.head.Head.{Head}
 use Rattle.beep_history.specs.declared.journal.Side.{Side}
-use Rattle.beep_history.specs.Journal.{Item, began, passed, told}
+use Rattle.beep_history.specs.Journal.{Item, began, passed, told, same_side}
 use Rattle.beep_history.specs.Marks.{Mark, frame_marks, mark_modulo_2_64, tag_of}
 use Rattle.beep_journal.specs.Broken.{none_tunes}
 use Rattle.beep_journal.specs.Journal.{Past, Shows}
@@ -62,9 +62,16 @@ pub record IsUntaken (number : ℕ) (left : List Mark) (session : Held) : Type 0
       → untaken_marks channel.held.inbox ≡ left
   pub others : (n : ℕ) → (n == number) ≡ false → IsTakenAt n session.peer.lives
 
+-- an item is this end's
+abbrev pub is_own : Item → Bool
+is_own (began by head) = same_side by Side.Sent
+is_own (passed by head payload) = same_side by Side.Sent
+is_own (told by seq) = same_side by Side.Sent
+
 -- some items came, of which none ends a message of channel zero or is a frame above it
 pub record Came (gained journal now : List Item) : Type 0 where
   pub journal_is : now ≡ gained ++ journal
+  pub none_own : list_any is_own gained ≡ false
   pub quiet : list_any ends_zero gained ≡ false
   pub none_above : list_any is_above gained ≡ false
 

@@ -2,8 +2,11 @@
 -- These are proofs, since the members of an impl cite nothing else of its crate.
 use Rattle.std.specs.Prelude.{◌≡◌, ℕ, Bool, true, false, ◌||◌, is_some, List, ◌∷◌, ◌++◌}
 use Rattle.std.proofs.Common.{refl, sym, ap, ◌∙◌, subst, inl}
+use Rattle.beep_journal.specs.declared.role.Role.{Role}
+use Rattle.beep_journal.specs.Broken.{none_tunes}
+use Rattle.beep_journal.specs.Journal.{Past, Shows as ShowsPast}
 use Rattle.beep_journal.specs.Life.{is_released}
-use Rattle.beep_journal.specs.Log.{Moment, put_all}
+use Rattle.beep_journal.specs.Log.{Moment, put_all, none}
 use Rattle.beep_peer.specs.Peering.{is_over}
 use Rattle.beep_session.specs.Session.{Held}
 use Rattle.beep_session.specs.Lawfully.{terms_of}
@@ -14,8 +17,10 @@ use Rattle.beep_wires.specs.Log.{Entry, wrote, quiet, ended}
 use Rattle.beep_link.specs.Causes.{IsOfFaults, IsOfReads}
 use Rattle.beep_link.specs.declared.ended.Ended.{Ended}
 use Rattle.beep_lawful.specs.declared.terms.Terms.{Terms}
+use Rattle.beep_talk.specs.declared.plan.Command.{Command}
 use Rattle.beep_talk.specs.Plan.{PlainPlan}
-use Rattle.beep_steps.specs.Logs.{moments, StandsOn, Shows, ShowsGoing}
+use Rattle.beep_steps.specs.Logs.{moments, command_of, StandsOn, Shows, ShowsGoing}
+use Rattle.beep_steps.specs.Refusing.{GoesUnrefused, IsUnrefused, Unrefused}
 use Rattle.beep_steps.specs.Sending.{Progress, SendsOn, TellsSent}
 use Rattle.beep_steps.specs.Serving.{ServesOn}
 
@@ -104,9 +109,41 @@ spends_on session log (Ended.Cut left) is going s = absurd is
 spends_on session log (Ended.Idle count) is going s = going_on session log going s
 spends_on session log (Ended.Spent count) is going s = going_on session log going s
 
+-- each cause says what it does of an end that the peer refused nothing
+pub none_refused : (terms : Terms) (closing : Bool) (cause : Ended) (log : List Entry)
+    → IsUnrefused (command_of terms.role) closing (moments log) → GoesUnrefused terms cause log
+none_refused terms closing Ended.Released log u = λ past shows. (u past shows).none
+none_refused terms closing (Ended.Broken rule place) log u = tt
+none_refused terms closing Ended.WriteFault log u = tt
+none_refused terms closing Ended.WireFault log u = tt
+none_refused terms closing Ended.NoMemory log u = tt
+none_refused terms closing (Ended.Refused code) log u = tt
+none_refused terms closing (Ended.Cut left) log u = λ past shows. (u past shows).none
+none_refused terms closing (Ended.Idle count) log u = λ past shows. (u past shows).none
+none_refused terms closing (Ended.Spent count) log u = λ past shows. (u past shows).none
+
+-- a fault of the link says nothing of it
+pub faults_refused : (terms : Terms) (cause : Ended) (log : List Entry) → IsOfFaults cause
+    → GoesUnrefused terms cause log
+faults_refused terms Ended.Released log is = absurd is
+faults_refused terms (Ended.Broken rule place) log is = absurd is
+faults_refused terms Ended.WriteFault log is = absurd is
+faults_refused terms Ended.WireFault log is = tt
+faults_refused terms Ended.NoMemory log is = tt
+faults_refused terms (Ended.Refused code) log is = absurd is
+faults_refused terms (Ended.Cut left) log is = absurd is
+faults_refused terms (Ended.Idle count) log is = absurd is
+faults_refused terms (Ended.Spent count) log is = absurd is
+
 -- ---- a sender
 
 module _ (plan : PlainPlan) (progress : Progress) (session : Held) where
+  -- an initiator was told to send
+  as_told : session.role ≡ Role.Initiator → (closing : Bool) (log : List Moment)
+      → IsUnrefused Command.Send closing log → IsUnrefused (command_of session.role) closing log
+  as_told role closing log u =
+      subst (λ (c : Command). IsUnrefused c closing log) (sym (ap command_of role)) u
+
   pub writes_sending : (log : List Entry) (front octets : List ℕ)
       → SendsOn plan progress session (put_all (front ++ octets) (moments log))
       → SendsOn plan progress session (put_all octets (moments (wrote front ∷ log)))
@@ -138,15 +175,21 @@ module _ (plan : PlainPlan) (progress : Progress) (session : Held) where
     shows = subst (λ (t : Terms). Shows t cause log) same
         (stops_on session log octets cause is s.on);
     sent = λ released. absurd (subst IsOfFaults released is);
+    unrefused = subst (λ (t : Terms). GoesUnrefused t cause log) same
+        (faults_refused (terms_of session) cause log is);
   }
 
   pub spends_sending : terms_of session ≡ plan.terms → (log : List Entry) (cause : Ended)
       → IsOfReads cause → is_over session.peer ≡ false
-      → SendsOn plan progress session (moments log) → TellsSent plan cause log
-  spends_sending same log cause is going s = record {
+      → SendsOn plan progress session (moments log) → (closing : Bool)
+      → IsUnrefused Command.Send closing (moments log) → TellsSent plan cause log
+  spends_sending same log cause is going s closing u = record {
     shows = subst (λ (t : Terms). Shows t cause log) same
         (spends_on session log cause is going s.on);
     sent = λ released. absurd (subst IsOfReads released is);
+    unrefused = subst (λ (t : Terms). GoesUnrefused t cause log) same
+        (none_refused (terms_of session) closing cause log
+        (as_told s.sender.role closing (moments log) u));
   }
 
 -- ---- a listener
@@ -173,3 +216,27 @@ module _ (plan : PlainPlan) (session : Held) where
       → ServesOn plan session (moments (ended ∷ log))
   closes_serving log s = shown_serving (moments log) (moments (ended ∷ log)) s
       (over-logged (terms_of session) s.on.rest s.on.journal (moments log) s.on.logged)
+
+-- ---- what refuses an end
+
+module _ (command : Command) (closing : Bool) (log : List Entry) where
+  pub writes_unrefused : (front octets : List ℕ)
+      → IsUnrefused command closing (put_all (front ++ octets) (moments log))
+      → IsUnrefused command closing (put_all octets (moments (wrote front ∷ log)))
+  writes_unrefused front octets u =
+      subst (IsUnrefused command closing) (put-append front octets (moments log)) u
+
+  -- what changes nothing that a log shows
+  rests_unrefused : (past : Past) (s : ShowsPast none_tunes (none ∷ moments log) past)
+      → IsUnrefused command closing (moments log) → Unrefused command closing past.journal
+  rests_unrefused past s u =
+      subst (λ (p : Past). Unrefused command closing p.journal) (sym s.2) (u s.0 s.1)
+
+  pub quiets_unrefused : IsUnrefused command closing (moments log)
+      → IsUnrefused command closing (moments (quiet ∷ log))
+  quiets_unrefused u past s = rests_unrefused past s u
+
+  pub closes_unrefused : IsUnrefused command closing (moments log)
+      → IsUnrefused command closing (moments (ended ∷ log))
+  closes_unrefused u past s =
+      subst (λ (p : Past). Unrefused command closing p.journal) (sym s.2) (u s.0 s.1)

@@ -7,10 +7,6 @@ use beep_seq::{MAX_WINDOW, MIN_WINDOW};
 use beep_session::{Limits, MAX_PIECE, is_uri};
 use beep_settings::Settings;
 
-/// The code with which a sender refuses a session that is released before its close was granted
-/// (RFC 3080, section 8: service not available).
-pub const UNFINISHED: u16 = 421;
-
 /// Whether a session can be held with these settings.
 pub fn are_fit(settings: &Settings) -> bool
     ensures { (result ≡ true) ↔ AreFit settings.now }

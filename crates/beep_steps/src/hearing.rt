@@ -1,5 +1,5 @@
 //! What both ends do with a session. What each call wants is looked at beside it.
-ghost use Rattle.std.specs.Prelude.{◌≡◌, ◌<◌, ◌≤◌, ◌^◌, ◌==◌, List, length, take, ℕ, false, true, IfOk, IfErr, IfNone, IfSome, OnOk};
+ghost use Rattle.std.specs.Prelude.{Bool, ◌≡◌, ◌<◌, ◌≤◌, ◌^◌, ◌==◌, List, length, take, ℕ, false, true, IfOk, IfErr, IfNone, IfSome, OnOk};
 ghost use Rattle.beep_history.specs.Marks.{Mark};
 ghost use Rattle.beep_journal.specs.Log.{Moment, got_all, put_all};
 ghost use Rattle.beep_peer.specs.Peering.{zero_waits};
@@ -8,9 +8,13 @@ ghost use Rattle.beep_session.specs.Lawfully.{terms_of};
 ghost use Rattle.beep_link.specs.declared.end.TheConstants.{FRAME_ROOM};
 ghost use Rattle.beep_link.specs.declared.ended.Stop.{Stop as StopValue};
 ghost use Rattle.beep_steps.specs.Steps.{ComesSo, EndsSo, IsUntaken, SettledOn, Spoke, TookNone, TookPart};
-ghost use Rattle.beep_steps.specs.Logs.{ComesOn, StandsOn, StaysOn, StopsOn, WaitsOn};
-ghost use Rattle.beep_steps.specs.Sending.{closed_by, went_by, ComesSending, KeepsSending, Progress, SendsOn, SendsWaiting, StopsSending};
+ghost use Rattle.beep_steps.specs.Logs.{command_of, ComesOn, StandsOn, StaysOn, StopsOn, WaitsOn};
+ghost use Rattle.beep_steps.specs.Scripting.{ComesScripting, KeepsScripting, ScriptedOn, ScriptedWaiting};
+ghost use Rattle.beep_steps.specs.Sending.{went_by, ComesSending, KeepsSending, Progress, SendsOn, SendsWaiting, StopsSending};
 ghost use Rattle.beep_steps.specs.Serving.{ComesServing, KeepsServing, ServesOn, ServesWaiting};
+ghost use Rattle.beep_steps.specs.Speaking.{ComesSpeaking, KeepsSpeaking, Notes, SpeaksGone, SpeaksOn, SpeaksWaiting, SettledSpeaking};
+ghost use Rattle.beep_steps.specs.Refusing.{closing_by, ComesUnrefused, IsOtherStop, IsUnrefused, RefusesOn, SettlesSo, Unrefused};
+ghost use Rattle.beep_talk.specs.declared.plan.Command.{Command};
 ghost use Rattle.beep_talk.specs.Plan.{PlainPlan};
 
 use beep_inbox::Part;
@@ -38,11 +42,22 @@ pub fn say_next(session: &mut Session, out: &mut Octets) -> Emit
     ensures sending { (plan : PlainPlan) (p : Progress) (log : List Moment)
         → SendsOn plan p session.old (put_all out.old.octets log)
         → SendsOn plan (went_by result p) session.new (put_all out.new.octets log) }
+    ensures scripted { (plan : PlainPlan) (p : Progress) (log : List Moment)
+        → ScriptedOn plan p session.old (put_all out.old.octets log)
+        → ScriptedOn plan (went_by result p) session.new (put_all out.new.octets log) }
     ensures serving { (plan : PlainPlan) (log : List Moment)
         → ServesOn plan session.old (put_all out.old.octets log)
         → ServesOn plan session.new (put_all out.new.octets log) }
+    ensures speaking { (plan : PlainPlan) (notes : Notes) (log : List Moment)
+        → ServesOn plan session.old (put_all out.old.octets log)
+        → SpeaksOn plan notes session.old (put_all out.old.octets log)
+        → SpeaksGone plan notes session.new (put_all out.new.octets log) }
     ensures spoke { (log : List Moment) (s : StandsOn session.old (put_all out.old.octets log))
         → Spoke result session.old session.new s.journal (put_all out.new.octets log) }
+    ensures unrefused { (command : Command) (closing : Bool) (log : List Moment)
+        → StandsOn session.old (put_all out.old.octets log)
+        → IsUnrefused command closing (put_all out.old.octets log)
+        → IsUnrefused command (closing_by result closing) (put_all out.new.octets log) }
     ensures terms { terms_of session.new ≡ terms_of session.old }
     ensures offers { session.new.offers ≡ session.old.offers }
 {
@@ -60,13 +75,20 @@ pub fn hear_next(session: &mut Session, bytes: &[u8]) -> Result<(usize, Came), S
     ensures sending { (plan : PlainPlan) (p : Progress) (log : List Moment)
         → SendsOn plan p session.old log → IfOk result (λ heard.
         ComesSending plan p heard.1 session.new (got_all (take heard.0 bytes.now) log)) }
+    ensures scripted { (plan : PlainPlan) (p : Progress) (log : List Moment)
+        → ScriptedOn plan p session.old log → IfOk result (λ heard.
+        ComesScripting plan p heard.1 session.new (got_all (take heard.0 bytes.now) log)) }
     ensures serving { (plan : PlainPlan) (log : List Moment) → ServesOn plan session.old log
         → IfOk result (λ heard.
         ComesServing plan heard.1 session.new (got_all (take heard.0 bytes.now) log)) }
+    ensures speaking { (plan : PlainPlan) (notes : Notes) (log : List Moment)
+        → SpeaksOn plan notes session.old log → IfOk result (λ heard.
+        ComesSpeaking plan notes heard.1 session.new
+        (got_all (take heard.0 bytes.now) log)) }
     ensures stops { (plan : PlainPlan) (p : Progress) (log : List Moment)
         → plan.terms ≡ terms_of session.old → SendsOn plan p session.old log
         → IfErr result (λ stop.
-        StopsSending plan p.is_closed stop (got_all bytes.now log)) }
+        StopsSending plan stop (got_all bytes.now log)) }
     ensures stopped { (log : List Moment) → StandsOn session.old log → IfErr result (λ stop.
         StopsOn (terms_of session.old) stop (got_all bytes.now log)) }
     ensures more { (log : List Moment) → StandsOn session.old log → 0 < length bytes.now
@@ -76,6 +98,13 @@ pub fn hear_next(session: &mut Session, bytes: &[u8]) -> Result<(usize, Came), S
         (got_all (take heard.0 bytes.now) log)) }
     ensures ends { (log : List Moment) (s : StandsOn session.old log) → IfErr result (λ stop.
         EndsSo stop s.journal (got_all bytes.now log)) }
+    ensures unrefused { (command : Command) (closing : Bool) (log : List Moment)
+        → StandsOn session.old log → IsUnrefused command closing log → IfOk result (λ heard.
+        ComesUnrefused command closing heard.1 session.new
+        (got_all (take heard.0 bytes.now) log)) }
+    ensures refuses { (closing : Bool) (log : List Moment) → StandsOn session.old log
+        → IsUnrefused (command_of session.old.role) closing log → IfErr result (λ stop.
+        RefusesOn (terms_of session.old) stop (got_all bytes.now log)) }
     ensures going { IfOk result (λ heard. session.new.peer.released ≡ false) }
     ensures failed { IfErr result (λ stop. stop ≡ StopValue.WriteFault → ⊥) }
     ensures terms { terms_of session.new ≡ terms_of session.old }
@@ -98,8 +127,12 @@ pub fn take_part(session: &mut Session, number: u32, buf: &mut [u8]) -> Option<P
     requires fits { length buf.old < 2 ^ 32 }
     ensures stays { StaysOn session.old session.new }
     ensures serving { (plan : PlainPlan) → KeepsServing plan session.old session.new }
+    ensures speaking { (plan : PlainPlan) (notes : Notes)
+        → KeepsSpeaking plan notes notes session.old session.new }
     ensures sending { (plan : PlainPlan) (p : Progress)
         → KeepsSending plan p p session.old session.new }
+    ensures scripted { (plan : PlainPlan) (p : Progress)
+        → KeepsScripting plan p p session.old session.new }
     ensures part { (log : List Moment) (left : List Mark) → StandsOn session.old log
         → (number == 0) ≡ false → IsUntaken number left session.old
         → IfSome result (λ part. TookPart number part buf.new left session.new) }
@@ -127,14 +160,23 @@ pub fn settle_message(session: &mut Session) -> Result<Settled, Stop>
     ensures settled { (log : List Moment) → WaitsOn session.old log
         → OnOk result (StandsOn session.new log) }
     ensures sending { (plan : PlainPlan) (p : Progress) (log : List Moment)
-        → SendsWaiting plan p session.old log → IfOk result (λ settled.
-        SendsOn plan (closed_by settled p) session.new log) }
+        → SendsWaiting plan p session.old log → OnOk result (SendsOn plan p session.new log) }
+    ensures scripted { (plan : PlainPlan) (p : Progress) (log : List Moment)
+        → ScriptedWaiting plan p session.old log
+        → OnOk result (ScriptedOn plan p session.new log) }
     ensures serving { (plan : PlainPlan) (log : List Moment)
         → ServesWaiting plan session.old log → OnOk result (ServesOn plan session.new log) }
+    ensures speaking { (plan : PlainPlan) (notes : Notes) (log : List Moment)
+        → ServesWaiting plan session.old log → SpeaksWaiting plan notes session.old log
+        → IfOk result (λ settled. SettledSpeaking plan notes settled session.new log) }
     ensures stopped { (log : List Moment) (octets : List ℕ) → WaitsOn session.old log
         → IfErr result (λ stop. StopsOn (terms_of session.old) stop (got_all octets log)) }
     ensures done { (log : List Moment) (w : WaitsOn session.old log) → OnOk result
         (SettledOn session.old session.new w.head w.payload w.journal log) }
+    ensures refuses { (command : Command) (closing : Bool) (log : List Moment)
+        (w : WaitsOn session.old log) → Unrefused command closing w.journal
+        → IfOk result (λ settled. SettlesSo command closing settled log) }
+    ensures unrefusing { IfErr result (λ stop. IsOtherStop stop) }
     ensures ends { (log : List Moment) (octets : List ℕ) (w : WaitsOn session.old log)
         → IfErr result (λ stop. EndsSo stop w.journal (got_all octets log)) }
     ensures failed { IfErr result (λ stop. stop ≡ StopValue.WriteFault → ⊥) }

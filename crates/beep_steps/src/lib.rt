@@ -9,5 +9,5 @@ mod fit;
 mod hearing;
 pub mod laws;
 
-pub use fit::{UNFINISHED, are_fit, limits_of, reads_of};
+pub use fit::{are_fit, limits_of, reads_of};
 pub use hearing::{Came, hear_next, is_open, say_next, settle_message, take_part};

@@ -1,5 +1,5 @@
 //! What a listener does with octets that come.
-ghost use Rattle.std.specs.Prelude.{◌≡◌, ◌≤◌, ◌<◌, ◌++◌, false, List, length, take, ℕ, IfErr, IfOk, OnErr, OnOk};
+ghost use Rattle.std.specs.Prelude.{◌≡◌, ◌≤◌, ◌<◌, ◌++◌, ◌||◌, false, List, length, take, ℕ, None, IfErr, IfOk, OnErr, OnOk};
 ghost use Rattle.beep_wires.specs.Counts.{Rose};
 ghost use Rattle.beep_inbox.specs.Laws.{part_marks};
 ghost use Rattle.beep_journal.specs.Log.{Moment, got_all};
@@ -9,13 +9,16 @@ ghost use Rattle.beep_link.specs.declared.ended.Stop.{Stop as StopValue};
 ghost use Rattle.beep_lines.specs.Bodies.{body_of, IsOver};
 ghost use Rattle.beep_lines.specs.Lines.{lines_of, GathersAll, GathersSome};
 ghost use Rattle.beep_ends.specs.declared.listener.TheConstants.{TAKEN};
-ghost use Rattle.beep_ends.specs.Listening.{is_first, is_whole, part_lines, plan_of, Listens, ListensTaking, ListensWaiting, PartOf, WritesLines};
+ghost use Rattle.beep_ends.specs.Listening.{is_first, is_whole, part_lines, plan_of, Listens, ListensTaking, ListensWaiting, PartOf, UnrefusedOn, UnrefusedWaiting, WritesLines};
 ghost use Rattle.beep_steps.specs.Logs.{SaysNothing, StandsOn, StaysOn, StopsOn, WaitsOn};
+ghost use Rattle.beep_steps.specs.Refusing.{refused_so, IsOtherStop, RefusesOn, RefusesWith};
 ghost use Rattle.beep_steps.specs.Serving.{KeepsServing, ServesOn, ServesWaiting};
+ghost use Rattle.beep_talk.specs.declared.plan.Command.{Command};
 ghost use Rattle.beep_talk.specs.Plan.{PlainPlan};
 
 use super::{Listener, TAKEN};
 use crate::pruning::prune;
+use crate::refusing::denial;
 use beep_frame::Kind;
 use beep_inbox::Part;
 use beep_link::Stop;
@@ -25,6 +28,10 @@ use beep_steps::{Came, hear_next, settle_message, take_part};
 use beep_wires::Sink;
 
 impl Listener {
+    ghost use Rattle.beep_steps.specs.Speaking.{closes_all};
+    ghost use Rattle.beep_ends.specs.Starting.{StartsBy};
+    ghost use Rattle.beep_ends.specs.Speaking.{notes_of, KeepsSpeakingBy, SpeaksBy, SpeaksWaitingBy};
+
     /// Uses all octets, unless the session ends. Each event uses one at least.
     pub(super) fn hear_all<O: Sink>(&mut self, bytes: &[u8], output: &mut O) -> Result<(), Stop>
         ensures heard { (log : List Moment) (text : List ℕ) → Listens self.old.session
@@ -43,6 +50,14 @@ impl Listener {
         ensures serving { (plan : PlainPlan) (log : List Moment)
             → ServesOn plan self.old.session log
             → OnOk result (ServesOn plan self.new.session (got_all bytes.now log)) }
+        ensures speaking { (plan : PlainPlan) (log : List Moment)
+            → ServesOn plan self.old.session log → SpeaksBy plan self.old log
+            → OnOk result (SpeaksBy plan self.new (got_all bytes.now log)) }
+        ensures unrefused { (log : List Moment) → UnrefusedOn self.old.session log
+            → OnOk result (UnrefusedOn self.new.session (got_all bytes.now log)) }
+        ensures refuses { (log : List Moment) → UnrefusedOn self.old.session log
+            → IfErr result (λ stop.
+            RefusesOn (terms_of self.old.session) stop (got_all bytes.now log)) }
         ensures plan { plan_of self.new.session ≡ plan_of self.old.session }
         ensures failed { IfErr result (λ stop. stop ≡ StopValue.WriteFault
             → Rose (O.state output.old).faults (O.state output.new).faults) }
@@ -82,6 +97,15 @@ impl Listener {
         ensures serving { (plan : PlainPlan) (log : List Moment)
             → ServesOn plan self.old.session log → IfOk result (λ n.
             ServesOn plan self.new.session (got_all (take n bytes.now) log)) }
+        ensures speaking { (plan : PlainPlan) (log : List Moment)
+            → ServesOn plan self.old.session log → SpeaksBy plan self.old log → IfOk result
+            (λ n. SpeaksBy plan self.new (got_all (take n bytes.now) log)) }
+        ensures unrefused { (log : List Moment) → UnrefusedOn self.old.session log
+            → IfOk result (λ n.
+            UnrefusedOn self.new.session (got_all (take n bytes.now) log)) }
+        ensures refuses { (log : List Moment) → UnrefusedOn self.old.session log
+            → IfErr result (λ stop.
+            RefusesOn (terms_of self.old.session) stop (got_all bytes.now log)) }
         ensures plan { plan_of self.new.session ≡ plan_of self.old.session }
         ensures failed { IfErr result (λ stop. stop ≡ StopValue.WriteFault
             → Rose (O.state output.old).faults (O.state output.new).faults) }
@@ -117,6 +141,14 @@ impl Listener {
         ensures serving { (plan : PlainPlan) (log : List Moment)
             → ServesWaiting plan self.old.session log
             → OnOk result (ServesOn plan self.new.session log) }
+        ensures speaking { (plan : PlainPlan) (log : List Moment)
+            → ServesWaiting plan self.old.session log → SpeaksWaitingBy plan self.old log
+            → OnOk result (SpeaksBy plan self.new log) }
+        ensures unrefused { (log : List Moment) → UnrefusedWaiting self.old.session log
+            → OnOk result (UnrefusedOn self.new.session log) }
+        ensures refuses { (log : List Moment) (octets : List ℕ)
+            → UnrefusedWaiting self.old.session log → IfErr result (λ stop.
+            RefusesOn (terms_of self.old.session) stop (got_all octets log)) }
         ensures plan { plan_of self.new.session ≡ plan_of self.old.session }
         ensures failed { IfErr result (λ stop. stop ≡ StopValue.WriteFault → ⊥) }
     {
@@ -134,23 +166,36 @@ impl Listener {
     /// Does what a message calls for that was settled.
     fn does(&mut self, settled: Settled) -> Result<(), Stop>
         ensures session { self.new.session ≡ self.old.session }
+        ensures starting { StartsBy settled self.old.starting.items self.new.starting.items }
+        ensures spoken { self.new.spoken ≡ self.old.spoken }
+        ensures leaving { OnOk result
+            ((closes_all settled || self.old.leaving) ≡ self.new.leaving) }
         ensures bodies { self.new.bodies ≡ self.old.bodies }
         ensures lines { self.new.lines ≡ self.old.lines }
         ensures stopped { IfErr result (λ stop. SaysNothing stop) }
+        ensures unrefused { OnOk result (refused_so Command.Listen false settled ≡ None) }
+        ensures refuses { IfErr result (λ stop.
+            RefusesWith (refused_so Command.Listen false settled) stop) }
         ensures failed { IfErr result (λ stop. stop ≡ StopValue.WriteFault → ⊥) }
     {
+        if let Some(code) = denial(&settled) {
+            return Err(Stop::Refused(code));
+        }
         match settled {
-            Settled::Denied(code) => Err(Stop::Refused(code)),
             Settled::PeerStarts { number, .. } => match self.starting.push(number) {
                 Ok(()) => Ok(()),
                 Err(_) => Err(Stop::NoMemory),
             },
+            Settled::PeerCloses { number, .. } => {
+                self.leaving = number == 0 || self.leaving;
+                Ok(())
+            }
             Settled::Released
             | Settled::Greeted
+            | Settled::Denied(_)
             | Settled::Begun { .. }
             | Settled::NotBegun { .. }
             | Settled::PeerRefused { .. }
-            | Settled::PeerCloses { .. }
             | Settled::Closed { .. }
             | Settled::NotClosed { .. }
             | Settled::Stale(_) => Ok(()),
@@ -162,6 +207,7 @@ impl Listener {
         ensures stays { StaysOn self.old.session self.new.session }
         ensures serving { (plan : PlainPlan)
             → KeepsServing plan self.old.session self.new.session }
+        ensures speaking { (plan : PlainPlan) → KeepsSpeakingBy plan self.old self.new }
         ensures taken { (log : List Moment) (text : List ℕ) → ListensTaking number 0
             self.old.session self.old.bodies self.old.lines.octets.octets log text → OnOk result
             (WithText (O.state output.old).written (O.state output.new).written
@@ -173,6 +219,7 @@ impl Listener {
             (λ more. WritesLines (plan_of self.old.session) false log
             ((text ++ more) ++ self.new.lines.octets.octets))) }
         ensures stopped { IfErr result (λ stop. SaysNothing stop) }
+        ensures unrefusing { IfErr result (λ stop. IsOtherStop stop) }
         ensures failed { IfErr result (λ stop. stop ≡ StopValue.WriteFault
             → Rose (O.state output.old).faults (O.state output.new).faults) }
         ensures kept { (O.state output.old).faults ≤ (O.state output.new).faults }
@@ -188,11 +235,12 @@ impl Listener {
     }
 
     /// Takes all that has arrived on a channel, and tells whether it ends a request. A frame is one
-    /// part of a message, or several.
+    /// part of a message, or several, and the end of its message is its last mark.
     fn take_all<O: Sink>(&mut self, number: u32, output: &mut O) -> Result<bool, Stop>
         ensures stays { StaysOn self.old.session self.new.session }
         ensures serving { (plan : PlainPlan)
             → KeepsServing plan self.old.session self.new.session }
+        ensures speaking { (plan : PlainPlan) → KeepsSpeakingBy plan self.old self.new }
         ensures taken { (log : List Moment) (text : List ℕ) → ListensTaking number 0
             self.old.session self.old.bodies self.old.lines.octets.octets log text → OnOk result
             (WithText (O.state output.old).written (O.state output.new).written
@@ -204,6 +252,7 @@ impl Listener {
             (λ more. WritesLines (plan_of self.old.session) false log
             ((text ++ more) ++ self.new.lines.octets.octets))) }
         ensures stopped { IfErr result (λ stop. SaysNothing stop) }
+        ensures unrefusing { IfErr result (λ stop. IsOtherStop stop) }
         ensures failed { IfErr result (λ stop. stop ≡ StopValue.WriteFault
             → Rose (O.state output.old).faults (O.state output.new).faults) }
         ensures kept { (O.state output.old).faults ≤ (O.state output.new).faults }
@@ -213,8 +262,12 @@ impl Listener {
             let Some(part) = take_part(&mut self.session, number, self.taken.as_mut_slice()) else {
                 return Ok(is_asked);
             };
-            is_asked = is_asked || part.ended && part.tag.kind.is_msg();
+            let is_last = part.ended;
+            is_asked = is_asked || is_last && part.tag.kind.is_msg();
             self.took(number, part, output)?;
+            if is_last {
+                return Ok(is_asked);
+            }
         }
         Ok(is_asked)
     }
@@ -224,6 +277,7 @@ impl Listener {
     fn took<O: Sink>(&mut self, number: u32, part: Part, output: &mut O) -> Result<(), Stop>
         requires within { part.len ≤ TAKEN }
         ensures session { self.new.session ≡ self.old.session }
+        ensures notes { notes_of self.new ≡ notes_of self.old }
         ensures bodies { OnOk result (PartOf number (part_marks part self.old.taken.items)
             self.old.bodies self.new.bodies) }
         ensures ok { OnOk result (GathersAll (O.state output.old).written
@@ -235,6 +289,7 @@ impl Listener {
             (part_lines number part self.old.taken.items self.old.bodies)
             self.new.lines.octets.octets) }
         ensures stopped { IfErr result (λ stop. SaysNothing stop) }
+        ensures unrefusing { IfErr result (λ stop. IsOtherStop stop) }
         ensures failed { IfErr result (λ stop. stop ≡ StopValue.WriteFault
             → Rose (O.state output.old).faults (O.state output.new).faults) }
         ensures kept { (O.state output.old).faults ≤ (O.state output.new).faults }
@@ -265,6 +320,7 @@ impl Listener {
     ) -> Result<(), Stop>
         requires within { count ≤ TAKEN }
         ensures session { self.new.session ≡ self.old.session }
+        ensures notes { notes_of self.new ≡ notes_of self.old }
         ensures bodies { OnOk result (IsOver number ansno self.old.bodies self.new.bodies) }
         ensures ok { OnOk result (GathersAll (O.state output.old).written
             (O.state output.new).written self.old.lines.octets.octets
@@ -275,6 +331,7 @@ impl Listener {
             (lines_of (body_of number ansno self.old.bodies ++ take count self.old.taken.items))
             self.new.lines.octets.octets) }
         ensures stopped { IfErr result (λ stop. SaysNothing stop) }
+        ensures unrefusing { IfErr result (λ stop. IsOtherStop stop) }
         ensures failed { IfErr result (λ stop. stop ≡ StopValue.WriteFault
             → Rose (O.state output.old).faults (O.state output.new).faults) }
         ensures kept { (O.state output.old).faults ≤ (O.state output.new).faults }

@@ -1,6 +1,9 @@
-use Rattle.std.proofs.Common.{◌≡◌, true, false, sym, ◌∙◌}
+use Rattle.std.proofs.Common.{◌≡◌, true, false, refl, sym, ◌∙◌}
+use Rattle.std.proofs.KnownBytes.{Appends-nil}
+use Rattle.beep_link.specs.declared.ended.Ended.{Ended}
 use Rattle.beep_link.specs.Causes.{Seen}
-use Rattle.beep_cmd.specs.Ends.{seen_of}
+use Rattle.beep_cmd.specs.Ends.{seen_of, session}
+use Rattle.beep_cmd.specs.Recording.{record_starved}
 use Rattle.beep_cmd.proofs.EndsLemmas.{listened}
 use Rattle.beep_cmd.proofs.ListenLemmas.{last_line, none_written}
 use Rattle.beep_cmd.proofs.RecordedLemmas.{listened_recorded}
@@ -27,3 +30,6 @@ returns-then-settings-clause-lines g c = λ recording told. absurd (let h : true
 
 pub returns-in_default-clause-lines : goal.returns-in_default-clause-lines
 returns-in_default-clause-lines g c = λ recording told. none_written c.args.settings.now _ (g.O.Sink.state c.args.output.now)
+
+pub returns-in_default-clause-recorded : goal.returns-in_default-clause-recorded
+returns-in_default-clause-recorded g c = λ recording. record_starved Ended.NoMemory (session tt (λ e. absurd cc)) refl (Appends-nil (g.O.Sink.state c.args.output.now).written)

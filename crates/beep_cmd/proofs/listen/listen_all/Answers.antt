@@ -3,8 +3,8 @@ use Rattle.beep_link.specs.declared.ended.Ended.{Ended}
 use Rattle.beep_link.specs.Causes.{Seen, WhereTold}
 use Rattle.beep_journal.specs.declared.role.Role.{Role}
 use Rattle.beep_steps.specs.Logs.{IsLawfulOn, terms_by}
-use Rattle.beep_cmd.specs.Ends.{IsAcceptOf, SessionCause, seen_of}
-use Rattle.beep_cmd.specs.Listening.{ends_run}
+use Rattle.beep_cmd.specs.Ends.{ends_run, IsAcceptOf, SessionCause, seen_of}
+use Rattle.beep_cmd.proofs.EndsLemmas.{rose_later}
 use Rattle.beep_cmd.proofs.ListenLemmas.{all_lines, lines_ended, lines_further, lines_unlinked, told_after, told_before}
 use Rattle.beep_cmd.proofs.ServingLemmas.{asks_fewer, asks_more, each_joined, joined_cause, first_goes, goes_further}
 use Rattle.beep_cmd.proofs.listen.listen_all.Goals as goal
@@ -43,7 +43,8 @@ returns-in-Err-clause-lines g c = λ told.
     let i = c.loop.invariant in
     let n = c.in-Err.ensures.failed in
     lines_unlinked settings before mid after c.loop.first c.in-Err.ended (O.state c.args.output.now).written (O.state c.loop.output).written (O.state c.listen_once.new.output).written i.goes n.goes_on
-    (i.lines (told_before before mid after n.goes_on told)) n.none (ap (λ o. (O.state o).written) c.in-Err.ensures.same_output) c.in-Err.ended (elim n.failed [ inl wire ↦ inl wire.0 | inr short ↦ inr short ])
+    (i.lines (told_before before mid after n.goes_on told)) n.none (ap (λ o. (O.state o).written) c.in-Err.ensures.same_output) c.in-Err.ended
+    (elim n.failed [ inl wire ↦ inl (wire.0, rose_later before.counts.accepts mid.counts.accepts after.counts.accepts i.goes_on.accepts wire.1) | inr short ↦ inr short ])
 
 pub returns-clause-lines : goal.returns-clause-lines
 returns-clause-lines g c = λ told.
@@ -52,7 +53,7 @@ returns-clause-lines g c = λ told.
     let settings = c.args.settings.now in
     let before : Seen = seen_of (W.state c.args.wires.now) (W.counts c.args.wires.now) (W.asked c.args.wires.now) (W.lent c.args.wires.now) in
     let mid : Seen = seen_of (W.state c.loop.wires) (W.counts c.loop.wires) (W.asked c.loop.wires) (W.lent c.loop.wires) in
-    all_lines settings before mid c.loop.first (O.state c.args.output.now).written (O.state c.loop.output).written (c.loop.invariant.lines told)
+    all_lines settings before mid c.loop.first (O.state c.args.output.now).written (O.state c.loop.output).written (omega (arith, c.loop.invariant.given, c.loop-test.false)) (c.loop.invariant.lines told)
 
 pub loop-preserved : goal.loop-preserved
 loop-preserved g c =

@@ -1,9 +1,9 @@
 -- As many links were accepted as there were turns, and what ended the first session that wasn't
 -- released shows in its link.
 use Rattle.std.proofs.Common.{◌≡◌, ◌+◌, ◌≤◌, false, List}
-use Rattle.beep_cmd.specs.Ends.{AsksOnly, IsAcceptOf, SessionCause, seen_of, WritesLawfully}
+use Rattle.beep_cmd.specs.Ends.{AsksOnly, ends_run, IsAcceptOf, SessionCause, seen_of, WritesLawfully}
 use Rattle.beep_journal.specs.declared.role.Role.{Role}
-use Rattle.beep_cmd.specs.Listening.{AreTold, ends_run, run_cause, Session}
+use Rattle.beep_cmd.specs.Listening.{AreTold, run_cause, Session}
 use Rattle.beep_cmd.specs.Serving.{GoesOn, WritesSessions}
 use Rattle.beep_cmd.proofs.listen.listen_all.Given as goal
 

@@ -1,7 +1,7 @@
 use Rattle.std.proofs.Common.{◌≡◌, List, ℕ, [], refl, rules}
 use Rattle.beep_journal.specs.declared.role.Role.{Role}
 use Rattle.beep_link.specs.Causes.{Seen}
-use Rattle.beep_cmd.specs.Ends.{asking, ListenCause, seen_of}
+use Rattle.beep_cmd.specs.Ends.{asking, ListenCause, seen_of, session}
 use Rattle.beep_cmd.proofs.RecordedLemmas.{ends_recorded, ends_unlinked, listen_caused, record_is}
 use Rattle.beep_cmd.proofs.recorded.record_listen.Goals as goal
 
@@ -25,5 +25,5 @@ returns-clause-told g c =
     let settings = c.args.settings.now in
     let before : Seen = seen_of (W.state c.args.wires.now) (W.counts c.args.wires.now) (W.asked c.args.wires.now) (W.lent c.args.wires.now) in
     let after : Seen = seen_of (W.state c.listen_recorded.new.wires) (W.counts c.listen_recorded.new.wires) (W.asked c.listen_recorded.new.wires) (W.lent c.listen_recorded.new.wires) in
-    ends_unlinked (λ cause. ListenCause cause settings before after) Role.Listener before after c.finish.result (O.state c.args.output.now) (O.state c.finish.new.output) c.in-Err.ended before.counts.accepts after.counts.accepts c.in-Err.ensures.failed (λ rose. asking refl rose)
+    ends_unlinked (λ cause. ListenCause cause settings before after) Role.Listener before after c.finish.result (O.state c.args.output.now) (O.state c.finish.new.output) c.in-Err.ended before.counts.accepts after.counts.accepts c.in-Err.ensures.failed (λ rose. asking refl rose) (session tt (λ e. absurd cc))
     c.finish.ensures.told c.finish.ensures.none

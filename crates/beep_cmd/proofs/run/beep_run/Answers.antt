@@ -8,9 +8,10 @@ use Rattle.beep_words.specs.declared.command.Command.{Command}
 use Rattle.beep_words.specs.CommandSet.{IsShow, IsReplay, IsSend, IsListen, IsPair, IsOfEnd}
 use Rattle.beep_words.specs.Usable.{IsUsable}
 use Rattle.beep_words.proofs.UsableLemmas.{send_is_usable, listen_is_usable, pair_is_usable}
+use Rattle.beep_link.specs.declared.ended.Ended.{Ended}
 use Rattle.beep_steps.specs.Ends.{AreFit}
 use Rattle.beep_steps.proofs.FitLemmas.{fit}
-use Rattle.beep_cmd.specs.Ends.{AcceptsAtMost, DialsOnce, IsAcceptOf, IsDialOf, Listened, listen_starved, seen_of, Sent, WritesLawfully}
+use Rattle.beep_cmd.specs.Ends.{AcceptsAtMost, DialsOnce, IsAcceptOf, IsDialOf, Listened, listen_starved, seen_of, Sent, session, WritesLawfully}
 use Rattle.beep_cmd.specs.Pair.{Paired}
 use Rattle.beep_link.specs.Causes.{Seen, WhereTold}
 use Rattle.beep_journal.specs.declared.role.Role.{Role}
@@ -321,7 +322,7 @@ returns-in-Err g c =
       replay_complete = λ octets w left is_lawful no_fault. absurd (of.not_replay w);
       sent = λ settings w. starved_at_once settings _ _ _;
       listened = λ settings w. listen_starved refl;
-      listen_recorded = λ settings w recording. record_starved refl (Appends-nil (g.O.Sink.state c.args.output.now).written);
+      listen_recorded = λ settings w recording. record_starved Ended.NoMemory (session tt (λ e. absurd cc)) refl (Appends-nil (g.O.Sink.state c.args.output.now).written);
       listen_lines = λ settings w recording told. none_written settings seen (g.O.Sink.state c.args.output.now);
       paired = λ settings w. absurd (of.not_pair settings w);
       pair_complete = λ settings w is_runnable no_fault. absurd (of.not_pair settings w);

@@ -10,6 +10,15 @@ use Rattle.beep_steps.specs.Logs.{StaysOn}
 use Rattle.beep_steps.specs.Serving.{KeepsServing}
 use Rattle.beep_steps.proofs.CallLemmas.{same-stays, still-stays, gone-stays}
 use Rattle.beep_steps.proofs.ServeCalls.{same-serves, still-serves, gone-serves}
+use Rattle.std.proofs.Common.{◌==◌, false, true}
+use Rattle.std.specs.Prelude.{is_some}
+use Rattle.beep_lives.specs.Lives.{live_at}
+use Rattle.beep_giving.specs.Looks.{answers_of}
+use Rattle.beep_session.specs.Lending.{duty_number, has_begun}
+use Rattle.beep_decide.specs.Decide.{is_among}
+use Rattle.beep_steps.specs.Speaking.{KeepsSpeaking}
+use Rattle.beep_steps.proofs.SpeakCalls.{same-speaking, still-speaking}
+use Rattle.beep_steps.proofs.SpeakGives.{begun-speaking, gone-speaking}
 use Rattle.beep_ends.proofs.asking.refuse_oldest.Goals as goal
 
 pub returns-in-Ok : goal.returns-in-Ok
@@ -26,6 +35,14 @@ returns-in-Ok c =
           gone-serves plan c.refuse.result c.in-Ok.field-0 at Kind.Err c.args.refusal.now old c.in-Some-Fresh.owed.session.now c.refuse.follows.lender-at-none (above-zero at (positive at c.in-Some-Fresh.owed.open.above)) c.in-Ok.is
           (ap (λ (d : Duty). (duty_session d).now) (sym c.in-Some-Fresh.field-0-is) ∙ c.in-Some-Fresh.ensures.same.0) c.refuse.follows.holds-at-none in
           let g : (x : Held) → x ≡ c.refuse.follows.lender-at-none → KeepsServing plan old x = λ x e. subst (KeepsServing plan old) (sym e) k in
+          g _ (search rules);
+      speaking = λ plan notes noted text.
+          let at = c.in-Some-Fresh.owed.at in
+          let number : at ≡ c.args.number = ap duty_number (sym c.in-Some-Fresh.field-0-is) ∙ c.in-Some-Fresh.ensures.same.1 in
+          let k : KeepsSpeaking plan notes notes old c.refuse.follows.lender-at-none =
+          gone-speaking plan notes old c.in-Some-Fresh.owed.session.now c.refuse.follows.lender-at-none (ap (λ (d : Duty). (duty_session d).now) (sym c.in-Some-Fresh.field-0-is) ∙ c.in-Some-Fresh.ensures.same.0) at c.refuse.result c.in-Ok.field-0 c.args.refusal.now c.in-Ok.is
+          c.refuse.follows.holds-at-none (subst (λ n. is_among n notes.spoken ≡ true) (sym number) noted) text in
+          let g : (x : Held) → x ≡ c.refuse.follows.lender-at-none → KeepsSpeaking plan notes notes old x = λ x e. subst (KeepsSpeaking plan notes notes old) (sym e) k in
           g _ (search rules);
     }
 
@@ -44,6 +61,12 @@ returns-in-Err c =
           (still-serves plan c.in-Some-Fresh.owed.session.now c.in-Err._owed.session.now c.in-Err.ensures.same.0 c.in-Err.ensures.upright) in
           let g : (x : Held) → x ≡ c.in-Err._owed.session.now → KeepsServing plan old x = λ x e. subst (KeepsServing plan old) (sym e) k in
           g _ (search rules);
+      speaking = λ plan notes noted text.
+          let k : KeepsSpeaking plan notes notes old c.in-Err._owed.session.now =
+          same-speaking plan notes notes old c.in-Some-Fresh.owed.session.now c.in-Err._owed.session.now (ap (λ (d : Duty). (duty_session d).now) (sym c.in-Some-Fresh.field-0-is) ∙ c.in-Some-Fresh.ensures.same.0)
+          (still-speaking plan notes c.in-Some-Fresh.owed.session.now c.in-Err._owed.session.now c.in-Err.ensures.same.0 c.in-Err.ensures.upright) in
+          let g : (x : Held) → x ≡ c.in-Err._owed.session.now → KeepsSpeaking plan notes notes old x = λ x e. subst (KeepsSpeaking plan notes notes old) (sym e) k in
+          g _ (search rules);
     }
 
 pub returns-in-Ok-done : goal.returns-in-Ok-done
@@ -61,6 +84,11 @@ returns-in-Ok-done c =
           (ap (λ (d : Duty). (duty_session d).now) (sym c.in-Some-Begun.field-0-is) ∙ c.in-Some-Begun.ensures.same.0) c.done.follows.holds-at-none in
           let g : (x : Held) → x ≡ c.done.follows.lender-at-none → KeepsServing plan old x = λ x e. subst (KeepsServing plan old) (sym e) k in
           g _ (search rules);
+      speaking = λ plan notes noted text.
+          let at = c.in-Some-Begun.answering.at in
+          let number : at ≡ c.args.number = ap duty_number (sym c.in-Some-Begun.field-0-is) ∙ c.in-Some-Begun.ensures.same.1 in
+          let begun : is_some (answers_of (live_at c.args.number old.peer.lives)) ≡ true = sym c.in-Some-Begun.ensures.begun ∙ ap has_begun c.in-Some-Begun.field-0-is in
+          begun-speaking plan notes old _ c.args.number (subst (λ n. (n == 0) ≡ false) number (above-zero at (positive at c.in-Some-Begun.answering.open.above))) begun noted;
     }
 
 pub returns-in-Err-done : goal.returns-in-Err-done
@@ -78,4 +106,9 @@ returns-in-Err-done c =
           (still-serves plan c.in-Some-Begun.answering.session.now c.in-Err-done._answering.session.now c.in-Err-done.ensures.same.0 c.in-Err-done.ensures.upright) in
           let g : (x : Held) → x ≡ c.in-Err-done._answering.session.now → KeepsServing plan old x = λ x e. subst (KeepsServing plan old) (sym e) k in
           g _ (search rules);
+      speaking = λ plan notes noted text.
+          let at = c.in-Some-Begun.answering.at in
+          let number : at ≡ c.args.number = ap duty_number (sym c.in-Some-Begun.field-0-is) ∙ c.in-Some-Begun.ensures.same.1 in
+          let begun : is_some (answers_of (live_at c.args.number old.peer.lives)) ≡ true = sym c.in-Some-Begun.ensures.begun ∙ ap has_begun c.in-Some-Begun.field-0-is in
+          begun-speaking plan notes old _ c.args.number (subst (λ n. (n == 0) ≡ false) number (above-zero at (positive at c.in-Some-Begun.answering.open.above))) begun noted;
     }

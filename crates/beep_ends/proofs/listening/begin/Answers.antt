@@ -1,12 +1,19 @@
 -- A session in which nothing has happened stands for an empty log.
-use Rattle.std.proofs.Common.{◌∙◌, ap, subst, sym, [], map}
+use Rattle.std.proofs.Common.{◌∙◌, ap, refl, subst, sym, [], map}
 use Rattle.beep_decide.specs.Plain.{plain_offer}
+use Rattle.beep_standing.specs.Standing.{no_marks}
 use Rattle.beep_steps.specs.Serving.{ServesOn}
 use Rattle.beep_steps.proofs.ServeCalls.{begins-listener}
 use Rattle.beep_ends.proofs.ServingLemmas.{listener-of}
 use Rattle.beep_steps.proofs.OnLemmas.{ok-map}
-use Rattle.beep_ends.specs.Listening.{plan_of}
-use Rattle.beep_ends.proofs.ListenLemmas.{begins-listening, begun-plan, dry-as, ok-three, terms-begun}
+use Rattle.beep_ends.specs.Listening.{UnrefusedOn, plan_of}
+use Rattle.beep_ends.proofs.ListenLemmas.{begins-listening, begun-plan, dry-as, terms-begun}
+use Rattle.beep_ends.proofs.RefusingLemmas.{begins-unrefused}
+use Rattle.beep_steps.specs.Speaking.{SpeaksOn, no_notes}
+use Rattle.beep_steps.proofs.SpeakCalls.{begins-speaking}
+use Rattle.beep_steps.proofs.OnLemmas.{begins-on}
+use Rattle.beep_ends.specs.Speaking.{notes_of}
+use Rattle.beep_ends.proofs.SpeakingLemmas.{ok-four}
 use Rattle.beep_ends.proofs.listening.begin.Goals as goal
 
 pub returns-clause-stands : goal.returns-clause-stands
@@ -16,11 +23,17 @@ returns-clause-stands c =
     let s = begins-listening session e.stands.given (e.lawful e.stands) in
     let one = e.terms.1 ∙ c.in_ok-offers.ensures.value in
     let serves = begins-listener (plan_of session) session _ (map plain_offer c.in_ok-offers.offers) e.stands _ (listener-of session _ one) (e.lawful e.stands) in
-    ok-three c.new-2.result _ _ _ _ (λ listener same b l. (
-      dry-as session listener.session listener.bodies listener.lines.octets.octets s same b l,
-      subst (λ h. ServesOn (plan_of h) h []) (sym same) serves,
+    let on = begins-on session e.stands.given no_marks (e.lawful e.stands) in
+    let speaking : SpeaksOn (plan_of session) no_notes session [] = begins-speaking (plan_of session) session _ _ e.stands no_marks refl on refl refl in
+    ok-four c.new-2.result _ _ _ _ _ (λ listener same b l n. (
+      (
+        dry-as session listener.session listener.bodies listener.lines.octets.octets s same b l,
+        subst (λ h. ServesOn (plan_of h) h []) (sym same) serves,
+        subst (λ h. UnrefusedOn h []) (sym same) (begins-unrefused session s.listens.on e.terms.0),
+      ),
+      subst (λ h. SpeaksOn (plan_of h) (notes_of listener) h []) (sym same) (subst (λ x. SpeaksOn (plan_of session) x session []) (sym n) speaking),
     ))
-    c.new-2.ensures.session c.new-2.ensures.bodies c.new-2.ensures.lines
+    c.new-2.ensures.session c.new-2.ensures.bodies c.new-2.ensures.lines c.new-2.ensures.notes
 
 pub returns-clause-plan : goal.returns-clause-plan
 returns-clause-plan c =

@@ -8,9 +8,13 @@ use Rattle.beep_talk.specs.Plan.{PlainPlan}
 use Rattle.beep_steps.specs.Logs.{moments, Shows, terms_by}
 use Rattle.beep_steps.proofs.OnLemmas.{none-shown, none-told, told-lawful}
 use Rattle.beep_steps.specs.Ends.{reads_of}
+use Rattle.beep_steps.specs.Refusing.{GoesUnrefused}
 use Rattle.beep_steps.specs.Serving.{ShowsServing}
 use Rattle.beep_ends.specs.Listening.{AreLinesOf, WritesLines, is_whole, listener_plan, plan_of}
 use Rattle.beep_ends.proofs.ServingLemmas.{told-lines, unread-bounded}
+use Rattle.beep_steps.specs.Scripting.{KeepsAboveOn}
+use Rattle.beep_steps.specs.Speaking.{ShowsTold}
+use Rattle.beep_ends.proofs.SpeakingLemmas.{none-above, told-above}
 use Rattle.beep_ends.proofs.listening.listen_end.Goals as goal
 
 pub returns-in_default-clause-told : goal.returns-in_default-clause-told
@@ -33,7 +37,7 @@ returns-in_default-clause-lines g c =
 pub returns-clause-told : goal.returns-clause-told
 returns-clause-told g c =
     subst (λ (p : PlainPlan). WhereTold (Shows p.terms c.run_turns.result) (g.W.Wires.state c.run_turns.new.wires c.args.link).log) c.in-Ok.ensures.plan
-    (told-map _ (Shows (plan_of c.in-Ok.listener.session).terms c.run_turns.result) (λ log t. t.2.0.shows) (g.W.Wires.state c.run_turns.new.wires c.args.link).log
+    (told-map _ (Shows (plan_of c.in-Ok.listener.session).terms c.run_turns.result) (λ log t. t.2.0.0.shows) (g.W.Wires.state c.run_turns.new.wires c.args.link).log
     (c.run_turns.ensures.told c.in-Ok.ensures.stands))
 
 pub returns-clause-lawful : goal.returns-clause-lawful
@@ -42,7 +46,7 @@ returns-clause-lawful g c =
     let log = (g.W.Wires.state c.run_turns.new.wires c.args.link).log in
     told-lawful terms c.run_turns.result log
     (subst (λ (p : PlainPlan). WhereTold (Shows p.terms c.run_turns.result) log) c.in-Ok.ensures.plan
-    (told-map _ (Shows (plan_of c.in-Ok.listener.session).terms c.run_turns.result) (λ l t. t.2.0.shows) log (c.run_turns.ensures.told c.in-Ok.ensures.stands)))
+    (told-map _ (Shows (plan_of c.in-Ok.listener.session).terms c.run_turns.result) (λ l t. t.2.0.0.shows) log (c.run_turns.ensures.told c.in-Ok.ensures.stands)))
 
 pub returns-in_default-clause-bounded : goal.returns-in_default-clause-bounded
 returns-in_default-clause-bounded g c = unread-bounded (reads_of c.args.settings.now) (g.W.Wires.state c.args.wires.now c.args.link).log c.requires.unused.unread
@@ -60,9 +64,35 @@ returns-clause-lines g c =
     let log = (g.W.Wires.state c.run_turns.new.wires c.args.link).log in
     let told = subst (λ (p : PlainPlan). WhereTold (λ known. WithText before after (λ text. WritesLines p whole (moments known) text × ShowsServing p (moments known))) log) c.in-Ok.ensures.plan
     (told-map _ (λ known. WithText before after (λ text. WritesLines (plan_of c.in-Ok.listener.session) whole (moments known) text × ShowsServing (plan_of c.in-Ok.listener.session) (moments known)))
-    (λ known t. text-map before after _ _ (λ text s. (s.0.lines, s.1)) t) log (c.run_turns.ensures.told c.in-Ok.ensures.stands)) in
+    (λ known t. text-map before after _ _ (λ text s. (s.0.0.lines, s.0.1)) t) log (c.run_turns.ensures.told c.in-Ok.ensures.stands)) in
     let lawful = told-lawful terms c.run_turns.result log
     (subst (λ (p : PlainPlan). WhereTold (Shows p.terms c.run_turns.result) log) c.in-Ok.ensures.plan
-    (told-map _ (Shows (plan_of c.in-Ok.listener.session).terms c.run_turns.result) (λ l t. t.2.0.shows) log (c.run_turns.ensures.told c.in-Ok.ensures.stands))) in
+    (told-map _ (Shows (plan_of c.in-Ok.listener.session).terms c.run_turns.result) (λ l t. t.2.0.0.shows) log (c.run_turns.ensures.told c.in-Ok.ensures.stands))) in
     let fits = c.reads_of.type_inv in
     told-lines (listener_plan c.args.settings.now) terms whole c.reads_of.result before after log fits.1.1.0.1 told lawful c.run_turns.ensures.bounded
+
+pub returns-in_default-clause-unrefused : goal.returns-in_default-clause-unrefused
+returns-in_default-clause-unrefused g c =
+    let terms = terms_by Role.Listener c.args.settings.now in
+    none-told (GoesUnrefused terms Ended.NoMemory) (g.W.Wires.state c.args.wires.now c.args.link).log tt c.requires.unused.unread
+
+pub returns-clause-unrefused : goal.returns-clause-unrefused
+returns-clause-unrefused g c =
+    subst (λ (p : PlainPlan). WhereTold (GoesUnrefused p.terms c.run_turns.result) (g.W.Wires.state c.run_turns.new.wires c.args.link).log) c.in-Ok.ensures.plan
+    (told-map _ (GoesUnrefused (plan_of c.in-Ok.listener.session).terms c.run_turns.result) (λ log t. t.2.0.2) (g.W.Wires.state c.run_turns.new.wires c.args.link).log
+    (c.run_turns.ensures.told c.in-Ok.ensures.stands))
+
+pub returns-in_default-clause-scripted : goal.returns-in_default-clause-scripted
+returns-in_default-clause-scripted g c =
+    let plan = listener_plan c.args.settings.now in
+    none-told (KeepsAboveOn plan) (g.W.Wires.state c.args.wires.now c.args.link).log (none-above plan) c.requires.unused.unread
+
+pub returns-clause-scripted : goal.returns-clause-scripted
+returns-clause-scripted g c =
+    let terms = terms_by Role.Listener c.args.settings.now in
+    let log = (g.W.Wires.state c.run_turns.new.wires c.args.link).log in
+    let fits = c.reads_of.type_inv in
+    told-above (listener_plan c.args.settings.now) terms c.reads_of.result log refl fits.1.1.0.1
+    (subst (λ (p : PlainPlan). WhereTold (λ known. ShowsTold p (moments known)) log) c.in-Ok.ensures.plan
+    (told-map _ (λ known. ShowsTold (plan_of c.in-Ok.listener.session) (moments known)) (λ l t. t.2.1) log (c.run_turns.ensures.told c.in-Ok.ensures.stands)))
+    (returns-clause-lawful g c) c.run_turns.ensures.bounded

@@ -6,7 +6,10 @@ use Rattle.beep_talk.specs.Plan.{PlainPlan}
 use Rattle.beep_link.specs.Causes.{WhereTold}
 use Rattle.beep_link.specs.declared.ended.Ended.{Ended}
 use Rattle.beep_steps.specs.Logs.{Shows, terms_by}
-use Rattle.beep_steps.specs.Sending.{SendsAll}
+use Rattle.beep_steps.specs.Refusing.{GoesUnrefused}
+use Rattle.beep_steps.specs.Scripting.{KeepsAboveOn}
+use Rattle.beep_steps.specs.Sending.{SendsAll, sender_plan}
+use Rattle.beep_steps.proofs.EndScripts.{none-above}
 use Rattle.beep_steps.proofs.EndSends.{sends-all}
 use Rattle.beep_steps.proofs.OnLemmas.{none-shown, none-told, told-lawful}
 use Rattle.beep_ends.specs.Sender.{plan_of}
@@ -31,7 +34,7 @@ returns-clause-told g c =
     let log = (g.W.Wires.state c.run_turns.new.wires c.args.link).log in
     let plan = plan_of c.in-Ok.sender in
     subst (λ (x : PlainPlan). WhereTold (Shows x.terms c.run_turns.result) log) c.in-Ok.ensures.plan
-    (told-map _ (Shows plan.terms c.run_turns.result) (λ l t. t.2.shows) log (c.run_turns.ensures.told c.in-Ok.ensures.stands))
+    (told-map _ (Shows plan.terms c.run_turns.result) (λ l t. t.2.tells.shows) log (c.run_turns.ensures.told c.in-Ok.ensures.stands))
 
 pub returns-clause-lawful : goal.returns-clause-lawful
 returns-clause-lawful g c =
@@ -40,11 +43,35 @@ returns-clause-lawful g c =
     let plan = plan_of c.in-Ok.sender in
     told-lawful terms c.run_turns.result log
     (subst (λ (x : PlainPlan). WhereTold (Shows x.terms c.run_turns.result) log) c.in-Ok.ensures.plan
-    (told-map _ (Shows plan.terms c.run_turns.result) (λ l t. t.2.shows) log (c.run_turns.ensures.told c.in-Ok.ensures.stands)))
+    (told-map _ (Shows plan.terms c.run_turns.result) (λ l t. t.2.tells.shows) log (c.run_turns.ensures.told c.in-Ok.ensures.stands)))
 
 pub returns-clause-sent : goal.returns-clause-sent
 returns-clause-sent g c is =
     let log = (g.W.Wires.state c.run_turns.new.wires c.args.link).log in
     let plan = plan_of c.in-Ok.sender in
     subst (λ (x : PlainPlan). WhereTold (SendsAll x) log) c.in-Ok.ensures.plan
-    (told-map _ (SendsAll plan) (λ l t. sends-all plan l (t.2.sent is)) log (c.run_turns.ensures.told c.in-Ok.ensures.stands))
+    (told-map _ (SendsAll plan) (λ l t. sends-all plan l (t.2.tells.sent is)) log (c.run_turns.ensures.told c.in-Ok.ensures.stands))
+
+pub returns-in_default-clause-scripted : goal.returns-in_default-clause-scripted
+returns-in_default-clause-scripted g c =
+    let plan = sender_plan c.args.settings.now c.args.lines.now in
+    none-told (KeepsAboveOn plan) (g.W.Wires.state c.args.wires.now c.args.link).log (none-above plan) c.requires.unused.unread
+
+pub returns-clause-scripted : goal.returns-clause-scripted
+returns-clause-scripted g c =
+    let log = (g.W.Wires.state c.run_turns.new.wires c.args.link).log in
+    let plan = plan_of c.in-Ok.sender in
+    subst (λ (x : PlainPlan). WhereTold (KeepsAboveOn x) log) c.in-Ok.ensures.plan
+    (told-map _ (KeepsAboveOn plan) (λ l t. t.2.above) log (c.run_turns.ensures.told c.in-Ok.ensures.stands))
+
+pub returns-in_default-clause-unrefused : goal.returns-in_default-clause-unrefused
+returns-in_default-clause-unrefused g c =
+    let terms = terms_by Role.Initiator c.args.settings.now in
+    none-told (GoesUnrefused terms Ended.NoMemory) (g.W.Wires.state c.args.wires.now c.args.link).log tt c.requires.unused.unread
+
+pub returns-clause-unrefused : goal.returns-clause-unrefused
+returns-clause-unrefused g c =
+    let log = (g.W.Wires.state c.run_turns.new.wires c.args.link).log in
+    let plan = plan_of c.in-Ok.sender in
+    subst (λ (x : PlainPlan). WhereTold (GoesUnrefused x.terms c.run_turns.result) log) c.in-Ok.ensures.plan
+    (told-map _ (GoesUnrefused plan.terms c.run_turns.result) (λ l t. t.2.tells.unrefused) log (c.run_turns.ensures.told c.in-Ok.ensures.stands))

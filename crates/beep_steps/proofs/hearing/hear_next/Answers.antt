@@ -9,8 +9,12 @@ use Rattle.beep_journal.specs.Log.{got_all}
 use Rattle.beep_steps.specs.Logs.{ShowsFault}
 use Rattle.beep_steps.proofs.EndsLemmas.{feed-broken, feed-released, still-going}
 use Rattle.beep_steps.proofs.EndSends.{HeardSending, hears-sending, release-sent}
+use Rattle.beep_steps.proofs.HeardScripts.{FedScripting, hears-scripting}
 use Rattle.beep_steps.proofs.GoLemmas.{CameBy, came-by}
 use Rattle.beep_steps.proofs.OnLemmas.{Heard, hears-on}
+use Rattle.beep_steps.proofs.SpeakCalls.{HeardScripted, hears-speaking}
+use Rattle.beep_steps.specs.declared.hearing.Came.{Came}
+use Rattle.beep_steps.proofs.RefusesLemmas.{comes-unrefused, feed-unrefused}
 use Rattle.beep_steps.proofs.hearing.hear_next.Goals as goal
 
 pub returns-in-More-clause-heard : goal.returns-in-More-clause-heard
@@ -96,6 +100,27 @@ returns-in-Zero-clause-sending c plan p log s =
     subst (λ (e : Event). HeardSending plan p e f.new.self f.result.0 c.args.bytes.now log) c.in-Zero.is
     (hears-sending plan p f.result.0 c.args.bytes.now old f.new.self log f.result.1 old.peer.released refl f.ensures.same f.ensures.kept.0 f.ensures.answers f.ensures.lawful f.ensures.released s)
 
+pub returns-in-More-clause-scripted : goal.returns-in-More-clause-scripted
+returns-in-More-clause-scripted c plan p log s =
+    let old = c.args.session.now in
+    let f = c.feed-count in
+    subst (λ (e : Event). FedScripting plan p e f.new.self (got_all (take f.result.0 c.args.bytes.now) log)) c.in-More.is
+    (hears-scripting plan p f.result.0 c.args.bytes.now old f.new.self log f.result.1 old.peer.released refl f.ensures.same f.ensures.kept.0 f.ensures.lawful f.ensures.released s)
+
+pub returns-in-Arrived-clause-scripted : goal.returns-in-Arrived-clause-scripted
+returns-in-Arrived-clause-scripted c plan p log s =
+    let old = c.args.session.now in
+    let f = c.feed-count in
+    subst (λ (e : Event). FedScripting plan p e f.new.self (got_all (take f.result.0 c.args.bytes.now) log)) c.in-Arrived.is
+    (hears-scripting plan p f.result.0 c.args.bytes.now old f.new.self log f.result.1 old.peer.released refl f.ensures.same f.ensures.kept.0 f.ensures.lawful f.ensures.released s)
+
+pub returns-in-Zero-clause-scripted : goal.returns-in-Zero-clause-scripted
+returns-in-Zero-clause-scripted c plan p log s =
+    let old = c.args.session.now in
+    let f = c.feed-count in
+    subst (λ (e : Event). FedScripting plan p e f.new.self (got_all (take f.result.0 c.args.bytes.now) log)) c.in-Zero.is
+    (hears-scripting plan p f.result.0 c.args.bytes.now old f.new.self log f.result.1 old.peer.released refl f.ensures.same f.ensures.kept.0 f.ensures.lawful f.ensures.released s)
+
 pub returns-in-Broken-clause-stops : goal.returns-in-Broken-clause-stops
 returns-in-Broken-clause-stops c plan p log same s =
     let old = c.args.session.now in
@@ -105,10 +130,10 @@ returns-in-Broken-clause-stops c plan p log same s =
     (hears-on f.result.0 c.args.bytes.now old f.new.self log f.result.1 old.peer.released refl f.ensures.same f.ensures.kept.0 f.ensures.answers f.ensures.lawful f.ensures.released s.on))
 
 pub returns-in-Released-clause-stops : goal.returns-in-Released-clause-stops
-returns-in-Released-clause-stops c plan p log same s closed =
+returns-in-Released-clause-stops c plan p log same s none =
     let old = c.args.session.now in
     let f = c.feed-count in
-    release-sent plan p f.result.0 c.args.bytes.now old f.new.self log f.result.1 old.peer.released refl c.in-Released.is f.ensures.answers s same closed
+    release-sent plan p f.result.0 c.args.bytes.now old f.new.self log f.result.1 old.peer.released refl c.in-Released.is f.ensures.answers s same none
 
 pub returns-in-More-clause-came : goal.returns-in-More-clause-came
 returns-in-More-clause-came c log s =
@@ -168,3 +193,51 @@ returns-in-Zero-clause-going c =
     let old = c.args.session.now in
     let f = c.feed-count in
     still-going old f.new.self f.result.1 Event.Zero c.in-Zero.is (λ h. let k : Event.Zero ≡ Event.Released = h in cc) old.peer.released refl f.ensures.kept.0 (λ e. (f.ensures.released e).1)
+
+pub returns-in-More-clause-speaking : goal.returns-in-More-clause-speaking
+returns-in-More-clause-speaking c plan notes log s =
+    let old = c.args.session.now in
+    let f = c.feed-count in
+    let octets = take f.result.0 c.args.bytes.now in
+    subst (λ (e : Event). HeardScripted plan notes e f.new.self (got_all octets log)) c.in-More.is
+    (hears-speaking plan notes octets old f.new.self log f.ensures.same s f.result.1 old.peer.released refl f.ensures.kept.0 f.ensures.lawful
+    (λ over. (f.ensures.released over).1))
+
+pub returns-in-Arrived-clause-speaking : goal.returns-in-Arrived-clause-speaking
+returns-in-Arrived-clause-speaking c plan notes log s =
+    let old = c.args.session.now in
+    let f = c.feed-count in
+    let octets = take f.result.0 c.args.bytes.now in
+    subst (λ (e : Event). HeardScripted plan notes e f.new.self (got_all octets log)) c.in-Arrived.is
+    (hears-speaking plan notes octets old f.new.self log f.ensures.same s f.result.1 old.peer.released refl f.ensures.kept.0 f.ensures.lawful
+    (λ over. (f.ensures.released over).1))
+
+pub returns-in-Zero-clause-speaking : goal.returns-in-Zero-clause-speaking
+returns-in-Zero-clause-speaking c plan notes log s =
+    let old = c.args.session.now in
+    let f = c.feed-count in
+    let octets = take f.result.0 c.args.bytes.now in
+    subst (λ (e : Event). HeardScripted plan notes e f.new.self (got_all octets log)) c.in-Zero.is
+    (hears-speaking plan notes octets old f.new.self log f.ensures.same s f.result.1 old.peer.released refl f.ensures.kept.0 f.ensures.lawful
+    (λ over. (f.ensures.released over).1))
+
+pub returns-in-More-clause-unrefused : goal.returns-in-More-clause-unrefused
+returns-in-More-clause-unrefused c command closing log s u =
+    let f = c.feed-count in
+    comes-unrefused command closing Came.More c.args.session.now f.new.self log (got_all (take f.result.0 c.args.bytes.now) log) s (returns-in-More-clause-came c log s) u
+
+pub returns-in-Arrived-clause-unrefused : goal.returns-in-Arrived-clause-unrefused
+returns-in-Arrived-clause-unrefused c command closing log s u =
+    let f = c.feed-count in
+    comes-unrefused command closing (Came.Arrived c.in-Arrived.number) c.args.session.now f.new.self log (got_all (take f.result.0 c.args.bytes.now) log) s (returns-in-Arrived-clause-came c log s) u
+
+pub returns-in-Zero-clause-unrefused : goal.returns-in-Zero-clause-unrefused
+returns-in-Zero-clause-unrefused c command closing log s u =
+    let f = c.feed-count in
+    comes-unrefused command closing Came.Zero c.args.session.now f.new.self log (got_all (take f.result.0 c.args.bytes.now) log) s (returns-in-Zero-clause-came c log s) u
+
+pub returns-in-Released-clause-refuses : goal.returns-in-Released-clause-refuses
+returns-in-Released-clause-refuses c closing log s u =
+    let old = c.args.session.now in
+    let f = c.feed-count in
+    feed-unrefused c.args.bytes.now old log s closing u f.result.1 old.peer.released refl c.in-Released.is f.result.0 f.new.self f.ensures.answers

@@ -1,5 +1,5 @@
 -- What goes out joins what is to be written.
-use Rattle.std.proofs.Common.{refl, ap, subst, min}
+use Rattle.std.proofs.Common.{[], refl, ap, subst, min}
 use Rattle.beep_journal.specs.Log.{put_all}
 use Rattle.beep_peer.specs.Peering.{is_over}
 use Rattle.beep_octets.specs.Held.{Held as Octets}
@@ -9,9 +9,14 @@ use Rattle.beep_peer.specs.Calls.{Speaks}
 use Rattle.beep_session.specs.declared.limits.TheConstants.{MAX_PIECE}
 use Rattle.beep_steps.specs.Logs.{StandsOn}
 use Rattle.beep_steps.proofs.CallLemmas.{emits-on}
+use Rattle.beep_steps.proofs.EmitScripts.{emits-scripting}
 use Rattle.beep_steps.proofs.EmitSends.{emits-sending}
 use Rattle.beep_steps.proofs.ServeCalls.{emits-serving}
 use Rattle.beep_steps.proofs.GoLemmas.{rests-so, spoke-so}
+use Rattle.beep_served.proofs.ProfileLemmas.{have-profile}
+use Rattle.beep_steps.proofs.ServeLemmas.{shows-served}
+use Rattle.beep_steps.proofs.SpeakCalls.{emits-speaking, rests-gone, serving-at}
+use Rattle.beep_steps.proofs.RefusesLemmas.{spoke-unrefused}
 use Rattle.beep_steps.proofs.hearing.say_next.Goals as goal
 
 pub returns-clause-said : goal.returns-clause-said
@@ -24,6 +29,12 @@ pub returns-clause-sending : goal.returns-clause-sending
 returns-clause-sending c plan p log s =
     let old = c.args.session.now in
     emits-sending plan p old c.emit.new.self c.args.out.now.octets c.emit.new.out.octets log s c.emit.ensures.same c.emit.result (is_over old.peer) refl c.emit.ensures.lawful c.emit.ensures.framed
+    c.emit.ensures.turn (λ e. let r = c.emit.ensures.over e in (r.0, r.1, ap (λ (o : Octets). o.octets) r.2))
+
+pub returns-clause-scripted : goal.returns-clause-scripted
+returns-clause-scripted c plan p log s =
+    let old = c.args.session.now in
+    emits-scripting plan p old c.emit.new.self c.args.out.now.octets c.emit.new.out.octets log s c.emit.ensures.same c.emit.result (is_over old.peer) refl c.emit.ensures.lawful c.emit.ensures.framed
     c.emit.ensures.turn (λ e. let r = c.emit.ensures.over e in (r.0, r.1, ap (λ (o : Octets). o.octets) r.2))
 
 pub returns-clause-spoke : goal.returns-clause-spoke
@@ -52,3 +63,22 @@ returns-clause-serving c plan log s =
     (λ going is. ap (λ (p : Peer). p.management.answers) (subst (λ (e : Emit). Speaks e old.limits.window (min MAX_PIECE old.limits.piece) o.fed o.rest o.journal o.given o.taken old.peer new.peer c.args.out.now.octets c.emit.new.out.octets) is
     (c.emit.ensures.speaks o.fed o.rest o.journal o.given o.taken going r)).0)
     (λ e. let r = c.emit.ensures.over e in (r.0, r.1, ap (λ (o : Octets). o.octets) r.2))
+
+pub returns-then-zero_waits-clause-speaking : goal.returns-then-zero_waits-clause-speaking
+returns-then-zero_waits-clause-speaking c plan notes log served s = rests-gone plan notes c.args.session.now (put_all c.args.out.now.octets log) s
+
+pub returns-clause-speaking : goal.returns-clause-speaking
+returns-clause-speaking c plan notes log served s =
+    let old = c.args.session.now in
+    let new = c.emit.new.self in
+    let after = put_all c.emit.new.out.octets log in
+    let shows = shows-served plan new [] after (returns-clause-serving c plan log served) in
+    emits-speaking plan notes old new c.args.out.now.octets c.emit.new.out.octets log s c.emit.ensures.same
+    (λ on. have-profile plan.raw_uri on.journal (serving-at plan new after shows on))
+    c.emit.result (is_over old.peer) refl c.emit.ensures.lawful c.emit.ensures.framed
+    (λ e. let r = c.emit.ensures.over e in (r.0, r.1, ap (λ (o : Octets). o.octets) r.2))
+
+pub returns-clause-unrefused : goal.returns-clause-unrefused
+returns-clause-unrefused c command closing log s u =
+    let old = c.args.session.now in
+    spoke-unrefused command closing c.emit.result old c.emit.new.self (put_all c.args.out.now.octets log) (put_all c.emit.new.out.octets log) s (returns-clause-spoke c log s) u

@@ -1,5 +1,5 @@
 -- A message that is settled has passed, or its last octet broke a rule.
-use Rattle.std.proofs.Common.{◌≡◌, false, true, refl, ap, Err}
+use Rattle.std.proofs.Common.{◌≡◌, false, true, [], refl, ap, Err}
 use Rattle.beep_frame.specs.Frame.{is_msg}
 use Rattle.beep_history.specs.declared.journal.Side.{Side}
 use Rattle.beep_journal.specs.Zero.{zero_history, completes_form}
@@ -7,9 +7,13 @@ use Rattle.beep_steps.proofs.CallLemmas.{settles-logged, settles-on, fault-on, u
 use Rattle.beep_steps.proofs.EndsLemmas.{waiting-ends}
 use Rattle.beep_steps.proofs.GoLemmas.{settled-so}
 use Rattle.beep_steps.proofs.OnLemmas.{fault-goes-on}
-use Rattle.beep_steps.proofs.SettleSends.{settles-sending}
+use Rattle.beep_steps.proofs.RefusesLemmas.{settles-so}
+use Rattle.beep_steps.proofs.SettleScripts.{settles-scripting}
+use Rattle.beep_steps.proofs.SettleSends.{oldest-waits, settles-sending}
 use Rattle.beep_steps.proofs.ServeCalls.{settles-serving}
 use Rattle.beep_session.specs.Lawfully.{terms_of}
+use Rattle.beep_steps.proofs.ServeLemmas.{shows-served}
+use Rattle.beep_steps.proofs.SpeakSettles.{settles-speaking}
 use Rattle.beep_steps.proofs.hearing.settle_message.Goals as goal
 
 pub returns-in-Ok-clause-settled : goal.returns-in-Ok-clause-settled
@@ -39,11 +43,19 @@ pub returns-in-Ok-clause-sending : goal.returns-in-Ok-clause-sending
 returns-in-Ok-clause-sending c plan p log w =
     let e = c.in-Ok.ensures in
     let o = w.on in
-    settles-sending plan p c.args.session.now c.settle.new.self e.same log w c.in-Ok.settled _ _
+    settles-sending plan p c.args.session.now c.settle.new.self e.same log w c.in-Ok.settled _
     (λ is. e.asked o.fed o.journal o.given o.taken o.head o.payload o.waits is)
-    (λ is. e.decided o.fed o.journal o.given o.taken o.head o.payload o.waits is)
     (λ is. e.answered o.fed o.journal o.given o.taken o.head o.payload o.waits is)
-    (λ is one at. e.replied o.fed o.journal o.given o.taken o.head o.payload one o.waits is at)
+    (e.upright o.fed o.journal o.given o.taken o.head o.payload o.waits o.upright)
+    (λ reply. e.fits o.fed o.journal o.given o.taken o.head o.payload o.waits reply refl)
+
+pub returns-in-Ok-clause-scripted : goal.returns-in-Ok-clause-scripted
+returns-in-Ok-clause-scripted c plan p log w =
+    let e = c.in-Ok.ensures in
+    let o = w.sends.on in
+    settles-scripting plan p c.args.session.now c.settle.new.self e.same log w c.in-Ok.settled _
+    (λ is. e.asked o.fed o.journal o.given o.taken o.head o.payload o.waits is)
+    (λ is. e.answered o.fed o.journal o.given o.taken o.head o.payload o.waits is)
     (e.upright o.fed o.journal o.given o.taken o.head o.payload o.waits o.upright)
     (λ reply. e.fits o.fed o.journal o.given o.taken o.head o.payload o.waits reply refl)
 
@@ -63,3 +75,26 @@ returns-in-Err-Broken-clause-ends c log octets w =
     let old = c.args.session.now in
     let h = k.ensures.broken w.fed w.journal w.given w.taken w.head w.payload k.rule k.place w.waits (ap Err k.field-0-is) in
     waiting-ends old c.settle.new.self log w h.2 h.3 (unreleased-waiting old c.settle.new.self k.ensures.same log w) octets
+
+pub returns-in-Ok-clause-speaking : goal.returns-in-Ok-clause-speaking
+returns-in-Ok-clause-speaking c plan notes log serving w =
+    let e = c.in-Ok.ensures in
+    let o = w.on in
+    let new = c.settle.new.self in
+    settles-speaking plan notes c.args.session.now new e.same log w c.in-Ok.settled _ refl
+    (λ is. e.asked o.fed o.journal o.given o.taken o.head o.payload o.waits is)
+    (λ is. e.answered o.fed o.journal o.given o.taken o.head o.payload o.waits is)
+    (λ is one at. e.replied o.fed o.journal o.given o.taken o.head o.payload one o.waits is at)
+    (λ reply. e.fits o.fed o.journal o.given o.taken o.head o.payload o.waits reply refl)
+    (e.upright o.fed o.journal o.given o.taken o.head o.payload o.waits o.upright)
+    (shows-served plan new [] log (returns-in-Ok-clause-serving c plan log serving))
+
+pub returns-in-Ok-clause-refuses : goal.returns-in-Ok-clause-refuses
+returns-in-Ok-clause-refuses c command closing log w u =
+    let e = c.in-Ok.ensures in
+    let old = c.args.session.now in
+    settles-so old log w command closing c.in-Ok.settled u c.settle.new.self old.offers (returns-in-Ok-clause-done c log w)
+    (λ is. e.decided w.fed w.journal w.given w.taken w.head w.payload w.waits is)
+    (λ reply. e.fits w.fed w.journal w.given w.taken w.head w.payload w.waits reply refl)
+    (λ is one at. e.replied w.fed w.journal w.given w.taken w.head w.payload one w.waits is at)
+    (λ is. oldest-waits old log w is (e.fits w.fed w.journal w.given w.taken w.head w.payload w.waits is refl))

@@ -7,9 +7,13 @@ use Rattle.beep_steps.specs.Steps.{TookPart}
 use Rattle.beep_steps.proofs.PartLemmas.{none-waits, some-part}
 use Rattle.beep_steps.specs.Sending.{KeepsSending}
 use Rattle.beep_steps.proofs.CallLemmas.{took-stays}
+use Rattle.beep_steps.specs.Scripting.{KeepsScripting}
+use Rattle.beep_steps.proofs.CallScripts.{took-scripts}
 use Rattle.beep_steps.proofs.CallSends.{took-sends}
 use Rattle.beep_steps.proofs.ServeCalls.{took-serves}
 use Rattle.beep_steps.specs.Serving.{KeepsServing}
+use Rattle.beep_steps.specs.Speaking.{KeepsSpeaking}
+use Rattle.beep_steps.proofs.SpeakCalls.{took-speaking}
 use Rattle.beep_steps.proofs.hearing.take_part.Goals as goal
 
 pub returns-in-Some-clause-stays : goal.returns-in-Some-clause-stays
@@ -72,6 +76,26 @@ returns-in-Some-closing_channel-clause-sending c plan p =
     λ x e. subst (λ (y : Held). KeepsSending plan p p y x) none (subst (KeepsSending plan p p c.open_channel.follows.lender-at-none) (sym e) h) in
     f _ (search rules)
 
+pub returns-in-Some-clause-scripted : goal.returns-in-Some-clause-scripted
+returns-in-Some-clause-scripted c plan p =
+    let k = c.in-Some in
+    let t = c.take in
+    let h : KeepsScripting plan p p c.args.session.now t.new.self.session.now =
+    took-scripts plan p t.result k.channel.at t.new.buf c.args.session.now k.channel.session.now t.new.self.session.now k.ensures.same.0 t.ensures.some t.ensures.upright t.ensures.kept in
+    let f : (x : Held) → x ≡ t.new.self.session.now → KeepsScripting plan p p c.args.session.now x = λ x e. subst (KeepsScripting plan p p c.args.session.now) (sym e) h in
+    f _ (search rules)
+
+pub returns-in-Some-closing_channel-clause-scripted : goal.returns-in-Some-closing_channel-clause-scripted
+returns-in-Some-closing_channel-clause-scripted c plan p =
+    let k = c.in-Some-closing_channel in
+    let t = c.take-in-Some-closing_channel in
+    let h : KeepsScripting plan p p c.open_channel.follows.lender-at-none t.new.self.session.now =
+    took-scripts plan p t.result k.channel.at t.new.buf c.open_channel.follows.lender-at-none k.channel.session.now t.new.self.session.now k.ensures.same.0 t.ensures.some t.ensures.upright t.ensures.kept in
+    let none : c.open_channel.follows.lender-at-none ≡ c.args.session.now = search (rules, c.open_channel.follows.holds-at-none) in
+    let f : (x : Held) → x ≡ t.new.self.session.now → KeepsScripting plan p p c.args.session.now x =
+    λ x e. subst (λ (y : Held). KeepsScripting plan p p y x) none (subst (KeepsScripting plan p p c.open_channel.follows.lender-at-none) (sym e) h) in
+    f _ (search rules)
+
 -- the marks of a part are the first that are untaken
 pub returns-in-Some-clause-part : goal.returns-in-Some-clause-part
 returns-in-Some-clause-part c log left s above u =
@@ -100,3 +124,23 @@ returns-in-Some-closing_channel-clause-part c log left s above u =
 pub returns-then-zero_waits-clause-none : goal.returns-then-zero_waits-clause-none
 returns-then-zero_waits-clause-none c log s going above =
     absurd (let h : true ≡ false = sym c.if-zero_waits.true ∙ c.zero_waits.ensures ∙ none-waits c.args.session.now log s in cc)
+
+pub returns-in-Some-clause-speaking : goal.returns-in-Some-clause-speaking
+returns-in-Some-clause-speaking c plan notes =
+    let k = c.in-Some in
+    let t = c.take in
+    let h : KeepsSpeaking plan notes notes c.args.session.now t.new.self.session.now =
+    took-speaking plan notes t.result k.channel.at t.new.buf c.args.session.now k.channel.session.now t.new.self.session.now k.ensures.same.0 t.ensures.some t.ensures.upright t.ensures.kept in
+    let f : (x : Held) → x ≡ t.new.self.session.now → KeepsSpeaking plan notes notes c.args.session.now x = λ x e. subst (KeepsSpeaking plan notes notes c.args.session.now) (sym e) h in
+    f _ (search rules)
+
+pub returns-in-Some-closing_channel-clause-speaking : goal.returns-in-Some-closing_channel-clause-speaking
+returns-in-Some-closing_channel-clause-speaking c plan notes =
+    let k = c.in-Some-closing_channel in
+    let t = c.take-in-Some-closing_channel in
+    let h : KeepsSpeaking plan notes notes c.open_channel.follows.lender-at-none t.new.self.session.now =
+    took-speaking plan notes t.result k.channel.at t.new.buf c.open_channel.follows.lender-at-none k.channel.session.now t.new.self.session.now k.ensures.same.0 t.ensures.some t.ensures.upright t.ensures.kept in
+    let none : c.open_channel.follows.lender-at-none ≡ c.args.session.now = search (rules, c.open_channel.follows.holds-at-none) in
+    let f : (x : Held) → x ≡ t.new.self.session.now → KeepsSpeaking plan notes notes c.args.session.now x =
+    λ x e. subst (λ (y : Held). KeepsSpeaking plan notes notes y x) none (subst (KeepsSpeaking plan notes notes c.open_channel.follows.lender-at-none) (sym e) h) in
+    f _ (search rules)

@@ -6,10 +6,12 @@ use Rattle.beep_link.proofs.StandLemmas.{text-map}
 use Rattle.beep_session.specs.Lawfully.{terms_of}
 use Rattle.beep_talk.specs.Plan.{PlainPlan}
 use Rattle.beep_steps.specs.Logs.{StopsOn}
+use Rattle.beep_steps.specs.Refusing.{RefusesOn}
 use Rattle.beep_steps.specs.Serving.{ServesOn}
 use Rattle.beep_steps.proofs.OnLemmas.{got-last, got-more, got-whole, length-rest, rest-some}
-use Rattle.beep_ends.specs.Listening.{Listens, WritesLines, is_whole, plan_of}
+use Rattle.beep_ends.specs.Listening.{Listens, UnrefusedOn, WritesLines, is_whole, plan_of}
 use Rattle.beep_ends.proofs.HearLemmas.{text-here, text-then}
+use Rattle.beep_ends.specs.Speaking.{SpeaksBy}
 use Rattle.beep_ends.proofs.listener.Listener.hear_all.Goals as goal
 
 pub returns-in-Err-clause-stopped : goal.returns-in-Err-clause-stopped
@@ -65,6 +67,9 @@ loop-init g c = record {
       let a = c.args.self.now in
       text-here text (g.O.Sink.state c.args.output.now).written (λ t. Listens a.session a.bodies a.lines.octets.octets log t) l;
   serving = λ plan log s. s;
+  speaking = λ plan log v s. s;
+  unrefused = λ log u. u;
+  goes = λ log u. omega arith;
   used = λ plan log s. omega arith;
   more = λ log text l. omega arith;
   kept = omega arith;
@@ -91,6 +96,14 @@ loop-preserved g c =
           (i.listens log text s);
       serving = λ plan log s.
           subst (ServesOn plan n.session) (got-more c.loop.at c.in-Ok.count bytes log) (e.serving plan (got_all (take c.loop.at bytes) log) (i.serving plan log s));
+      speaking = λ plan log v s.
+          subst (SpeaksBy plan n) (got-more c.loop.at c.in-Ok.count bytes log)
+          (e.speaking plan (got_all (take c.loop.at bytes) log) (i.serving plan log v) (i.speaking plan log v s));
+      unrefused = λ log u.
+          subst (UnrefusedOn n.session) (got-more c.loop.at c.in-Ok.count bytes log) (e.unrefused (got_all (take c.loop.at bytes) log) (i.unrefused log u));
+      goes = λ log u.
+          let some = e.more (got_all (take c.loop.at bytes) log) (i.unrefused log u).on (rest-some c.loop.at bytes (omega (arith, c.if-bytes-at.false))) in
+          omega (arith, some, i.goes log u);
       used = λ plan log s.
           let some = e.more (got_all (take c.loop.at bytes) log) (i.serving plan log s).on (rest-some c.loop.at bytes (omega (arith, c.if-bytes-at.false))) in
           omega (arith, some, i.used plan log s);
@@ -114,3 +127,40 @@ returns-clause-serving g c plan log s =
     let w = c.loop.invariant.within in
     let whole : c.loop.at ≡ length bytes = omega (arith, m, w, c.loop-test.false) in
     subst (ServesOn plan c.loop.self.session) (got-whole c.loop.at bytes log whole) (c.loop.invariant.serving plan log s)
+
+pub returns-then-bytes-at-clause-speaking : goal.returns-then-bytes-at-clause-speaking
+returns-then-bytes-at-clause-speaking g c plan log v s =
+    let bytes = c.args.bytes.now in
+    let w = c.loop.invariant.within in
+    let whole : c.loop.at ≡ length bytes = omega (arith, w, c.if-bytes-at.true) in
+    subst (SpeaksBy plan c.loop.self) (got-whole c.loop.at bytes log whole) (c.loop.invariant.speaking plan log v s)
+
+pub returns-clause-speaking : goal.returns-clause-speaking
+returns-clause-speaking g c plan log v s =
+    let bytes = c.args.bytes.now in
+    let m = c.loop.invariant.used plan log v in
+    let w = c.loop.invariant.within in
+    let whole : c.loop.at ≡ length bytes = omega (arith, m, w, c.loop-test.false) in
+    subst (SpeaksBy plan c.loop.self) (got-whole c.loop.at bytes log whole) (c.loop.invariant.speaking plan log v s)
+
+pub returns-then-bytes-at-clause-unrefused : goal.returns-then-bytes-at-clause-unrefused
+returns-then-bytes-at-clause-unrefused g c log u =
+    let bytes = c.args.bytes.now in
+    let w = c.loop.invariant.within in
+    let whole : c.loop.at ≡ length bytes = omega (arith, w, c.if-bytes-at.true) in
+    subst (UnrefusedOn c.loop.self.session) (got-whole c.loop.at bytes log whole) (c.loop.invariant.unrefused log u)
+
+pub returns-clause-unrefused : goal.returns-clause-unrefused
+returns-clause-unrefused g c log u =
+    let bytes = c.args.bytes.now in
+    let m = c.loop.invariant.goes log u in
+    let w = c.loop.invariant.within in
+    let whole : c.loop.at ≡ length bytes = omega (arith, m, w, c.loop-test.false) in
+    subst (UnrefusedOn c.loop.self.session) (got-whole c.loop.at bytes log whole) (c.loop.invariant.unrefused log u)
+
+pub returns-in-Err-clause-refuses : goal.returns-in-Err-clause-refuses
+returns-in-Err-clause-refuses g c log u =
+    let bytes = c.args.bytes.now in
+    subst (λ (p : PlainPlan). RefusesOn p.terms c.in-Err.stop (got_all bytes log)) c.loop.invariant.plan
+    (subst (RefusesOn (terms_of c.loop.self.session) c.in-Err.stop) (got-last c.loop.at bytes log)
+    (c.in-Err.ensures.refuses (got_all (take c.loop.at bytes) log) (c.loop.invariant.unrefused log u)))

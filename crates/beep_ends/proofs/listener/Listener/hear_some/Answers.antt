@@ -1,19 +1,24 @@
 -- What comes is used, and what stops the session shows on the log of all octets.
-use Rattle.std.proofs.Common.{◌++◌, rules, subst, take, drop}
+use Rattle.std.proofs.Common.{◌++◌, false, rules, sym, ap, subst, take, drop}
 use Rattle.beep_journal.specs.Log.{got_all}
 use Rattle.beep_lawful.specs.declared.terms.Terms.{Terms}
 use Rattle.beep_link.specs.Causes.{ended_by, WithText}
 use Rattle.beep_link.proofs.StandLemmas.{text-map}
+use Rattle.beep_talk.specs.declared.plan.Command.{Command}
 use Rattle.beep_session.specs.Lawfully.{terms_of}
 use Rattle.beep_steps.specs.declared.hearing.Came.{Came}
-use Rattle.beep_steps.specs.Logs.{ComesOn, StopsOn, WaitsOn}
+use Rattle.beep_steps.specs.Logs.{ComesOn, StandsOn, StopsOn, WaitsOn, command_of}
+use Rattle.beep_steps.specs.Refusing.{ComesUnrefused, IsUnrefused, RefusesOn}
 use Rattle.beep_steps.specs.Serving.{ComesServing, ServesWaiting}
 use Rattle.beep_steps.specs.Steps.{CameFrame, CameMore, CameZero, ComesSo, EndsSo}
 use Rattle.beep_steps.proofs.OnLemmas.{err-map, got-rest}
-use Rattle.beep_ends.specs.Listening.{Listens, ListensTaking, ListensWaiting, WritesLines, is_whole, plan_of}
+use Rattle.beep_ends.specs.Listening.{Listens, ListensTaking, ListensWaiting, UnrefusedWaiting, WritesLines, is_whole, plan_of}
 use Rattle.beep_ends.proofs.HearLemmas.{err-at, hear-stops, take-stops, text-here}
 use Rattle.beep_ends.proofs.ListenLemmas.{same-plan}
 use Rattle.beep_ends.proofs.PartLemmas.{frame-taking, more-listens, zero-waits}
+use Rattle.beep_steps.specs.Speaking.{ComesSpeaking, SpeaksOn, SpeaksWaiting}
+use Rattle.beep_ends.specs.Speaking.{notes_of}
+use Rattle.beep_ends.proofs.RefusingLemmas.{goes-unrefused, stays-unrefused, waits-unrefused}
 use Rattle.beep_ends.proofs.listener.Listener.hear_some.Goals as goal
 
 pub returns-in-Err-settle-clause-stopped : goal.returns-in-Err-settle-clause-stopped
@@ -121,3 +126,78 @@ returns-in-Ok-settle-clause-serving g c plan log s =
     let waits : ServesWaiting plan c.hear_next.new.session front =
     subst (λ (x : Came). ComesServing plan x c.hear_next.new.session front) c.in-Zero.is (c.in_ok-count.ensures.serving plan log s) in
     c.in-Ok-settle.ensures.serving plan front waits
+
+pub returns-in-More-clause-speaking : goal.returns-in-More-clause-speaking
+returns-in-More-clause-speaking g c plan log served s =
+    let a = c.args.self.now in
+    let front = got_all (take c.in_ok-count.count c.args.bytes.now) log in
+    subst (λ (x : Came). ComesSpeaking plan (notes_of a) x c.hear_next.new.session front) c.in-More.is (c.in_ok-count.ensures.speaking plan (notes_of a) log s)
+
+pub returns-in-Ok-clause-speaking : goal.returns-in-Ok-clause-speaking
+returns-in-Ok-clause-speaking g c plan log served s =
+    let a = c.args.self.now in
+    let front = got_all (take c.in_ok-count.count c.args.bytes.now) log in
+    let came : SpeaksOn plan (notes_of a) c.hear_next.new.session front =
+    subst (λ (x : Came). ComesSpeaking plan (notes_of a) x c.hear_next.new.session front) c.in-Arrived.is (c.in_ok-count.ensures.speaking plan (notes_of a) log s) in
+    c.take.ensures.speaking plan front came
+
+pub returns-in-Ok-settle-clause-speaking : goal.returns-in-Ok-settle-clause-speaking
+returns-in-Ok-settle-clause-speaking g c plan log served s =
+    let a = c.args.self.now in
+    let n = c.hear_next.new.session in
+    let front = got_all (take c.in_ok-count.count c.args.bytes.now) log in
+    let serving : ServesWaiting plan n front = subst (λ (x : Came). ComesServing plan x n front) c.in-Zero.is (c.in_ok-count.ensures.serving plan log served) in
+    let waits : SpeaksWaiting plan (notes_of a) n front = subst (λ (x : Came). ComesSpeaking plan (notes_of a) x n front) c.in-Zero.is (c.in_ok-count.ensures.speaking plan (notes_of a) log s) in
+    c.in-Ok-settle.ensures.speaking plan front serving waits
+
+pub returns-in-More-clause-unrefused : goal.returns-in-More-clause-unrefused
+returns-in-More-clause-unrefused g c log u =
+    let a = c.args.self.now in
+    let n = c.hear_next.new.session in
+    let front = got_all (take c.in_ok-count.count c.args.bytes.now) log in
+    let on : StandsOn n front = subst (λ (x : Came). ComesOn x n front) c.in-More.is (c.in_ok-count.ensures.heard log u.on) in
+    goes-unrefused a.session n front false on c.hear_next.ensures.terms u.role
+    (subst (λ (x : Came). ComesUnrefused Command.Listen false x n front) c.in-More.is (c.in_ok-count.ensures.unrefused Command.Listen false log u.on u.unrefused))
+
+pub returns-in-Ok-clause-unrefused : goal.returns-in-Ok-clause-unrefused
+returns-in-Ok-clause-unrefused g c log u =
+    let a = c.args.self.now in
+    let n = c.hear_next.new.session in
+    let front = got_all (take c.in_ok-count.count c.args.bytes.now) log in
+    let on : StandsOn n front = subst (λ (x : Came). ComesOn x n front) c.in-Arrived.is (c.in_ok-count.ensures.heard log u.on) in
+    stays-unrefused n c.take.new.self.session front c.take.ensures.stays
+    (goes-unrefused a.session n front false on c.hear_next.ensures.terms u.role
+    (subst (λ (x : Came). ComesUnrefused Command.Listen false x n front) c.in-Arrived.is (c.in_ok-count.ensures.unrefused Command.Listen false log u.on u.unrefused)))
+
+pub returns-in-Ok-settle-clause-unrefused : goal.returns-in-Ok-settle-clause-unrefused
+returns-in-Ok-settle-clause-unrefused g c log u =
+    let a = c.args.self.now in
+    let n = c.hear_next.new.session in
+    let front = got_all (take c.in_ok-count.count c.args.bytes.now) log in
+    let waits : WaitsOn n front = subst (λ (x : Came). ComesOn x n front) c.in-Zero.is (c.in_ok-count.ensures.heard log u.on) in
+    let w : UnrefusedWaiting n front = waits-unrefused a.session n front waits c.hear_next.ensures.terms u.role
+    ((subst (λ (x : Came). ComesUnrefused Command.Listen false x n front) c.in-Zero.is (c.in_ok-count.ensures.unrefused Command.Listen false log u.on u.unrefused)) waits) in
+    c.in-Ok-settle.ensures.unrefused front w
+
+pub returns-in-Err-settle-clause-refuses : goal.returns-in-Err-settle-clause-refuses
+returns-in-Err-settle-clause-refuses g c log u =
+    let a = c.args.self.now in
+    let n = c.hear_next.new.session in
+    let bytes = c.args.bytes.now in
+    let count = c.in_ok-count.count in
+    let front = got_all (take count bytes) log in
+    let waits : WaitsOn n front = subst (λ (x : Came). ComesOn x n front) c.in-Zero.is (c.in_ok-count.ensures.heard log u.on) in
+    let w : UnrefusedWaiting n front = waits-unrefused a.session n front waits c.hear_next.ensures.terms u.role
+    ((subst (λ (x : Came). ComesUnrefused Command.Listen false x n front) c.in-Zero.is (c.in_ok-count.ensures.unrefused Command.Listen false log u.on u.unrefused)) waits) in
+    subst (λ (t : Terms). RefusesOn t c.in-Err-settle.stop (got_all bytes log)) c.hear_next.ensures.terms
+    (subst (RefusesOn (terms_of n) c.in-Err-settle.stop) (got-rest count bytes log) (c.in-Err-settle.ensures.refuses front (drop count bytes) w))
+
+pub returns-in_err-count-clause-refuses : goal.returns-in_err-count-clause-refuses
+returns-in_err-count-clause-refuses g c log u =
+    let a = c.args.self.now in
+    let all = got_all c.args.bytes.now log in
+    search (
+      rules,
+      err-at c.hear_next.result _ c.in_err-count.was (λ stop. RefusesOn (terms_of a.session) stop all)
+          (c.hear_next.ensures.refuses false log u.on (subst (λ (x : Command). IsUnrefused x false log) (sym (ap command_of u.role)) u.unrefused)),
+    )

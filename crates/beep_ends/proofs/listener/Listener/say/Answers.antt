@@ -2,9 +2,14 @@
 use Rattle.std.proofs.Common.{◌≡◌, ◌∙◌, ◌==◌, false, sym, ap, subst, rules, ℕ, List}
 use Rattle.beep_journal.specs.Log.{put_all}
 use Rattle.beep_lines.specs.declared.bodies.Body.{Body}
+use Rattle.beep_talk.specs.declared.plan.Command.{Command}
+use Rattle.beep_steps.specs.Refusing.{closing_by}
 use Rattle.beep_steps.specs.Steps.{is_zero_frame}
 use Rattle.beep_ends.specs.Listening.{Listens}
 use Rattle.beep_ends.proofs.ListenLemmas.{same-plan, says-listens, stays-listens, zero-listens}
+use Rattle.beep_ends.specs.Speaking.{notes_of}
+use Rattle.beep_ends.proofs.SpeakingLemmas.{unmoved-speaking}
+use Rattle.beep_ends.proofs.RefusingLemmas.{goes-unrefused, stays-unrefused}
 use Rattle.beep_ends.proofs.listener.Listener.say.Goals as goal
 
 pub returns-in-Seq-clause-listens : goal.returns-in-Seq-clause-listens
@@ -47,3 +52,58 @@ returns-else-head-ne0-clause-listens c log text l =
 pub returns-else-head-ne0-clause-serving : goal.returns-else-head-ne0-clause-serving
 returns-else-head-ne0-clause-serving c plan log s =
     c.begun.ensures.serving plan (put_all c.say_next.new.out.octets log) (c.say_next.ensures.serving plan log s)
+
+pub returns-in-Seq-clause-speaking : goal.returns-in-Seq-clause-speaking
+returns-in-Seq-clause-speaking c plan log served l =
+    let a = c.args.self.now in
+    let s = c.say_next in
+    unmoved-speaking plan (notes_of a) a.session s.new.session (put_all c.args.out.now.octets log) (put_all s.new.out.octets log) s.result l
+    (s.ensures.speaking plan (notes_of a) log served l) (s.ensures.spoke log l.on) (ap is_zero_frame c.in-Seq.is)
+
+pub returns-in-Nothing-clause-speaking : goal.returns-in-Nothing-clause-speaking
+returns-in-Nothing-clause-speaking c plan log served l =
+    let a = c.args.self.now in
+    let s = c.say_next in
+    unmoved-speaking plan (notes_of a) a.session s.new.session (put_all c.args.out.now.octets log) (put_all s.new.out.octets log) s.result l
+    (s.ensures.speaking plan (notes_of a) log served l) (s.ensures.spoke log l.on) (ap is_zero_frame c.in-Nothing.is)
+
+pub returns-then-head-ne0-clause-speaking : goal.returns-then-head-ne0-clause-speaking
+returns-then-head-ne0-clause-speaking c plan log served l =
+    let a = c.args.self.now in
+    let s = c.say_next in
+    let above : (c.in-Data.head.channel == 0) ≡ false = search rules in
+    unmoved-speaking plan (notes_of a) a.session s.new.session (put_all c.args.out.now.octets log) (put_all s.new.out.octets log) s.result l
+    (s.ensures.speaking plan (notes_of a) log served l) (s.ensures.spoke log l.on) (ap is_zero_frame c.in-Data.is ∙ above)
+
+pub returns-else-head-ne0-clause-speaking : goal.returns-else-head-ne0-clause-speaking
+returns-else-head-ne0-clause-speaking c plan log served l =
+    c.begun.ensures.speaking plan (put_all c.say_next.new.out.octets log) (c.say_next.ensures.speaking plan (notes_of c.args.self.now) log served l)
+
+pub returns-in-Seq-clause-unrefused : goal.returns-in-Seq-clause-unrefused
+returns-in-Seq-clause-unrefused c log u =
+    let a = c.args.self.now in
+    let s = c.say_next in
+    goes-unrefused a.session s.new.session (put_all s.new.out.octets log) (closing_by s.result false) (s.ensures.said log u.on) s.ensures.terms u.role
+    (s.ensures.unrefused Command.Listen false log u.on u.unrefused)
+
+pub returns-in-Nothing-clause-unrefused : goal.returns-in-Nothing-clause-unrefused
+returns-in-Nothing-clause-unrefused c log u =
+    let a = c.args.self.now in
+    let s = c.say_next in
+    goes-unrefused a.session s.new.session (put_all s.new.out.octets log) (closing_by s.result false) (s.ensures.said log u.on) s.ensures.terms u.role
+    (s.ensures.unrefused Command.Listen false log u.on u.unrefused)
+
+pub returns-then-head-ne0-clause-unrefused : goal.returns-then-head-ne0-clause-unrefused
+returns-then-head-ne0-clause-unrefused c log u =
+    let a = c.args.self.now in
+    let s = c.say_next in
+    goes-unrefused a.session s.new.session (put_all s.new.out.octets log) (closing_by s.result false) (s.ensures.said log u.on) s.ensures.terms u.role
+    (s.ensures.unrefused Command.Listen false log u.on u.unrefused)
+
+pub returns-else-head-ne0-clause-unrefused : goal.returns-else-head-ne0-clause-unrefused
+returns-else-head-ne0-clause-unrefused c log u =
+    let a = c.args.self.now in
+    let s = c.say_next in
+    stays-unrefused s.new.session c.begun.new.self.session (put_all s.new.out.octets log) c.begun.ensures.stays
+    (goes-unrefused a.session s.new.session (put_all s.new.out.octets log) (closing_by s.result false) (s.ensures.said log u.on) s.ensures.terms u.role
+    (s.ensures.unrefused Command.Listen false log u.on u.unrefused))

@@ -1,11 +1,17 @@
 -- A message that is settled may end lives, and what stops there brings no line.
-use Rattle.std.proofs.Common.{◌∙◌, ap, subst, sym}
+use Rattle.std.proofs.Common.{◌∙◌, ap, false, subst, sym}
+use Rattle.beep_session.specs.Lawfully.{terms_of}
+use Rattle.beep_talk.specs.declared.plan.Command.{Command}
+use Rattle.beep_steps.specs.Logs.{command_of}
 use Rattle.beep_steps.specs.Serving.{ServesOn}
-use Rattle.beep_steps.proofs.OnLemmas.{err-map}
-use Rattle.beep_ends.specs.Listening.{plan_of}
+use Rattle.beep_steps.proofs.OnLemmas.{err-map, ok-then}
+use Rattle.beep_ends.specs.Listening.{plan_of, UnrefusedOn}
 use Rattle.beep_ends.proofs.HearLemmas.{does-stops, listens-same, ok-of, settle-stops}
 use Rattle.beep_ends.proofs.ListenLemmas.{same-plan}
 use Rattle.beep_ends.proofs.PartLemmas.{settled-listens}
+use Rattle.beep_ends.specs.Speaking.{notes_of}
+use Rattle.beep_ends.proofs.SpeakingLemmas.{ok-settled}
+use Rattle.beep_ends.proofs.RefusingLemmas.{goes-unrefused, settled-on, settled-stops}
 use Rattle.beep_ends.proofs.listener.Listener.settle.Goals as goal
 
 pub returns-in-Err-clause-wrote : goal.returns-in-Err-clause-wrote
@@ -39,3 +45,25 @@ returns-clause-wrote c log octets text w =
 pub returns-clause-serving : goal.returns-clause-serving
 returns-clause-serving c plan log s =
     ok-of c.does.result _ (subst (λ h. ServesOn plan h log) (sym c.does.ensures.session) (c.in-Ok.ensures.serving plan log s))
+
+pub returns-clause-speaking : goal.returns-clause-speaking
+returns-clause-speaking c plan log serving s =
+    let a = c.args.self.now in
+    let d = c.does.new.self in
+    ok-settled plan (notes_of a) (notes_of d) c.in-Ok.settled c.settle_message.new.session d.session log c.does.result c.does.ensures.session
+    (c.in-Ok.ensures.speaking plan (notes_of a) log serving s) c.does.ensures.starting (ap (λ x. x.items) c.does.ensures.spoken) c.does.ensures.leaving
+
+pub returns-clause-unrefused : goal.returns-clause-unrefused
+returns-clause-unrefused c log w =
+    let a = c.args.self.now in
+    let n = c.settle_message.new.session in
+    let k = c.in-Ok.ensures.refuses Command.Listen false log w.on w.unrefused in
+    ok-then c.does.result _ _ (λ none. subst (λ h. UnrefusedOn h log) (sym c.does.ensures.session)
+    (goes-unrefused a.session n log false (c.in-Ok.ensures.done log w.on).on c.settle_message.ensures.terms w.role (settled-on Command.Listen false c.in-Ok.settled log k none)))
+    c.does.ensures.unrefused
+
+pub returns-clause-refuses : goal.returns-clause-refuses
+returns-clause-refuses c log octets w =
+    let a = c.args.self.now in
+    let k = c.in-Ok.ensures.refuses Command.Listen false log w.on w.unrefused in
+    err-map c.does.result _ _ (λ stop r. settled-stops Command.Listen false c.in-Ok.settled log k (terms_of a.session) (ap command_of w.role) octets stop r) c.does.ensures.refuses

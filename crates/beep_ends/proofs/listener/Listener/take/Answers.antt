@@ -40,3 +40,9 @@ returns-in-Ok-clause-serving g c plan log s = c.refuse.ensures.serving plan log 
 
 pub returns-in-Err-clause-serving : goal.returns-in-Err-clause-serving
 returns-in-Err-clause-serving g c plan log s = c.refuse.ensures.serving plan log (c.take_all.ensures.serving plan log s)
+
+pub returns-in-Ok-clause-speaking : goal.returns-in-Ok-clause-speaking
+returns-in-Ok-clause-speaking g c plan log s = c.refuse.ensures.speaking plan log (c.take_all.ensures.speaking plan log s)
+
+pub returns-in-Err-clause-speaking : goal.returns-in-Err-clause-speaking
+returns-in-Err-clause-speaking g c plan log s = c.refuse.ensures.speaking plan log (c.take_all.ensures.speaking plan log s)

@@ -6,6 +6,8 @@ use Rattle.beep_steps.specs.Serving.{ServesOn}
 use Rattle.beep_ends.specs.Listening.{plan_of}
 use Rattle.beep_ends.proofs.HearLemmas.{listens-as}
 use Rattle.beep_ends.proofs.ListenLemmas.{same-plan}
+use Rattle.beep_ends.proofs.RefusingLemmas.{stays-unrefused}
+use Rattle.beep_ends.specs.Speaking.{SpeaksBy}
 use Rattle.beep_ends.proofs.listener.ListenerEnd.gather.Goals as goal
 
 pub returns-in_err-is_given-clause-said : goal.returns-in_err-is_given-clause-said
@@ -14,12 +16,17 @@ returns-in_err-is_given-clause-said c log text s =
     let n = c.refill.new.self in
     let e = c.refill.ensures in
     let lines = ap (λ x. x.octets.octets) e.lines in
-    let octets = put_all c.args.out.now.octets (moments log) in (
-      record {
-        listens = listens-as a.session a.bodies a.lines.octets.octets text octets s.0.listens n.session n.bodies n.lines.octets.octets e.stays e.bodies lines;
-        dry = lines ∙ s.0.dry;
-      },
-      subst (λ p. ServesOn p n.session octets) (sym (same-plan a.session n.session e.stays.terms e.stays.offers)) (e.serving (plan_of a.session) octets s.1),
+    let octets = put_all c.args.out.now.octets (moments log) in
+    let plan = sym (same-plan a.session n.session e.stays.terms e.stays.offers) in (
+      (
+        record {
+          listens = listens-as a.session a.bodies a.lines.octets.octets text octets s.0.0.listens n.session n.bodies n.lines.octets.octets e.stays e.bodies lines;
+          dry = lines ∙ s.0.0.dry;
+        },
+        subst (λ p. ServesOn p n.session octets) plan (e.serving (plan_of a.session) octets s.0.1),
+        stays-unrefused a.session n.session octets e.stays s.0.2,
+      ),
+      subst (λ p. SpeaksBy p n octets) plan (e.speaking (plan_of a.session) octets s.1),
     )
 
 pub loop-init : goal.loop-init
@@ -33,50 +40,79 @@ loop-init c =
           listens-as a.session a.bodies a.lines.octets.octets text (put_all c.args.out.now.octets log) l n.session n.bodies n.lines.octets.octets e.stays e.bodies
           (ap (λ x. x.octets.octets) e.lines);
       serving = λ plan log s. e.serving plan (put_all c.args.out.now.octets log) s;
+      unrefused = λ log u. stays-unrefused a.session n.session (put_all c.args.out.now.octets log) e.stays u;
+      speaking = λ plan log v s. e.speaking plan (put_all c.args.out.now.octets log) s;
       lines = e.lines;
     }
 
 pub loop-preserved : goal.loop-preserved
 loop-preserved c =
+    let i = c.loop.invariant in
     record {
-      plan = c.say.ensures.plan ∙ c.loop.invariant.plan;
-      listens = λ log text l. c.say.ensures.listens log text (c.loop.invariant.listens log text l);
-      serving = λ plan log s. c.say.ensures.serving plan log (c.loop.invariant.serving plan log s);
-      lines = c.say.ensures.lines ∙ c.loop.invariant.lines;
+      plan = c.say.ensures.plan ∙ i.plan;
+      listens = λ log text l. c.say.ensures.listens log text (i.listens log text l);
+      serving = λ plan log s. c.say.ensures.serving plan log (i.serving plan log s);
+      speaking = λ plan log v s. c.say.ensures.speaking plan log (i.serving plan log v) (i.speaking plan log v s);
+      unrefused = λ log u. c.say.ensures.unrefused log (i.unrefused log u);
+      lines = c.say.ensures.lines ∙ i.lines;
     }
 
 pub returns-then-spare-lt-FRAME_ROOM-clause-said : goal.returns-then-spare-lt-FRAME_ROOM-clause-said
 returns-then-spare-lt-FRAME_ROOM-clause-said c log text s =
-    let i = c.loop.invariant in (
-      record { listens = i.listens (moments log) text s.0.listens; dry = ap (λ x. x.octets.octets) i.lines ∙ s.0.dry },
-      subst (λ p. ServesOn p c.loop.self.session (put_all c.loop.out.octets (moments log))) (sym i.plan) (i.serving (plan_of c.args.self.now.session) (moments log) s.1),
+    let i = c.loop.invariant in
+    let first = plan_of c.args.self.now.session in (
+      (
+        record { listens = i.listens (moments log) text s.0.0.listens; dry = ap (λ x. x.octets.octets) i.lines ∙ s.0.0.dry },
+        subst (λ p. ServesOn p c.loop.self.session (put_all c.loop.out.octets (moments log))) (sym i.plan) (i.serving first (moments log) s.0.1),
+        i.unrefused (moments log) s.0.2,
+      ),
+      subst (λ p. SpeaksBy p c.loop.self (put_all c.loop.out.octets (moments log))) (sym i.plan) (i.speaking first (moments log) s.0.1 s.1),
     )
 
 pub returns-clause-said : goal.returns-clause-said
 returns-clause-said c log text s =
-    let i = c.loop.invariant in (
-      record { listens = i.listens (moments log) text s.0.listens; dry = ap (λ x. x.octets.octets) i.lines ∙ s.0.dry },
-      subst (λ p. ServesOn p c.loop.self.session (put_all c.loop.out.octets (moments log))) (sym i.plan) (i.serving (plan_of c.args.self.now.session) (moments log) s.1),
+    let i = c.loop.invariant in
+    let first = plan_of c.args.self.now.session in (
+      (
+        record { listens = i.listens (moments log) text s.0.0.listens; dry = ap (λ x. x.octets.octets) i.lines ∙ s.0.0.dry },
+        subst (λ p. ServesOn p c.loop.self.session (put_all c.loop.out.octets (moments log))) (sym i.plan) (i.serving first (moments log) s.0.1),
+        i.unrefused (moments log) s.0.2,
+      ),
+      subst (λ p. SpeaksBy p c.loop.self (put_all c.loop.out.octets (moments log))) (sym i.plan) (i.speaking first (moments log) s.0.1 s.1),
     )
 
 pub returns-in_err-say-clause-said : goal.returns-in_err-say-clause-said
 returns-in_err-say-clause-said c log text s =
-    let i = c.loop.invariant in (
-      record {
-        listens = c.say.ensures.listens (moments log) text (i.listens (moments log) text s.0.listens);
-        dry = ap (λ x. x.octets.octets) (c.say.ensures.lines ∙ i.lines) ∙ s.0.dry;
-      },
-      subst (λ p. ServesOn p c.say.new.self.session (put_all c.say.new.out.octets (moments log))) (sym (c.say.ensures.plan ∙ i.plan))
-          (c.say.ensures.serving (plan_of c.args.self.now.session) (moments log) (i.serving (plan_of c.args.self.now.session) (moments log) s.1)),
+    let i = c.loop.invariant in
+    let e = c.say.ensures in
+    let n = c.say.new.self in
+    let after = put_all c.say.new.out.octets (moments log) in
+    let first = plan_of c.args.self.now.session in (
+      (
+        record {
+          listens = e.listens (moments log) text (i.listens (moments log) text s.0.0.listens);
+          dry = ap (λ x. x.octets.octets) (e.lines ∙ i.lines) ∙ s.0.0.dry;
+        },
+        subst (λ p. ServesOn p n.session after) (sym (e.plan ∙ i.plan)) (e.serving first (moments log) (i.serving first (moments log) s.0.1)),
+        e.unrefused (moments log) (i.unrefused (moments log) s.0.2),
+      ),
+      subst (λ p. SpeaksBy p n after) (sym (e.plan ∙ i.plan)) (e.speaking first (moments log) (i.serving first (moments log) s.0.1) (i.speaking first (moments log) s.0.1 s.1)),
     )
 
 pub returns-then-not-branch-clause-said : goal.returns-then-not-branch-clause-said
 returns-then-not-branch-clause-said c log text s =
-    let i = c.loop.invariant in (
-      record {
-        listens = c.say.ensures.listens (moments log) text (i.listens (moments log) text s.0.listens);
-        dry = ap (λ x. x.octets.octets) (c.say.ensures.lines ∙ i.lines) ∙ s.0.dry;
-      },
-      subst (λ p. ServesOn p c.say.new.self.session (put_all c.say.new.out.octets (moments log))) (sym (c.say.ensures.plan ∙ i.plan))
-          (c.say.ensures.serving (plan_of c.args.self.now.session) (moments log) (i.serving (plan_of c.args.self.now.session) (moments log) s.1)),
+    let i = c.loop.invariant in
+    let e = c.say.ensures in
+    let n = c.say.new.self in
+    let after = put_all c.say.new.out.octets (moments log) in
+    let first = plan_of c.args.self.now.session in (
+      (
+        record {
+          listens = e.listens (moments log) text (i.listens (moments log) text s.0.0.listens);
+          dry = ap (λ x. x.octets.octets) (e.lines ∙ i.lines) ∙ s.0.0.dry;
+        },
+        subst (λ p. ServesOn p n.session after) (sym (e.plan ∙ i.plan)) (e.serving first (moments log) (i.serving first (moments log) s.0.1)),
+        e.unrefused (moments log) (i.unrefused (moments log) s.0.2),
+      ),
+      subst (λ p. SpeaksBy p n after) (sym (e.plan ∙ i.plan)) (e.speaking first (moments log) (i.serving first (moments log) s.0.1) (i.speaking first (moments log) s.0.1 s.1)),
     )

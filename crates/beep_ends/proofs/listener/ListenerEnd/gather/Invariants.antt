@@ -3,7 +3,8 @@ use Rattle.std.proofs.Common.{◌≡◌, ℕ, List}
 use Rattle.beep_journal.specs.Log.{Moment, put_all}
 use Rattle.beep_talk.specs.Plan.{PlainPlan}
 use Rattle.beep_steps.specs.Serving.{ServesOn}
-use Rattle.beep_ends.specs.Listening.{Listens, plan_of}
+use Rattle.beep_ends.specs.Listening.{Listens, UnrefusedOn, plan_of}
+use Rattle.beep_ends.specs.Speaking.{SpeaksBy}
 use Rattle.beep_ends.proofs.listener.ListenerEnd.gather.Given as goal
 
 abbrev pub invariant-loop : goal.invariant-loop
@@ -12,5 +13,7 @@ invariant-loop l = record {
   listens : (log : List Moment) (text : List ℕ) → Listens l.fn.self.session l.fn.self.bodies l.fn.self.lines.octets.octets (put_all l.fn.out.octets log) text
       → Listens l.self.session l.self.bodies l.self.lines.octets.octets (put_all l.out.octets log) text;
   serving : (plan : PlainPlan) (log : List Moment) → ServesOn plan l.fn.self.session (put_all l.fn.out.octets log) → ServesOn plan l.self.session (put_all l.out.octets log);
+  unrefused : (log : List Moment) → UnrefusedOn l.fn.self.session (put_all l.fn.out.octets log) → UnrefusedOn l.self.session (put_all l.out.octets log);
+  speaking : (plan : PlainPlan) (log : List Moment) → ServesOn plan l.fn.self.session (put_all l.fn.out.octets log) → SpeaksBy plan l.fn.self (put_all l.fn.out.octets log) → SpeaksBy plan l.self (put_all l.out.octets log);
   lines : l.self.lines ≡ l.fn.self.lines;
 }

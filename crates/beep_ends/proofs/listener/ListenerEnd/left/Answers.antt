@@ -5,16 +5,25 @@ use Rattle.beep_steps.proofs.OnLemmas.{shows-cut}
 use Rattle.beep_steps.proofs.ServeLemmas.{shows-served}
 use Rattle.beep_ends.specs.Listening.{plan_of}
 use Rattle.beep_ends.proofs.HearLemmas.{dry-all}
+use Rattle.beep_link.specs.declared.ended.Ended.{Ended}
+use Rattle.beep_ends.specs.Turning.{goes_refused}
+use Rattle.beep_steps.proofs.SpeakShown.{shows-goes}
+use Rattle.beep_ends.specs.Speaking.{notes_of}
 use Rattle.beep_ends.proofs.listener.ListenerEnd.left.Goals as goal
 
 pub returns : goal.returns
 returns c = record {
   cut = λ log text going s.
-      let a = c.args.self.now in (
-        record {
-          shows = shows-cut a.session (moments log) s.0.listens.on c.left.result c.left.ensures.stands going;
-          lines = dry-all a.session a.bodies a.lines.octets.octets text (moments log) s.0;
-        },
-        shows-served (plan_of a.session) a.session [] (moments log) s.1,
+      let a = c.args.self.now in
+      let plan = plan_of a.session in (
+        (
+          record {
+            shows = shows-cut a.session (moments log) s.0.0.listens.on c.left.result c.left.ensures.stands going;
+            lines = dry-all a.session a.bodies a.lines.octets.octets text (moments log) s.0.0;
+          },
+          shows-served plan a.session [] (moments log) s.0.1,
+          goes_refused a.session a.bodies a.lines.octets.octets log (Ended.Cut c.left.result) s.0.2,
+        ),
+        shows-goes plan (notes_of a) a.session [] (moments log) s.1,
       );
 }

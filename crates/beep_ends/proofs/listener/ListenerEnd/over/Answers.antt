@@ -6,18 +6,27 @@ use Rattle.beep_steps.proofs.OnLemmas.{over-on, shows-release}
 use Rattle.beep_steps.proofs.ServeLemmas.{shows-served}
 use Rattle.beep_ends.specs.Listening.{plan_of}
 use Rattle.beep_ends.proofs.HearLemmas.{dry-all}
+use Rattle.beep_link.specs.declared.ended.Ended.{Ended}
+use Rattle.beep_ends.specs.Turning.{goes_refused}
+use Rattle.beep_steps.proofs.SpeakShown.{shows-goes}
+use Rattle.beep_ends.specs.Speaking.{notes_of}
 use Rattle.beep_ends.proofs.listener.ListenerEnd.over.Goals as goal
 
 pub returns : goal.returns
 returns c = record {
   over = λ log text s.
       let a = c.args.self.now in
-      let over : is_over a.session.peer ≡ true = search rules in (
-        record {
-          shows = shows-release a.session (moments log) s.0.listens.on (over-on a.session (moments log) s.0.listens.on over);
-          lines = dry-all a.session a.bodies a.lines.octets.octets text (moments log) s.0;
-        },
-        shows-served (plan_of a.session) a.session [] (moments log) s.1,
+      let over : is_over a.session.peer ≡ true = search rules in
+      let plan = plan_of a.session in (
+        (
+          record {
+            shows = shows-release a.session (moments log) s.0.0.listens.on (over-on a.session (moments log) s.0.0.listens.on over);
+            lines = dry-all a.session a.bodies a.lines.octets.octets text (moments log) s.0.0;
+          },
+          shows-served plan a.session [] (moments log) s.0.1,
+          goes_refused a.session a.bodies a.lines.octets.octets log Ended.Released s.0.2,
+        ),
+        shows-goes plan (notes_of a) a.session [] (moments log) s.1,
       );
   unfailed = λ is. cc;
   going = tt;

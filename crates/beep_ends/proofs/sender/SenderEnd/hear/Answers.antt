@@ -1,20 +1,31 @@
 -- All octets that were read are used, unless the session stops; nothing is written to the output.
-use Rattle.std.proofs.Common.{refl}
-use Rattle.beep_link.specs.Causes.{WithText}
+use Rattle.std.proofs.Common.{◌∷◌, refl}
+use Rattle.beep_talk.specs.declared.plan.Command.{Command}
+use Rattle.beep_wires.specs.Log.{read}
 use Rattle.beep_link.proofs.StandLemmas.{text-none}
 use Rattle.beep_steps.specs.Logs.{moments}
+use Rattle.beep_steps.proofs.EndScripts.{comes-above}
 use Rattle.beep_steps.proofs.EndSends.{tells-stop}
-use Rattle.beep_steps.proofs.OnLemmas.{err-map, ok-then}
 use Rattle.beep_ends.specs.Sender.{plan_of, progress_of}
+use Rattle.beep_ends.proofs.HearLemmas.{err-both, ok-and}
+use Rattle.beep_ends.proofs.RefusingLemmas.{as-closing}
 use Rattle.beep_ends.proofs.sender.SenderEnd.hear.Goals as goal
 
 pub returns-clause-heard : goal.returns-clause-heard
 returns-clause-heard g c log text s =
-    ok-then c.hear_all.result _ _ (λ p. text-none (g.O.Sink.state c.args._output.now).written _ p) (c.hear_all.ensures.heard (moments log) s)
+    let one = c.args.self.now in
+    let new = c.hear_all.new.self in
+    let all = moments (read c.args.bytes.now ∷ log) in
+    ok-and c.hear_all.result _ _ _
+    (λ p u. text-none (g.O.Sink.state c.args._output.now).written _ (p, as-closing Command.Send all new.is_closing one.is_closing c.hear_all.ensures.closing u))
+    (c.hear_all.ensures.scripted (moments log) s.0) (c.hear_all.ensures.unrefused (moments log) s.0.sends s.1)
 
 pub returns-clause-stopped : goal.returns-clause-stopped
 returns-clause-stopped g c log text s =
     let one = c.args.self.now in
-    err-map c.hear_all.result _ _
-    (λ stop h. text-none (g.O.Sink.state c.args._output.now).written _ (tells-stop (plan_of one) (progress_of one) one.session log c.args.bytes.now stop refl s h))
-    (c.hear_all.ensures.stopped (moments log) s)
+    err-both c.hear_all.result _ _ _
+    (λ stop h r. text-none (g.O.Sink.state c.args._output.now).written _ (record {
+      tells = tells-stop (plan_of one) (progress_of one) one.session log c.args.bytes.now stop refl s.0.sends h r;
+      above = comes-above (plan_of one) (progress_of one) one.session c.args.bytes.now (moments log) s.0;
+    }))
+    (c.hear_all.ensures.stopped (moments log) s.0.sends) (c.hear_all.ensures.refuses (moments log) s.0.sends s.1)

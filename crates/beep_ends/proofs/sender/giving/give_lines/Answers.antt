@@ -1,10 +1,12 @@
 -- Each line is the next, and its answer leaves a sender so much further.
-use Rattle.std.proofs.Common.{◌≡◌, ◌∙◌, ◌+◌, ◌<◌, Bool, List, ℕ, length, slice_get, Some, refl, sym, ap, subst, arith}
+use Rattle.std.proofs.Common.{◌≡◌, ◌∙◌, ◌<◌, Bool, List, ℕ, length, slice_get, Some, refl, sym, ap, subst, arith}
 use Rattle.std.specs.Prelude.{Ok}
 use Rattle.beep_steps.specs.Sending.{SendsOn, at_next, if_given}
+use Rattle.beep_steps.specs.Scripting.{ScriptedOn}
+use Rattle.beep_ends.proofs.ScriptedLemmas.{at-same-scripted}
 use Rattle.beep_ends.proofs.GivesLemmas.{within-of}
 use Rattle.beep_ends.proofs.SenderLemmas.{at-same}
-use Rattle.beep_ends.proofs.sender.give_lines.Goals as goal
+use Rattle.beep_ends.proofs.sender.giving.give_lines.Goals as goal
 
 pub loop-init : goal.loop-init
 loop-init c = record {
@@ -12,6 +14,7 @@ loop-init c = record {
   number = refl;
   terms = refl;
   sends = λ plan p lines at is log s. at-same plan p c.args.next.now c.args.answering.now.session.now log at s;
+  scripted = λ plan p lines at is log s. at-same-scripted plan p c.args.next.now c.args.answering.now.session.now log at s;
 }
 
 pub returns-in_err-give_line-clause-sends : goal.returns-in_err-give_line-clause-sends
@@ -27,6 +30,20 @@ returns-then-not-branch-clause-sends c plan p lines at is log s =
     let q = at_next c.loop.next p in
     subst (λ (b : Bool). SendsOn plan (if_given (Ok b) q) c.give_line.new.answering.session.now log) c.if-not-branch.true
     (c.in_ok-give_line.ensures.sends plan q line (i.number ∙ is) log (i.sends plan p lines at is log s))
+
+pub returns-in_err-give_line-clause-scripted : goal.returns-in_err-give_line-clause-scripted
+returns-in_err-give_line-clause-scripted c plan p lines at is log s =
+    let i = c.loop.invariant in
+    let line : slice_get plan.lines c.loop.next ≡ Some c.in-Some.line.now = ap (λ (ls : List (List ℕ)). slice_get ls c.loop.next) lines ∙ sym c.in-Some.ensures in
+    c.in_err-give_line.ensures.scripted plan (at_next c.loop.next p) line (i.number ∙ is) log (i.scripted plan p lines at is log s)
+
+pub returns-then-not-branch-clause-scripted : goal.returns-then-not-branch-clause-scripted
+returns-then-not-branch-clause-scripted c plan p lines at is log s =
+    let i = c.loop.invariant in
+    let line : slice_get plan.lines c.loop.next ≡ Some c.in-Some.line.now = ap (λ (ls : List (List ℕ)). slice_get ls c.loop.next) lines ∙ sym c.in-Some.ensures in
+    let q = at_next c.loop.next p in
+    subst (λ (b : Bool). ScriptedOn plan (if_given (Ok b) q) c.give_line.new.answering.session.now log) c.if-not-branch.true
+    (c.in_ok-give_line.ensures.scripted plan q line (i.number ∙ is) log (i.scripted plan p lines at is log s))
 
 pub overflow_add-next : goal.overflow_add-next
 overflow_add-next c =
@@ -45,4 +62,9 @@ loop-preserved c =
           let q = at_next c.loop.next p in
           subst (λ (b : Bool). SendsOn plan (if_given (Ok b) q) c.give_line.new.answering.session.now log) c.if-not-branch.false
           (c.in_ok-give_line.ensures.sends plan q line (i.number ∙ is) log (i.sends plan p lines at is log s));
+      scripted = λ plan p lines at is log s.
+          let line : slice_get plan.lines c.loop.next ≡ Some c.in-Some.line.now = ap (λ (ls : List (List ℕ)). slice_get ls c.loop.next) lines ∙ sym c.in-Some.ensures in
+          let q = at_next c.loop.next p in
+          subst (λ (b : Bool). ScriptedOn plan (if_given (Ok b) q) c.give_line.new.answering.session.now log) c.if-not-branch.false
+          (c.in_ok-give_line.ensures.scripted plan q line (i.number ∙ is) log (i.scripted plan p lines at is log s));
     }
