@@ -13,7 +13,7 @@ use Rattle.beep_settings.specs.declared.settings.Settings.{Settings}
 use Rattle.beep_link.specs.declared.ended.Ended.{Ended}
 use Rattle.beep_link.specs.Causes.{Seen, WhereTold}
 use Rattle.beep_steps.specs.Logs.{IsLawfulOn, terms_by}
-use Rattle.beep_steps.specs.Scripting.{KeepsAboveOn}
+use Rattle.beep_steps.specs.Scripting.{KeepsScriptOn}
 use Rattle.beep_steps.specs.Sending.{sender_plan, SendsAll}
 use Rattle.beep_recorder.specs.Kept.{RecordsLink}
 use Rattle.beep_runs.specs.Runs.{AsksThis, IsRecorded, NotGiven, Ran, SentAll}
@@ -157,14 +157,14 @@ send_caused settings cause before after r = session (cause_of Role.Initiator set
 pub send_sends : (settings : Settings) (lines : List (List ℕ)) (cause : Ended) (before after : Seen) → after.counts.given ≡ before.counts.given + 1 → SentAll settings lines cause before after → SendsLines cause settings lines before after
 send_sends settings lines cause before after one sent = record {
   all = λ released. each_one (λ link. WhereTold (SendsAll (sender_plan settings lines)) link.log) before after before.counts.given refl one (sent.all released);
-  above = each_one (λ link. WhereTold (KeepsAboveOn (sender_plan settings lines)) link.log) before after before.counts.given refl one sent.above;
+  above = each_one (λ link. WhereTold (KeepsScriptOn (sender_plan settings lines)) link.log) before after before.counts.given refl one sent.above;
 }
 
 -- no link was given, so that none was released, and none shows otherwise
 pub unlinked_sends : (settings : Settings) (lines : List (List ℕ)) (cause : Ended) → (cause ≡ Ended.Released → ⊥) → (before after : Seen) → after.counts.given ≡ before.counts.given → SendsLines cause settings lines before after
 unlinked_sends settings lines cause other before after same = record {
   all = λ e. absurd (other e);
-  above = each_none (λ link. WhereTold (KeepsAboveOn (sender_plan settings lines)) link.log) before after same;
+  above = each_none (λ link. WhereTold (KeepsScriptOn (sender_plan settings lines)) link.log) before after same;
 }
 
 pub listen_caused : (settings : Settings) (cause : Ended) (before after : Seen) → settings.sessions ≡ 1 → Ran Role.Listener settings cause before after → ListenCause cause settings before after

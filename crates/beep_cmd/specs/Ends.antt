@@ -13,7 +13,7 @@ use Rattle.beep_link.specs.declared.ended.Ended.{Ended}
 use Rattle.beep_link.specs.Causes.{HasRead, IsQuiet, Seen, WhereTold}
 use Rattle.beep_journal.specs.declared.role.Role.{Role}
 use Rattle.beep_steps.specs.Logs.{IsLawfulOn, Shows, terms_by}
-use Rattle.beep_steps.specs.Scripting.{KeepsAboveOn}
+use Rattle.beep_steps.specs.Scripting.{KeepsScriptOn}
 use Rattle.beep_steps.specs.Sending.{sender_plan, SendsAll}
 use Rattle.beep_settings.specs.declared.settings.Settings.{Settings}
 use Rattle.beep_input.specs.Whole.{HasEnded}
@@ -125,10 +125,10 @@ SendCause cause settings before after =
     after
 
 -- the log of each link shows, where it is told, that above channel zero the script of a sender of
--- these lines was kept
+-- these lines was kept, and that nothing but it was asked on channel zero
 abbrev pub KeepsLines : Settings → List (List ℕ) → Seen → Seen → Type 0
 KeepsLines settings lines before after = EachOf before after
-    (λ link. WhereTold (KeepsAboveOn (sender_plan settings lines)) link.log)
+    (λ link. WhereTold (KeepsScriptOn (sender_plan settings lines)) link.log)
 
 -- a run of `send` that ended with a release sent all of these lines: the log of its link shows
 -- each, once and in order, where it is told; and whatever ended it, its script was kept

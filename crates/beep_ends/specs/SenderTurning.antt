@@ -19,7 +19,7 @@ use Rattle.beep_steps.specs.Refusing.{IsUnrefused}
 use Rattle.beep_steps.specs.Scripting.{ScriptedOn, TellsScripted}
 use Rattle.beep_steps.specs.Sending.{Progress}
 use Rattle.beep_steps.specs.Turning.{shown_on, stops_sending, spends_sending}
-use Rattle.beep_steps.proofs.EndScripts.{goes-above}
+use Rattle.beep_steps.proofs.EndScripts.{goes-script}
 
 module _ (plan : PlainPlan) (progress : Progress) (session : Held) where
   pub writes_scripting : (log : List Entry) (front octets : List ℕ)
@@ -59,7 +59,7 @@ module _ (plan : PlainPlan) (progress : Progress) (session : Held) where
       → TellsScripted plan cause log
   stops_scripting same log octets cause is s = record {
     tells = stops_sending plan progress session same log octets cause is s.sends;
-    above = goes-above plan progress session octets (moments log) s;
+    script = goes-script plan progress session octets (moments log) s;
   }
 
   pub spends_scripting : terms_of session ≡ plan.terms → (log : List Entry) (cause : Ended)
@@ -68,5 +68,5 @@ module _ (plan : PlainPlan) (progress : Progress) (session : Held) where
       → IsUnrefused Command.Send closing (moments log) → TellsScripted plan cause log
   spends_scripting same log cause is going s closing u = record {
     tells = spends_sending plan progress session same log cause is going s.sends closing u;
-    above = goes-above plan progress session [] (moments log) s;
+    script = goes-script plan progress session [] (moments log) s;
   }

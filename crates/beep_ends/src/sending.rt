@@ -6,7 +6,7 @@ ghost use Rattle.beep_link.specs.declared.ended.Ended.{Ended as EndedValue};
 ghost use Rattle.beep_steps.specs.Ends.{AreFit, reads_of};
 ghost use Rattle.beep_steps.specs.Logs.{IsLawfulOn, Shows, terms_by};
 ghost use Rattle.beep_steps.specs.Refusing.{GoesUnrefused};
-ghost use Rattle.beep_steps.specs.Scripting.{KeepsAboveOn};
+ghost use Rattle.beep_steps.specs.Scripting.{KeepsScriptOn};
 ghost use Rattle.beep_steps.specs.Sending.{sender_plan, SendsAll};
 ghost use Rattle.beep_ends.specs.Sender.{plan_of, SendsBy, StandsBy};
 
@@ -50,8 +50,9 @@ pub fn send_end<W: Wires>(
     ensures sent { result ≡ EndedValue.Released → WhereTold
         (SendsAll (sender_plan settings.now lines.now)) (W.state wires.new link).log }
 
-    // What was sent on each channel above zero is the beginning of what is to be said there.
-    ensures scripted { WhereTold (KeepsAboveOn (sender_plan settings.now lines.now))
+    // What was sent on each channel above zero is the beginning of what is to be said there, and
+    // what was asked on channel zero is the first of what a sender asks.
+    ensures scripted { WhereTold (KeepsScriptOn (sender_plan settings.now lines.now))
         (W.state wires.new link).log }
 
     // What stays, and how often is read.

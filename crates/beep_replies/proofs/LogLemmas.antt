@@ -141,43 +141,52 @@ got-adds octet old new takes =
 put-adds : (octet : ℕ) (old new : Past) → Takes none_tunes (put octet) old new → AddsOne IsSent old.journal new.journal
 put-adds octet old new takes = where-adds IsSent Side.Sent ((λ head. tt), (λ head payload. tt), (λ seq. tt)) (goes_on old) none_tunes octet old new takes
 
-more-above : (plan : PlainPlan) (old new : List Item) → AddsOne IsReceived old new → KeepsAbove plan old → KeepsAbove plan new
-more-above plan old new (stays is) keeps = subst (KeepsAbove plan) (sym is) keeps
-more-above plan old new (more item of is) keeps = subst (KeepsAbove plan) (sym is) (received-above plan item old of keeps)
-
-less-above : (plan : PlainPlan) (old new : List Item) → plan.command ≡ Command.Send → AddsOne IsSent old new → KeepsAbove plan new → KeepsAbove plan old
-less-above plan old new send (stays is) keeps = subst (KeepsAbove plan) is keeps
-less-above plan old new send (more item of is) keeps = sent-above plan item old send of (subst (KeepsAbove plan) is keeps)
-
 -- ---- octets of a log
+
+-- what holds of a journal and stays as items come
+module _ (P : List Item → Type 0) (stays-so : (item : Item) (journal : List Item) → IsReceived item → P journal → P (item ∷ journal)) where
+  more-so : (old new : List Item) → AddsOne IsReceived old new → P old → P new
+  more-so old new (stays is) keeps = subst P (sym is) keeps
+  more-so old new (more item of is) keeps = subst P (sym is) (stays-so item old of keeps)
+
+  pub comes-so : (octets : List ℕ) (log : List Moment) (before after : Past) → Shows none_tunes log before → Shows none_tunes (got_all octets log) after → P before.journal → P after.journal
+  comes-so [] log before after one other keeps = subst (λ (p : Past). P p.journal) (one-shown none_tunes log before after one other) keeps
+  comes-so (octet ∷ octets) log before after one other keeps =
+      let mid = middle octets (got octet ∷ log) after other in
+      let first : before ≡ mid.1.0 = one-shown none_tunes log before mid.1.0 one mid.1.1 in
+      comes-so octets (got octet ∷ log) mid.0 after mid.1 other
+      (more-so mid.1.0.journal mid.0.journal (got-adds octet mid.1.0 mid.0 mid.1.2) (subst (λ (p : Past). P p.journal) first keeps))
+    where
+      middle : (octets : List ℕ) (log : List Moment) (after : Past) → Shows none_tunes (got_all octets log) after → (mid : Past) × Shows none_tunes log mid
+      middle [] log after shows = (after, shows)
+      middle (octet ∷ octets) log after shows = let next = middle octets (got octet ∷ log) after shows in (next.1.0, next.1.1)
+
+-- what holds of a journal and held before items went
+module _ (P : List Item → Type 0) (was-so : (item : Item) (journal : List Item) → IsSent item → P (item ∷ journal) → P journal) where
+  less-so : (old new : List Item) → AddsOne IsSent old new → P new → P old
+  less-so old new (stays is) keeps = subst P is keeps
+  less-so old new (more item of is) keeps = was-so item old of (subst P is keeps)
+
+  pub goes-so : (octets : List ℕ) (log : List Moment) (before after : Past) → Shows none_tunes log before → Shows none_tunes (put_all octets log) after → P after.journal → P before.journal
+  goes-so octets log before after one other keeps =
+      let mid = back octets log after other keeps in
+      subst (λ (p : Past). P p.journal) (one-shown none_tunes log mid.0 before mid.1.0 one) mid.1.1
+    where
+      back : (octets : List ℕ) (log : List Moment) (after : Past) → Shows none_tunes (put_all octets log) after → P after.journal → (mid : Past) × (Shows none_tunes log mid × P mid.journal)
+      back [] log after shows keeps = (after, (shows, keeps))
+      back (octet ∷ octets) log after shows keeps =
+          let next = back octets (put octet ∷ log) after shows keeps in
+          (next.1.0.0, (next.1.0.1, less-so next.1.0.0.journal next.0.journal (put-adds octet next.1.0.0 next.0 next.1.0.2) next.1.1))
 
 -- what comes leaves a script that is kept
 pub kept-comes : (plan : PlainPlan) (octets : List ℕ) (log : List Moment) (before after : Past) → Shows none_tunes log before → Shows none_tunes (got_all octets log) after
     → KeepsAbove plan before.journal → KeepsAbove plan after.journal
-kept-comes plan [] log before after one other keeps = subst (λ (p : Past). KeepsAbove plan p.journal) (one-shown none_tunes log before after one other) keeps
-kept-comes plan (octet ∷ octets) log before after one other keeps =
-    let mid = middle octets (got octet ∷ log) after other in
-    let first : before ≡ mid.1.0 = one-shown none_tunes log before mid.1.0 one mid.1.1 in
-    kept-comes plan octets (got octet ∷ log) mid.0 after mid.1 other
-    (more-above plan mid.1.0.journal mid.0.journal (got-adds octet mid.1.0 mid.0 mid.1.2) (subst (λ (p : Past). KeepsAbove plan p.journal) first keeps))
-  where
-    middle : (octets : List ℕ) (log : List Moment) (after : Past) → Shows none_tunes (got_all octets log) after → (mid : Past) × Shows none_tunes log mid
-    middle [] log after shows = (after, shows)
-    middle (octet ∷ octets) log after shows = let next = middle octets (got octet ∷ log) after shows in (next.1.0, next.1.1)
+kept-comes plan = comes-so (KeepsAbove plan) (received-above plan)
 
 -- a sender's is kept before what isn't written yet
 pub kept-goes : (plan : PlainPlan) (octets : List ℕ) (log : List Moment) (before after : Past) → plan.command ≡ Command.Send → Shows none_tunes log before
     → Shows none_tunes (put_all octets log) after → KeepsAbove plan after.journal → KeepsAbove plan before.journal
-kept-goes plan octets log before after send one other keeps =
-    let mid = back octets log after other keeps in
-    subst (λ (p : Past). KeepsAbove plan p.journal) (one-shown none_tunes log mid.0 before mid.1.0 one) mid.1.1
-  where
-    back : (octets : List ℕ) (log : List Moment) (after : Past) → Shows none_tunes (put_all octets log) after → KeepsAbove plan after.journal
-        → (mid : Past) × (Shows none_tunes log mid × KeepsAbove plan mid.journal)
-    back [] log after shows keeps = (after, (shows, keeps))
-    back (octet ∷ octets) log after shows keeps =
-        let next = back octets (put octet ∷ log) after shows keeps in
-        (next.1.0.0, (next.1.0.1, less-above plan next.1.0.0.journal next.0.journal send (put-adds octet next.1.0.0 next.0 next.1.0.2) next.1.1))
+kept-goes plan octets log before after send = goes-so (KeepsAbove plan) (λ item journal. sent-above plan item journal send) octets log before after
 
 -- ---- what is given is replies
 

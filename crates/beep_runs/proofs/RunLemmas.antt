@@ -9,7 +9,7 @@ use Rattle.beep_link.specs.declared.ended.Ended.{Ended}
 use Rattle.beep_link.specs.Causes.{IsCaused, Keeps, Seen, WhereTold}
 use Rattle.beep_steps.specs.Ends.{reads_of}
 use Rattle.beep_steps.specs.Logs.{IsLawfulOn, Shows, terms_by}
-use Rattle.beep_steps.specs.Scripting.{KeepsAboveOn}
+use Rattle.beep_steps.specs.Scripting.{KeepsScriptOn}
 use Rattle.beep_steps.specs.Sending.{sender_plan, SendsAll}
 use Rattle.beep_recorder.specs.Kept.{Recording, RecordsKnown}
 use Rattle.beep_runs.specs.Runs.{IsRecorded, Ran, SentAll}
@@ -69,12 +69,12 @@ module _ (role : Role) (settings : Settings) (cause : Ended) (before given used 
 
 -- what was sent by the end of the session was sent by the end of the run
 pub sent_all : (settings : Settings) (lines : List (List ℕ)) (cause result : Ended) (before used after : Seen) (link : ℕ) → link ≡ before.counts.given → after.state link ≡ record (used.state link) { is_open = false }
-    → (cause ≡ Ended.Released → WhereTold (SendsAll (sender_plan settings lines)) (used.state link).log) → WhereTold (KeepsAboveOn (sender_plan settings lines)) (used.state link).log
+    → (cause ≡ Ended.Released → WhereTold (SendsAll (sender_plan settings lines)) (used.state link).log) → WhereTold (KeepsScriptOn (sender_plan settings lines)) (used.state link).log
     → (result ≡ cause) ⊎ (result ≡ Ended.NoMemory) → SentAll settings lines result before after
 sent_all settings lines cause result before used after link is shut sent above ended = record {
   all = λ released. on (SendsAll (sender_plan settings lines)) (⊎_elim (λ same. sent (sym same ∙ released))
       (λ short. absurd (let h : Ended.NoMemory ≡ Ended.Released = sym short ∙ released in cc)) ended);
-  above = on (KeepsAboveOn (sender_plan settings lines)) above;
+  above = on (KeepsScriptOn (sender_plan settings lines)) above;
 }
   where
     on : (P : List Entry → Type 0) → WhereTold P (used.state link).log → WhereTold P (after.state before.counts.given).log

@@ -12,7 +12,7 @@ use Rattle.beep_link.specs.declared.ended.Ended.{Ended}
 use Rattle.beep_link.specs.Causes.{IsCaused, Seen, WhereTold}
 use Rattle.beep_steps.specs.Ends.{reads_of}
 use Rattle.beep_steps.specs.Logs.{IsLawfulOn, Shows, terms_by}
-use Rattle.beep_steps.specs.Scripting.{KeepsAboveOn}
+use Rattle.beep_steps.specs.Scripting.{KeepsScriptOn}
 use Rattle.beep_steps.specs.Sending.{sender_plan, SendsAll}
 use Rattle.beep_recorder.specs.Kept.{RecordsLink}
 
@@ -38,12 +38,13 @@ pub record Ran (role : Role) (settings : Settings) (cause : Ended) (before after
   pub others : SameBeside before.counts.given before.state after.state
 
 -- the log of the link that was given shows that all lines were sent, where the session was
--- released, and that above channel zero its script was kept, whatever ended it
+-- released, and that above channel zero its script was kept and nothing but it asked on channel
+-- zero, whatever ended it
 pub record SentAll (settings : Settings) (lines : List (List ℕ)) (cause : Ended)
     (before after : Seen) : Type 0 where
   pub all : cause ≡ Ended.Released
       → WhereTold (SendsAll (sender_plan settings lines)) (after.state before.counts.given).log
-  pub above : WhereTold (KeepsAboveOn (sender_plan settings lines))
+  pub above : WhereTold (KeepsScriptOn (sender_plan settings lines))
       (after.state before.counts.given).log
 
 -- no link was given, for this reason, where the count of such faults was that and is this

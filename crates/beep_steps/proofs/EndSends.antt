@@ -1,8 +1,10 @@
 -- What a log shows of a sender that has ended.
-use Rattle.std.proofs.Common.{◌≡◌, ℕ, Bool, true, false, List, [], ◌∷◌, if◌then◌else◌, take, flat_map, None, refl, sym, ap, ◌∙◌, subst, arith}
+use Rattle.std.proofs.Common.{◌≡◌, ℕ, Bool, true, false, List, [], ◌∷◌, ◌++◌, if◌then◌else◌, take, drop, append_assoc, take-append-drop, flat_map, None, refl, sym, ap, ◌∙◌, subst, arith}
 use Rattle.beep_frame.specs.declared.kind.Kind.{Kind}
 use Rattle.beep_frame.specs.Frame.{is_msg}
+use Rattle.beep_history.specs.declared.journal.Side.{Side}
 use Rattle.beep_history.specs.Journal.{Item}
+use Rattle.beep_history.specs.Marks.{marks}
 use Rattle.beep_journal.specs.Broken.{none_tunes}
 use Rattle.beep_journal.specs.declared.role.Role.{Role}
 use Rattle.beep_journal.specs.Journal.{Past, Shows as Shown}
@@ -24,7 +26,7 @@ use Rattle.beep_script.specs.Script.{message_marks}
 use Rattle.beep_script.specs.EachEnd.{WasGranted, HasSentAll}
 use Rattle.beep_script.specs.Refused.{refusal}
 use Rattle.beep_released.proofs.ClosedLemmas.{close-granted, granted-count}
-use Rattle.beep_script.specs.Requested.{requests_from}
+use Rattle.beep_script.specs.Requested.{requests_from, sender_texts}
 use Rattle.beep_script.proofs.RequestedLemmas.{one-request}
 use Rattle.beep_peer.specs.Peering.{is_over}
 use Rattle.beep_session.specs.declared.event.Event.{Event}
@@ -40,6 +42,7 @@ use Rattle.beep_link.specs.Causes.{ended_by}
 use Rattle.beep_link.specs.declared.ended.Stop.{Stop}
 use Rattle.beep_steps.specs.Logs.{moments, command_of, Shows, ShowsFault, StopsOn}
 use Rattle.beep_steps.specs.Refusing.{GoesUnrefused, RefusesOn, ShowsNoRefusal}
+use Rattle.beep_steps.specs.Scripting.{AskedFirst}
 use Rattle.beep_steps.specs.Sending.{Progress, IsSender, SendsOn, SendsWaiting, ShowsSent, SendsAll, StopsSending, TellsSent, at_first}
 use Rattle.beep_steps.proofs.RefusesLemmas.{stop-refuses}
 use Rattle.beep_steps.proofs.SendsLemmas.{keeps-zero, texts-are}
@@ -64,6 +67,18 @@ module _ (plan : PlainPlan) (p : Progress) (session : Held) (log : List Moment) 
   unbroken =
       let shown = s.on.logged.shown in
       subst (IsUnbroken none_tunes) shown.journal_is ((shown-unbroken none_tunes log shown.past shown.shows).0 shown.going)
+
+  -- what was asked is the first of what a sender asks
+  pub asked-first : AskedFirst plan (zero_history journal)
+  asked-first =
+      let texts = sender_texts plan.raw_uri in
+      let more : List (List ℕ) = _ in
+      let sent : requests_from [] (marks Side.Sent (zero_history journal)) ++ more ≡ take p.asked texts =
+      texts-are plan.raw_uri s.sender.texts (terms_of session) s.sender.role journal s.on.given s.on.taken session.peer.lives live p.asked s.sends.asked in
+      record {
+        others = more ++ drop p.asked texts;
+        asked = sym (append_assoc (requests_from [] (marks Side.Sent (zero_history journal))) more (drop p.asked texts)) ∙ ap (λ l. l ++ drop p.asked texts) sent ∙ take-append-drop p.asked texts;
+      }
 
   granted : refusal Command.Send journal ≡ None → is_released journal ≡ true → WasGranted 2 journal
   granted none released =

@@ -2,16 +2,19 @@
 -- the beginning of its script, and what was given is of its replies, each once and in order (RFC
 -- 3195, section 3.1).
 -- The code keeps the place of the next line alone.
-use Rattle.std.specs.Prelude.{◌≡◌, ℕ, ◌+◌, ◌≤◌, ◌==◌, true, false, List, [], length, flat_map, map, take}
+use Rattle.std.specs.Prelude.{◌≡◌, ℕ, ◌+◌, ◌≤◌, ◌==◌, true, false, List, [], ◌++◌, length, flat_map, map, take}
+use Rattle.beep_history.specs.declared.journal.Side.{Side}
 use Rattle.beep_history.specs.Journal.{Item}
-use Rattle.beep_history.specs.Marks.{Mark, mark_modulo_2_64}
+use Rattle.beep_history.specs.Marks.{Mark, mark_modulo_2_64, marks}
 use Rattle.beep_journal.specs.Broken.{none_tunes}
 use Rattle.beep_journal.specs.Journal.{Past, Shows}
 use Rattle.beep_journal.specs.Life.{is_there}
 use Rattle.beep_journal.specs.Log.{Moment}
+use Rattle.beep_journal.specs.Zero.{zero_history}
 use Rattle.beep_session.specs.Session.{Held}
 use Rattle.beep_standing.specs.Standing.{Marks}
 use Rattle.beep_talk.specs.Plan.{PlainPlan}
+use Rattle.beep_script.specs.Requested.{requests_from, sender_texts}
 use Rattle.beep_script.specs.Script.{message_marks}
 use Rattle.beep_script.specs.Sending.{answers_of}
 use Rattle.beep_replies.specs.Replies.{KeepsAbove, replies}
@@ -70,7 +73,23 @@ ShowsAbove plan log = (past : Past) → Shows none_tunes log past → KeepsAbove
 abbrev pub KeepsAboveOn : PlainPlan → List Entry → Type 0
 KeepsAboveOn plan log = ShowsAbove plan (moments log)
 
+-- what was asked on channel zero, by its history, is the first of a sender's requests: the start of
+-- channel 1, its close, and the release
+pub record AskedFirst (plan : PlainPlan) (zero : List Item) : Type 0 where
+  pub others : List (List ℕ)
+  pub asked : requests_from [] (marks Side.Sent zero) ++ others ≡ sender_texts plan.raw_uri
+
+-- a log shows a sender that kept its script above channel zero, and asked nothing but that there
+pub record ShowsScript (plan : PlainPlan) (log : List Moment) : Type 0 where
+  pub above : ShowsAbove plan log
+  pub asked : (past : Past) → Shows none_tunes log past
+      → AskedFirst plan (zero_history past.journal)
+
+-- the same of each session that the log of a link shows
+abbrev pub KeepsScriptOn : PlainPlan → List Entry → Type 0
+KeepsScriptOn plan log = ShowsScript plan (moments log)
+
 -- what the log of a link shows of a sender that ended so
 pub record TellsScripted (plan : PlainPlan) (cause : Ended) (log : List Entry) : Type 0 where
   pub tells : TellsSent plan cause log
-  pub above : KeepsAboveOn plan log
+  pub script : KeepsScriptOn plan log

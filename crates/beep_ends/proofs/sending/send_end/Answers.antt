@@ -7,9 +7,9 @@ use Rattle.beep_link.specs.Causes.{WhereTold}
 use Rattle.beep_link.specs.declared.ended.Ended.{Ended}
 use Rattle.beep_steps.specs.Logs.{Shows, terms_by}
 use Rattle.beep_steps.specs.Refusing.{GoesUnrefused}
-use Rattle.beep_steps.specs.Scripting.{KeepsAboveOn}
+use Rattle.beep_steps.specs.Scripting.{KeepsScriptOn}
 use Rattle.beep_steps.specs.Sending.{SendsAll, sender_plan}
-use Rattle.beep_steps.proofs.EndScripts.{none-above}
+use Rattle.beep_steps.proofs.EndScripts.{none-script}
 use Rattle.beep_steps.proofs.EndSends.{sends-all}
 use Rattle.beep_steps.proofs.OnLemmas.{none-shown, none-told, told-lawful}
 use Rattle.beep_ends.specs.Sender.{plan_of}
@@ -55,14 +55,14 @@ returns-clause-sent g c is =
 pub returns-in_default-clause-scripted : goal.returns-in_default-clause-scripted
 returns-in_default-clause-scripted g c =
     let plan = sender_plan c.args.settings.now c.args.lines.now in
-    none-told (KeepsAboveOn plan) (g.W.Wires.state c.args.wires.now c.args.link).log (none-above plan) c.requires.unused.unread
+    none-told (KeepsScriptOn plan) (g.W.Wires.state c.args.wires.now c.args.link).log (none-script plan) c.requires.unused.unread
 
 pub returns-clause-scripted : goal.returns-clause-scripted
 returns-clause-scripted g c =
     let log = (g.W.Wires.state c.run_turns.new.wires c.args.link).log in
     let plan = plan_of c.in-Ok.sender in
-    subst (λ (x : PlainPlan). WhereTold (KeepsAboveOn x) log) c.in-Ok.ensures.plan
-    (told-map _ (KeepsAboveOn plan) (λ l t. t.2.above) log (c.run_turns.ensures.told c.in-Ok.ensures.stands))
+    subst (λ (x : PlainPlan). WhereTold (KeepsScriptOn x) log) c.in-Ok.ensures.plan
+    (told-map _ (KeepsScriptOn plan) (λ l t. t.2.script) log (c.run_turns.ensures.told c.in-Ok.ensures.stands))
 
 pub returns-in_default-clause-unrefused : goal.returns-in_default-clause-unrefused
 returns-in_default-clause-unrefused g c =

@@ -4,7 +4,7 @@ use Rattle.beep_talk.specs.declared.plan.Command.{Command}
 use Rattle.beep_wires.specs.Log.{read}
 use Rattle.beep_link.proofs.StandLemmas.{text-none}
 use Rattle.beep_steps.specs.Logs.{moments}
-use Rattle.beep_steps.proofs.EndScripts.{comes-above}
+use Rattle.beep_steps.proofs.EndScripts.{comes-script}
 use Rattle.beep_steps.proofs.EndSends.{tells-stop}
 use Rattle.beep_ends.specs.Sender.{plan_of, progress_of}
 use Rattle.beep_ends.proofs.HearLemmas.{err-both, ok-and}
@@ -26,6 +26,6 @@ returns-clause-stopped g c log text s =
     err-both c.hear_all.result _ _ _
     (λ stop h r. text-none (g.O.Sink.state c.args._output.now).written _ (record {
       tells = tells-stop (plan_of one) (progress_of one) one.session log c.args.bytes.now stop refl s.0.sends h r;
-      above = comes-above (plan_of one) (progress_of one) one.session c.args.bytes.now (moments log) s.0;
+      script = comes-script (plan_of one) (progress_of one) one.session c.args.bytes.now (moments log) s.0;
     }))
     (c.hear_all.ensures.stopped (moments log) s.0.sends) (c.hear_all.ensures.refuses (moments log) s.0.sends s.1)

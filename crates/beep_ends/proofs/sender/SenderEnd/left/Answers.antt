@@ -4,7 +4,7 @@ use Rattle.beep_steps.specs.Logs.{moments}
 use Rattle.beep_steps.proofs.OnLemmas.{shows-cut}
 use Rattle.beep_link.specs.declared.ended.Ended.{Ended}
 use Rattle.beep_ends.proofs.RefusedLemmas.{sent-unrefused}
-use Rattle.beep_steps.proofs.EndScripts.{goes-above}
+use Rattle.beep_steps.proofs.EndScripts.{goes-script}
 use Rattle.beep_ends.specs.Sender.{plan_of, progress_of}
 use Rattle.beep_ends.proofs.sender.SenderEnd.left.Goals as goal
 
@@ -16,6 +16,6 @@ returns c = record {
       sent = λ is. absurd (cc is);
       unrefused = sent-unrefused c.args.self.now log (Ended.Cut c.left.result) s;
     };
-    above = goes-above (plan_of c.args.self.now) (progress_of c.args.self.now) c.args.self.now.session [] (moments log) s.0;
+    script = goes-script (plan_of c.args.self.now) (progress_of c.args.self.now) c.args.self.now.session [] (moments log) s.0;
   };
 }

@@ -3,7 +3,7 @@ use Rattle.std.proofs.Common.{◌≡◌, [], refl, rules, true}
 use Rattle.beep_peer.specs.Peering.{is_over}
 use Rattle.beep_steps.specs.Logs.{moments}
 use Rattle.beep_ends.specs.Sender.{plan_of, progress_of}
-use Rattle.beep_steps.proofs.EndScripts.{goes-above}
+use Rattle.beep_steps.proofs.EndScripts.{goes-script}
 use Rattle.beep_steps.proofs.EndSends.{over-sent}
 use Rattle.beep_steps.proofs.OnLemmas.{over-on, shows-release}
 use Rattle.beep_link.specs.declared.ended.Ended.{Ended}
@@ -21,7 +21,7 @@ returns c = record {
           sent = λ is. over-sent (plan_of one) (progress_of one) one.session (moments log) s.0.sends refl over (sent-unrefused one log Ended.Released s);
           unrefused = sent-unrefused one log Ended.Released s;
         };
-        above = goes-above (plan_of one) (progress_of one) one.session [] (moments log) s.0;
+        script = goes-script (plan_of one) (progress_of one) one.session [] (moments log) s.0;
       };
   unfailed = λ is. cc;
   going = tt;
