@@ -107,7 +107,7 @@ static size_t next(size_t at, struct frame *frame)
     return end <= held ? end : 0;
 }
 
-/* Reads once, behind what is held. */
+/* Reads once, after what is held. */
 static void read_once(int link)
 {
     ssize_t count = read(link, in + held, BUFFER);

@@ -241,6 +241,3 @@ fn number_of_starts(list: &VecDeque<Request>) -> usize
     }
     count
 }
-
-#[cfg(test)]
-mod tests;

@@ -8,7 +8,7 @@ use Rattle.beep_frame.specs.Frame.{is_msg, same_kind}
 use Rattle.beep_history.specs.Marks.{Mark, octet, end}
 use Rattle.beep_history.specs.Messages.{same_tag}
 use Rattle.beep_exchange.specs.Given.{ends_reply}
-use Rattle.beep_inbox.specs.Runs.{Run, run_marks, marks_of, octets_of, has_mark, AllMarked, put_behind, joins, joined}
+use Rattle.beep_inbox.specs.Runs.{Run, run_marks, marks_of, octets_of, has_mark, AllMarked, put_after, joins, joined}
 use Rattle.beep_channel.specs.Sums.{ended_of, IsPlaced, IsAnswerable}
 
 -- ---- one tag
@@ -67,7 +67,7 @@ not-from false e = refl
 
 -- the last run and the one after it, or both as one
 by-join : (x r : Run) (P : List Run → Type 0) → (r.tag ≡ x.tag → x.ended ≡ false → P (joined x r ∷ [])) → P (x ∷ r ∷ [])
-    → P (put_behind (x ∷ []) r)
+    → P (put_after (x ∷ []) r)
 by-join x r P one two = of (joins r x) refl
   where
     of : (b : Bool) → joins r x ≡ b → P (if b then joined x r ∷ [] else x ∷ r ∷ [])
@@ -82,7 +82,7 @@ one-more true n = refl
 one-more false n = omega arith
 
 pub ended-behind : (test : Kind → Bool) (rs : List Run) (r : Run)
-    → ended_of test (put_behind rs r) ≡ ended_of test rs + (if r.ended && test r.tag.kind then 1 else 0)
+    → ended_of test (put_after rs r) ≡ ended_of test rs + (if r.ended && test r.tag.kind then 1 else 0)
 ended-behind test [] r = one-more (r.ended && test r.tag.kind) 0
 ended-behind test (x ∷ []) r =
     by-join x r (λ (xs : List Run). ended_of test xs ≡ ended_of test (x ∷ []) + (if r.ended && test r.tag.kind then 1 else 0))
@@ -96,12 +96,12 @@ ended-behind test (x ∷ []) r =
     two false false = refl
 ended-behind test (x ∷ y ∷ rs) r = of (x.ended && test x.tag.kind) (ended-behind test (y ∷ rs) r)
   where
-    of : (b : Bool) → ended_of test (put_behind (y ∷ rs) r) ≡ ended_of test (y ∷ rs) + (if r.ended && test r.tag.kind then 1 else 0)
-        → (if b then ended_of test (put_behind (y ∷ rs) r) + 1 else ended_of test (put_behind (y ∷ rs) r)) ≡ (if b then ended_of test (y ∷ rs) + 1 else ended_of test (y ∷ rs)) + (if r.ended && test r.tag.kind then 1 else 0)
+    of : (b : Bool) → ended_of test (put_after (y ∷ rs) r) ≡ ended_of test (y ∷ rs) + (if r.ended && test r.tag.kind then 1 else 0)
+        → (if b then ended_of test (put_after (y ∷ rs) r) + 1 else ended_of test (put_after (y ∷ rs) r)) ≡ (if b then ended_of test (y ∷ rs) + 1 else ended_of test (y ∷ rs)) + (if r.ended && test r.tag.kind then 1 else 0)
     of true e = omega (arith, e)
     of false e = e
 
-pub octets-behind : (rs : List Run) (r : Run) → octets_of (put_behind rs r) ≡ octets_of rs + length r.octets
+pub octets-behind : (rs : List Run) (r : Run) → octets_of (put_after rs r) ≡ octets_of rs + length r.octets
 octets-behind [] r = omega arith
 octets-behind (x ∷ []) r =
     by-join x r (λ (xs : List Run). octets_of xs ≡ octets_of (x ∷ []) + length r.octets)
@@ -113,7 +113,7 @@ no-more : (xs : List Mark) → xs ++ [] ≡ xs
 no-more [] = refl
 no-more (x ∷ xs) = ap (λ (l : List Mark). x ∷ l) (no-more xs)
 
-pub marks-behind : (rs : List Run) (r : Run) → marks_of (put_behind rs r) ≡ marks_of rs ++ run_marks r
+pub marks-behind : (rs : List Run) (r : Run) → marks_of (put_after rs r) ≡ marks_of rs ++ run_marks r
 marks-behind [] r = no-more (run_marks r)
 marks-behind (x ∷ []) r =
     by-join x r (λ (xs : List Run). marks_of xs ≡ marks_of (x ∷ []) ++ run_marks r)
@@ -126,7 +126,7 @@ marks-behind (x ∷ []) r =
 marks-behind (x ∷ y ∷ rs) r =
     ap (λ (l : List Mark). run_marks x ++ l) (marks-behind (y ∷ rs) r) ∙ sym (append_assoc (run_marks x) (marks_of (y ∷ rs)) (run_marks r))
 
-pub marked-behind : (rs : List Run) (r : Run) → AllMarked rs → has_mark r ≡ true → AllMarked (put_behind rs r)
+pub marked-behind : (rs : List Run) (r : Run) → AllMarked rs → has_mark r ≡ true → AllMarked (put_after rs r)
 marked-behind [] r a m = (m, tt)
 marked-behind (x ∷ []) r a m =
     by-join x r (λ (xs : List Run). AllMarked xs) (λ e f. (both x.octets r.octets r.ended m, tt)) (a.0, (m, tt))
@@ -137,7 +137,7 @@ marked-behind (x ∷ []) r a m =
 marked-behind (x ∷ y ∷ rs) r a m = (a.0, marked-behind (y ∷ rs) r a.1 m)
 
 pub placed-behind : (own theirs : ℕ) (rs : List Run) (r : Run) → IsPlaced own theirs rs
-    → r.tag.request ≡ (if is_msg r.tag.kind then theirs + ended_of is_msg rs else own + ended_of ends_reply rs) % 2 ^ 64 → IsPlaced own theirs (put_behind rs r)
+    → r.tag.request ≡ (if is_msg r.tag.kind then theirs + ended_of is_msg rs else own + ended_of ends_reply rs) % 2 ^ 64 → IsPlaced own theirs (put_after rs r)
 placed-behind own theirs [] r p e = (e ∙ ap (λ (n : ℕ). n % 2 ^ 64) (of (is_msg r.tag.kind)), tt)
   where
     of : (b : Bool) → (if b then theirs + 0 else own + 0) ≡ (if b then theirs else own)
@@ -168,7 +168,7 @@ placed-behind own theirs (x ∷ y ∷ rs) r p e = (
 
 -- a run of a reply joins, and the request that waits is answered by its end
 pub answerable-behind : (w v : ℕ) (rs : List Run) (r : Run) → IsAnswerable w rs → w ≡ v + (if r.ended && ends_reply r.tag.kind then 1 else 0) → 0 < w
-    → IsAnswerable v (put_behind rs r)
+    → IsAnswerable v (put_after rs r)
 answerable-behind w v [] r a e p = (λ _. last (r.ended && ends_reply r.tag.kind) e, tt)
   where
     last : (b : Bool) → w ≡ v + (if b then 1 else 0) → 0 < (if b then 0 + 1 else 0) + v
@@ -191,7 +191,7 @@ answerable-behind w v (x ∷ y ∷ rs) r a e p =
     (λ k. let q = a.0 k in let b = ended-behind ends_reply (x ∷ y ∷ rs) r in omega (arith, q, b, e), answerable-behind w v (y ∷ rs) r a.1 e p)
 
 -- a run of a request belongs to no reply
-pub request-behind : (w : ℕ) (rs : List Run) (r : Run) → IsAnswerable w rs → is_msg r.tag.kind ≡ true → IsAnswerable w (put_behind rs r)
+pub request-behind : (w : ℕ) (rs : List Run) (r : Run) → IsAnswerable w rs → is_msg r.tag.kind ≡ true → IsAnswerable w (put_after rs r)
 request-behind w [] r a k = (λ f. absurd (let g : true ≡ false = sym f ∙ ap (λ (b : Bool). not b) k in cc), tt)
 request-behind w (x ∷ []) r a k =
     by-join x r (λ (xs : List Run). IsAnswerable w xs)

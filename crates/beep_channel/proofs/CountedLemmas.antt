@@ -12,7 +12,7 @@ use Rattle.beep_exchange.specs.Given.{ends_reply, message_number, next_answer, a
 use Rattle.beep_inbox.specs.Runs.{marks_with}
 use Rattle.beep_outbox.specs.Queue.{Message, message_marks}
 use Rattle.beep_channel.specs.Fits.{as_number}
-use Rattle.beep_channel.specs.Stands.{ends_of, IsInOrder, is_closed, answers_with, answers_after, AreNumbered, answers_told, IsCounted}
+use Rattle.beep_channel.specs.Stands.{ends_of, IsInOrder, is_closed, answers_with, answers_after, AreNumbered, answer_number, IsCounted}
 
 -- ---- lists of marks
 
@@ -112,14 +112,14 @@ numbered-message n m e = of m.octets
     of (o ∷ os) = (e, of os)
 
 -- the number of the next answer
-told-number : (n : ℕ) → option_map_or (λ (a : ℕ). a) (answers_told n) 0 ≡ message_number n
+told-number : (n : ℕ) → option_map_or (λ (a : ℕ). a) (answer_number n) 0 ≡ message_number n
 told-number zero = refl
 told-number (suc n) = let e : nat_lt 0 (suc n) ≡ true = grind (arith, nat_tests) in rw e refl
 
-told-next : (n : ℕ) → Some (next_answer (answers_told n)) ≡ answers_told (n + 1)
+told-next : (n : ℕ) → Some (next_answer (answer_number n)) ≡ answer_number (n + 1)
 told-next n = let e : nat_lt 0 (n + 1) ≡ true = grind (arith, nat_tests) in rw e (ap (λ (a : ℕ). Some a) (of n))
   where
-    of : (n : ℕ) → next_answer (answers_told n) ≡ message_number (n + 1)
+    of : (n : ℕ) → next_answer (answer_number n) ≡ message_number (n + 1)
     of zero = refl
     of (suc n) = let e : nat_lt 0 (suc n) ≡ true = grind (arith, nat_tests) in rw e (omega arith)
 
@@ -151,7 +151,7 @@ module _ (z : Bool) (g : Given) (given taken : List Mark) (c : IsCounted z g giv
         first_owed = (let e = c.first_owed in omega (arith, e, b, n));
         order = after Kind.Msg (let e = c.asked in let f = c.first_asked in omega (arith, p, e, f));
         numbered = numbers Kind.Msg n0;
-        answers = c.answers ∙ ap answers_told (sym (answers-now Kind.Msg));
+        answers = c.answers ∙ ap answer_number (sym (answers-now Kind.Msg));
         answering = c.answering;
         closed = λ _. closed-behind given (record { kind = Kind.Msg; request = place; ansno = ansno }) octets;
       }
@@ -170,7 +170,7 @@ module _ (z : Bool) (g : Given) (given taken : List Mark) (c : IsCounted z g giv
         first_owed = (let e = c.first_owed in omega (arith, e, b, n));
         order = after k (rw km (let e = c.first_owed in omega (arith, p, e)));
         numbered = numbers k numbered;
-        answers = (let z : answers_with k (answers_after 0 given) ≡ 0 = rw (ka, km) refl in ap answers_told (sym (answers-now k ∙ z)));
+        answers = (let z : answers_with k (answers_after 0 given) ≡ 0 = rw (ka, km) refl in ap answer_number (sym (answers-now k ∙ z)));
         answering = λ e. cc;
         closed = λ _. closed-behind given (record { kind = k; request = place; ansno = ansno }) octets ∙ rw ka refl;
       }
@@ -192,7 +192,7 @@ module _ (z : Bool) (g : Given) (given taken : List Mark) (c : IsCounted z g giv
         first_owed = (let e = c.first_owed in omega (arith, e, b, n));
         order = after Kind.Ans (let e = c.first_owed in omega (arith, p, e));
         numbered = numbers Kind.Ans numbered;
-        answers = ap (λ (o : Option ℕ). Some (next_answer o)) c.answers ∙ told-next (answers_after 0 given) ∙ ap answers_told (sym (answers-now Kind.Ans));
+        answers = ap (λ (o : Option ℕ). Some (next_answer o)) c.answers ∙ told-next (answers_after 0 given) ∙ ap answer_number (sym (answers-now Kind.Ans));
         answering = λ _. o;
         closed = λ e. cc;
       }

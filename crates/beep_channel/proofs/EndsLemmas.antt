@@ -19,7 +19,7 @@ use Rattle.beep_exchange.specs.declared.answer.Answer.{Answer}
 use Rattle.beep_exchange.specs.Kept.{Kept, capped, octets_in, has_answer, grown, continued, completed, replied_kept, breaks_empty_answer, judged, shape_tests, limit_tests}
 use Rattle.beep_exchange.specs.Exchange.{Life, IsExchange, current, answer_of}
 use Rattle.beep_exchange.proofs.AskerLemmas.{current-is}
-use Rattle.beep_inbox.specs.Runs.{Run, octets_of, joins, joined, has_mark, put_behind, put_run, left_runs}
+use Rattle.beep_inbox.specs.Runs.{Run, octets_of, joins, joined, has_mark, put_after, put_run, left_runs}
 use Rattle.beep_channel.specs.Sums.{ended_of, filled, AreEndsFew}
 use Rattle.beep_channel.proofs.BehindLemmas.{ended-behind, octets-behind}
 use Rattle.beep_channel.proofs.SumsLemmas.{no-octets}
@@ -65,7 +65,7 @@ take-few v n r rs f = of (nat_lt n (length r.octets)) refl
 
 -- a run is put
 module _ (v w : ℕ) (r : Run) (most : w ≤ MAX_ANSWERS) (sum : (if r.ended && is_ans r.tag.kind then 1 else 0) + w ≤ v + length r.octets) where
-  behind-all : (rs : List Run) → AreEndsFew v rs → ended_of is_ans (put_behind rs r) + w ≤ octets_of (put_behind rs r) + MAX_ANSWERS
+  behind-all : (rs : List Run) → AreEndsFew v rs → ended_of is_ans (put_after rs r) + w ≤ octets_of (put_after rs r) + MAX_ANSWERS
   behind-all rs f = let a = few-all v rs f in let e = ended-behind is_ans rs r in let o = octets-behind rs r in omega (arith, a, e, o, sum)
 
   alone : v ≤ MAX_ANSWERS → AreEndsFew w (r ∷ [])
@@ -75,7 +75,7 @@ module _ (v w : ℕ) (r : Run) (most : w ≤ MAX_ANSWERS) (sum : (if r.ended && 
       of true s = omega (arith, s, p)
       of false s = omega (arith, s, p)
 
-  few-behind : (rs : List Run) → AreEndsFew v rs → AreEndsFew w (put_behind rs r)
+  few-behind : (rs : List Run) → AreEndsFew v rs → AreEndsFew w (put_after rs r)
   few-behind [] f = alone f
   few-behind (last ∷ []) f = of (joins r last) (behind-all (last ∷ []) f)
     where
@@ -88,7 +88,7 @@ module _ (v w : ℕ) (r : Run) (most : w ≤ MAX_ANSWERS) (sum : (if r.ended && 
   pub put-few : (rs : List Run) → AreEndsFew v rs → AreEndsFew w (put_run rs r)
   put-few rs f = of (has_mark r) refl
     where
-      of : (b : Bool) → has_mark r ≡ b → AreEndsFew w (if b then put_behind rs r else rs)
+      of : (b : Bool) → has_mark r ≡ b → AreEndsFew w (if b then put_after rs r else rs)
       of true e = few-behind rs f
       of false e = few-less v w rs (let n = no-octets rs r e in let s = sum in omega (arith, s, n)) f
 

@@ -65,8 +65,8 @@ module _ (mine theirs : Kept) (channel seqno size ansno place : ℕ) (octets : L
   -- the next frame breaks no rule of the exchange
   pub next-judged : judged mine theirs the-next ≡ None
   next-judged = ⊎_elim
-      (λ w. whole-next mine theirs channel seqno size ansno place octets ms count owed fits.idle fits.behind fits.within fits.kept fits.apart k w fits.demand is_cut)
-      (λ b. let g : Begun = begun b in begun-next mine theirs channel seqno size ansno place octets ms count owed fits.idle fits.behind fits.within fits.kept fits.apart k
+      (λ w. whole-next mine theirs channel seqno size ansno place octets ms count owed fits.idle fits.counted fits.within fits.kept fits.apart k w fits.demand is_cut)
+      (λ b. let g : Begun = begun b in begun-next mine theirs channel seqno size ansno place octets ms count owed fits.idle fits.counted fits.within fits.kept fits.apart k
       g.before g.last g.more g.kind g.left g.no_nul g.number g.same g.answer g.run fits.demand is_cut)
       fits.first
 
@@ -191,8 +191,8 @@ module _ (mine theirs : Kept) (channel seqno size ansno place : ℕ) (octets : L
       = after-any mine theirs channel (next_number count k mine theirs) seqno size ansno place octets ms owed fits.kept fits.apart k (nat_lt size (length octets)) refl n in
       record {
         idle = refl;
-        behind = after-behind count mine the-next fits.behind numbered;
-        within = after-within count mine the-next fits.behind roomy fits.within;
+        counted = after-behind count mine the-next fits.counted numbered;
+        within = after-within count mine the-next fits.counted roomy fits.within;
         own = own-on;
         demand = a.demand;
         kept = a.kept;

@@ -63,7 +63,7 @@ pub give-fits : (count owed less : ℕ) (ms : List Message) (mine theirs : Kept)
     → Fits count less (ms ++ m ∷ []) mine theirs
 give-fits count owed less ms mine theirs m f s follow still sum room = record {
   idle = f.idle;
-  behind = f.behind;
+  counted = f.counted;
   within = f.within;
   own = f.own;
   demand = (let r = append-replies m ms in let d = f.demand in omega (arith, r, d, sum));
@@ -151,7 +151,7 @@ pub header-fits : (count owed : ℕ) (ms : List Message) (mine theirs : Kept) (h
     → Fits count owed ms mine (began_kept theirs head)
 header-fits count owed ms mine theirs head f idle room apart = record {
   idle = f.idle;
-  behind = f.behind;
+  counted = f.counted;
   within = f.within;
   own = f.own;
   demand = (let o = open-on theirs head idle in let d = f.demand in let w = wait-on (begins theirs head) in omega (arith, o, d, w));

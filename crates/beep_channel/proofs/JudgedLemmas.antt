@@ -13,7 +13,7 @@ use Rattle.beep_history.specs.Marks.{first, goes_on}
 use Rattle.beep_history.proofs.SoundLemmas.{IsApartFirst}
 use Rattle.beep_history.proofs.AnswersLemmas.{has}
 use Rattle.beep_exchange.specs.Kept.{Kept, begins, is_open, has_number, is_current, is_early, has_answer, judged, breaks_not_continued, goes_on_request, changes_message, changes_reply, breaks_number_in_use, breaks_too_many_requests}
-use Rattle.beep_channel.specs.Fits.{IsBehind, current, was_more, as_number}
+use Rattle.beep_channel.specs.Fits.{AreBack, current, was_more, as_number}
 
 -- ---- the frame before
 
@@ -72,7 +72,7 @@ equal a b h = grind (arith, nat_tests)
 
 -- no number of the last ones is that of the next request
 module _ (count : ℕ) where
-  pub behind-none : (back : ℕ) (ns : List ℕ) → 0 < back → back + length ns ≤ 2 ^ 31 → IsBehind count back ns → has_number (count % 2 ^ 31) ns ≡ false
+  pub behind-none : (back : ℕ) (ns : List ℕ) → 0 < back → back + length ns ≤ 2 ^ 31 → AreBack count back ns → has_number (count % 2 ^ 31) ns ≡ false
   behind-none back [] p few b = refl
   behind-none back (n ∷ ns) p few b =
       let few' : (back + 1) + length ns ≤ 2 ^ 31 = omega arith in
@@ -82,7 +82,7 @@ module _ (count : ℕ) where
       not-that : (n back count : ℕ) → 0 < back → back < 2 ^ 31 → n < 2 ^ 31 → (n + back) % 2 ^ 31 ≡ count % 2 ^ 31 → (n == count % 2 ^ 31) ≡ false
       not-that n back count p q r e = false_from_ne_true _ (λ h. let same : n ≡ count % 2 ^ 31 = equal n _ h in absurd (omega (arith, same, e)))
 
-  pub behind-take : (w back : ℕ) (ns : List ℕ) → IsBehind count back ns → IsBehind count back (take w ns)
+  pub behind-take : (w back : ℕ) (ns : List ℕ) → AreBack count back ns → AreBack count back (take w ns)
   behind-take zero back ns b = tt
   behind-take (suc w) back [] b = tt
   behind-take (suc w) back (n ∷ ns) b = (b.0, b.1, behind-take w (back + 1) ns b.2)

@@ -12,7 +12,7 @@ use Rattle.beep_frame.specs.Frame.{head_of, is_msg, is_ans, is_nul, is_reply, sa
 use Rattle.beep_history.proofs.SoundLemmas.{IsApartFirst}
 use Rattle.beep_exchange.specs.Kept.{Kept, begins, is_open, has_number, is_current, judged}
 use Rattle.beep_outbox.specs.Queue.{Message}
-use Rattle.beep_channel.specs.Fits.{replies, asks, may_follow, so_far_after, IsRun, IsBehind, current, was_more, OneAnswer, IsWhole, as_number, next_number, IsCut}
+use Rattle.beep_channel.specs.Fits.{replies, asks, may_follow, so_far_after, IsRun, AreBack, current, was_more, OneAnswer, IsWhole, as_number, next_number, IsCut}
 use Rattle.beep_exchange.specs.Given.{ends_reply}
 use Rattle.beep_channel.proofs.JudgedLemmas.{whole-continued, whole-message, whole-request, on-continued, on-message, on-begins, same-number, behind-none, behind-take, current-yes, current-whole, judged-msg, judged-reply, judged-ans, judged-nul}
 
@@ -71,7 +71,7 @@ and-false true = refl
 and-false false = refl
 
 module _ (mine theirs : Kept) (channel seqno size ansno place : ℕ) (octets : List ℕ) (ms : List Message) (count owed : ℕ)
-    (idle : mine.under_way ≡ None) (behind : IsBehind count 1 mine.numbers) (within : mine.waiting ≤ length mine.numbers)
+    (idle : mine.under_way ≡ None) (behind : AreBack count 1 mine.numbers) (within : mine.waiting ≤ length mine.numbers)
     (kept : theirs.waiting ≤ length theirs.numbers) (apart : IsApartFirst theirs.waiting theirs.numbers) where
   few-changes : (k : Kind) → option_map_or (λ (kind : Kind). not (same_kind kind k)) theirs.kind false ≡ false
       → (is_current theirs (current theirs) && option_map_or (λ (kind : Kind). not (same_kind kind k)) theirs.kind false) ≡ false

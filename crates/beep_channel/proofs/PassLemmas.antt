@@ -23,7 +23,7 @@ pub request-fits : (count owed more : ℕ) (ms : List Message) (mine theirs : Ke
     → more + as_number (is_open (passed_kept theirs)) ≤ owed + as_number (is_open theirs) → Fits count more ms mine (passed_kept theirs)
 request-fits count owed more ms mine theirs f p q = record {
   idle = f.idle;
-  behind = f.behind;
+  counted = f.counted;
   within = f.within;
   own = f.own;
   demand = (let d = f.demand in omega (arith, d, q));
@@ -58,7 +58,7 @@ reply-fits count owed ms mine theirs head f = of (not head.more && not (is_ans h
     of : (b : Bool) → Fits count owed ms (if b then record mine { waiting = mine.waiting - 1; kind = None; answers = [] } else record mine { kind = Some head.kind; answers = if is_ans head.kind then (if head.more then continued head.ansno head.size mine.answers else completed head.ansno mine.answers) else mine.answers }) theirs
     of true = record {
       idle = f.idle;
-      behind = f.behind;
+      counted = f.counted;
       within = (let w = f.within in omega (arith, w));
       own = f.own;
       demand = f.demand;
@@ -86,7 +86,7 @@ reply-fits count owed ms mine theirs head f = of (not head.more && not (is_ans h
     }
     of false = record {
       idle = f.idle;
-      behind = f.behind;
+      counted = f.counted;
       within = f.within;
       own = f.own;
       demand = f.demand;

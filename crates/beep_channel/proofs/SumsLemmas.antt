@@ -12,16 +12,16 @@ use Rattle.beep_exchange.specs.Given.{MayTakeOf, after_taken, after_end}
 use Rattle.beep_outbox.specs.Queue.{Message}
 use Rattle.beep_channel.specs.Fits.{replies, asks, as_number}
 use Rattle.beep_exchange.specs.Given.{ends_reply}
-use Rattle.beep_inbox.specs.Runs.{Run, run_marks, marks_of, octets_of, has_mark, AllMarked, put_behind, put_run, left_runs}
+use Rattle.beep_inbox.specs.Runs.{Run, run_marks, marks_of, octets_of, has_mark, AllMarked, put_after, put_run, left_runs}
 use Rattle.beep_channel.proofs.BehindLemmas.{ended-behind, octets-behind, marks-behind, marked-behind, placed-behind, answerable-behind, request-behind}
 use Rattle.beep_channel.specs.Sums.{ended_of, IsPlaced, IsAnswerable, is_partly, new_asks, Sums, arriving_tag, arriving_run}
 
 -- the same of a run that may have no mark
 module _ (rs : List Run) (r : Run) where
-  by-mark : (P : List Run → Type 0) → P (put_behind rs r) → (has_mark r ≡ false → P rs) → P (put_run rs r)
+  by-mark : (P : List Run → Type 0) → P (put_after rs r) → (has_mark r ≡ false → P rs) → P (put_run rs r)
   by-mark P yes-it no-it = of (has_mark r) refl
     where
-      of : (b : Bool) → has_mark r ≡ b → P (if b then put_behind rs r else rs)
+      of : (b : Bool) → has_mark r ≡ b → P (if b then put_after rs r else rs)
       of true e = yes-it
       of false e = no-it e
 
@@ -62,7 +62,7 @@ module _ (rs : List Run) (r : Run) where
   pub put-marked : AllMarked rs → AllMarked (put_run rs r)
   put-marked a = of (has_mark r) refl
     where
-      of : (b : Bool) → has_mark r ≡ b → AllMarked (if b then put_behind rs r else rs)
+      of : (b : Bool) → has_mark r ≡ b → AllMarked (if b then put_after rs r else rs)
       of true e = marked-behind rs r a e
       of false e = a
 

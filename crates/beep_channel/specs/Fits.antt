@@ -10,7 +10,7 @@ use Rattle.beep_frame.specs.Frame.{is_msg, is_ans, is_nul, is_reply}
 use Rattle.beep_history.proofs.SoundLemmas.{IsApartFirst}
 use Rattle.beep_exchange.specs.declared.answer.Answer.{Answer}
 use Rattle.beep_exchange.specs.Kept.{Kept, is_open, begins, began_kept, passed_kept, replied_kept, octets_in}
-use Rattle.beep_exchange.specs.Given.{ends_reply, message_number}
+use Rattle.beep_exchange.specs.Given.{ends_reply, message_number, IsMessageNumber}
 use Rattle.beep_outbox.specs.Queue.{Message}
 
 -- the whole replies among these
@@ -59,10 +59,10 @@ IsRun owed so_far (m ∷ ms) =
 
 -- the numbers of own requests, the latest first, are their positions modulo 2^31; the first is so
 -- many places back
-abbrev pub IsBehind : ℕ → ℕ → List ℕ → Type 0
-IsBehind count back [] = Unit {0}
-IsBehind count back (n ∷ ns) =
-    (n < 2 ^ 31) × (message_number (n + back) ≡ message_number count) × IsBehind count (back + 1) ns
+abbrev pub AreBack : ℕ → ℕ → List ℕ → Type 0
+AreBack count back [] = Unit {0}
+AreBack count back (n ∷ ns) =
+    IsMessageNumber n × (message_number (n + back) ≡ message_number count) × AreBack count (back + 1) ns
 
 -- the number of the oldest request that waits
 abbrev pub current : Kept → ℕ
@@ -113,7 +113,7 @@ as_number b = if b then 1 else 0
 -- received ones wait for a reply that isn't given
 pub record Fits (count owed : ℕ) (ms : List Message) (mine theirs : Kept) : Type 0 where
   pub idle : mine.under_way ≡ None
-  pub behind : IsBehind count 1 mine.numbers
+  pub counted : AreBack count 1 mine.numbers
   pub within : mine.waiting ≤ length mine.numbers
   pub own : option_map_or (λ head. is_msg head.kind && head.more) mine.before false ≡ true
       → 0 < count

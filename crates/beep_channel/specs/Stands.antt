@@ -124,8 +124,8 @@ AreNumbered answers (end tag ∷ marks) =
     × AreNumbered (answers_with tag.kind answers) marks
 
 -- so many answers as a call tells them
-abbrev pub answers_told : ℕ → Option ℕ
-answers_told answers = if nat_lt 0 answers then Some (message_number answers) else None
+abbrev pub answer_number : ℕ → Option ℕ
+answer_number answers = if nat_lt 0 answers then Some (message_number answers) else None
 
 -- the numbers of what was given and taken are those of these marks; channel zero has an implied
 -- request of each direction. Each whole reply that was given answers a request that was wholly
@@ -137,7 +137,7 @@ pub record IsCounted (is_zero : Bool) (kept : Given) (given taken : List Mark) :
   pub first_owed : kept.first_owed ≡ modulo_2_64 (ends_of ends_reply given)
   pub order : IsInOrder (as_number is_zero) 0 given
   pub numbered : AreNumbered 0 given
-  pub answers : kept.answers ≡ answers_told (answers_after 0 given)
+  pub answers : kept.answers ≡ answer_number (answers_after 0 given)
   pub answering : is_some kept.answers ≡ true → 0 < kept.owed
   pub closed : is_some kept.answers ≡ false → is_closed given ≡ true
 

@@ -13,7 +13,7 @@ pub enum AskError {
     TooManyAsked,
     /// With its octets there would be more unsent than the limit. It may find room after a cut.
     Full {
-        /// The unsent octets.
+        /// How many octets are unsent.
         queued: u32,
         /// How many there may be.
         limit: u32,

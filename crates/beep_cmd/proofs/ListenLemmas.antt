@@ -10,8 +10,9 @@ use Rattle.beep_journal.specs.declared.role.Role.{Role}
 use Rattle.beep_settings.specs.declared.settings.Settings.{Settings}
 use Rattle.beep_link.specs.declared.ended.Ended.{Ended}
 use Rattle.beep_link.specs.Causes.{Seen, WhereTold, WithText}
+use Rattle.beep_steps.specs.Refusing.{GoesUnrefused}
 use Rattle.beep_steps.specs.Scripting.{KeepsAboveOn}
-use Rattle.beep_steps.specs.Logs.{moments, Shows, terms_by}
+use Rattle.beep_steps.specs.Logs.{moments, Shows, terms_by, ReadsOnlyGoing}
 use Rattle.beep_ends.specs.Listening.{is_whole, listener_plan, AreLinesOf}
 use Rattle.beep_cmd.specs.Ends.{ended_line, ended_status, ends_run, EachOf, Tells, whole_line}
 use Rattle.beep_cmd.specs.Listening.{AreTold, EndsBy, first_of, run_cause, Session, SessionsOver, text_of, WritesLines, WritesOf}
@@ -36,22 +37,26 @@ module _ (settings : Settings) (cause : Ended) (before used after : Seen) (link 
 
   session_by : (log : List Entry) → (after.state before.counts.given).log ≡ Some log → Shows (terms_by Role.Listener settings) cause log
       → WithText old new (AreLinesOf (listener_plan settings) (is_whole cause) (moments log)) → KeepsAboveOn (listener_plan settings) log
-      → WritesSession settings cause before after old new
-  session_by log told shows text above = record {
+      → GoesUnrefused (terms_by Role.Listener settings) cause log → ReadsOnlyGoing (terms_by Role.Listener settings) log → WritesSession settings cause before after old new
+  session_by log told shows text above unrefused waits = record {
     text = text.0;
     lines = text.1;
-    writes = subst (WhereTold (WritesOf settings (record { cause = cause; text = text.0 }))) (sym told) (record { shows = shows; lines = text.2; above = above });
+    writes = subst (WhereTold (WritesOf settings (record { cause = cause; text = text.0 }))) (sym told) (record { shows = shows; lines = text.2; above = above; unrefused = unrefused; waits = waits });
   }
 
   pub session_lines : WhereTold (Shows (terms_by Role.Listener settings) cause) (used.state link).log
       → WhereTold (λ log. WithText old new (AreLinesOf (listener_plan settings) (is_whole cause) (moments log))) (used.state link).log
-      → WhereTold (KeepsAboveOn (listener_plan settings)) (used.state link).log → AreTold before after → WritesSession settings cause before after old new
-  session_lines shows text above told =
+      → WhereTold (KeepsAboveOn (listener_plan settings)) (used.state link).log → WhereTold (GoesUnrefused (terms_by Role.Listener settings) cause) (used.state link).log
+      → WhereTold (ReadsOnlyGoing (terms_by Role.Listener settings)) (used.state link).log
+      → AreTold before after → WritesSession settings cause before after old new
+  session_lines shows text above unrefused waits told =
       let it = told before.counts.given (omega arith) (omega (arith, one)) in
       let of : (used.state link).log ≡ Some it.0 = sym at_it ∙ it.1 in
       session_by it.0 it.1 (subst (WhereTold (Shows (terms_by Role.Listener settings) cause)) of shows)
       (subst (WhereTold (λ log. WithText old new (AreLinesOf (listener_plan settings) (is_whole cause) (moments log)))) of text)
       (subst (WhereTold (KeepsAboveOn (listener_plan settings))) of above)
+      (subst (WhereTold (GoesUnrefused (terms_by Role.Listener settings) cause)) of unrefused)
+      (subst (WhereTold (ReadsOnlyGoing (terms_by Role.Listener settings))) of waits)
 
 -- ---- session after session
 

@@ -12,16 +12,18 @@ use Rattle.beep_wires.specs.Links.{Link, Ask, dial, accept}
 use Rattle.beep_settings.specs.declared.settings.Settings.{Settings}
 use Rattle.beep_link.specs.declared.ended.Ended.{Ended}
 use Rattle.beep_link.specs.Causes.{Seen, WhereTold}
-use Rattle.beep_steps.specs.Logs.{IsLawfulOn, terms_by}
-use Rattle.beep_steps.specs.Scripting.{KeepsScriptOn}
+use Rattle.beep_steps.specs.Logs.{IsLawfulOn, ReadsOnlyGoing, terms_by}
+use Rattle.beep_steps.specs.Refusing.{GoesUnrefused}
+use Rattle.beep_steps.specs.Scripting.{KeepsAboveOn, KeepsScriptOn}
 use Rattle.beep_steps.specs.Sending.{sender_plan, SendsAll}
+use Rattle.beep_ends.specs.Listening.{listener_plan}
 use Rattle.beep_recorder.specs.Kept.{RecordsLink}
-use Rattle.beep_runs.specs.Runs.{AsksThis, IsRecorded, NotGiven, Ran, SentAll}
+use Rattle.beep_runs.specs.Runs.{AsksThis, HasListened, IsRecorded, NotGiven, Ran, SentAll}
 use Rattle.beep_input.specs.Whole.{HasEnded}
 use Rattle.beep_input.specs.Lines.{AreLines}
 use Rattle.beep_show.specs.Show.{Run, run_of}
 use Rattle.beep_cmd.specs.Recorded.{IsEnding, IsRecordOf, lined, recorded}
-use Rattle.beep_cmd.specs.Recording.{EndsRecorded, ListenRecorded, SendRecorded, record_told, record_starved, TellsRecord, TellsWhole, whole_record, no_record}
+use Rattle.beep_cmd.specs.Recording.{EndsRecorded, KeepsListening, ListenRecorded, SendRecorded, record_told, record_starved, TellsRecord, TellsWhole, whole_record, no_record}
 use Rattle.beep_cmd.specs.Ends.{AcceptsAtMost, asking, AsksOnly, DialsOnce, ended_line, ended_status, IsAcceptOf, IsDialOf, ListenCause, Listened, listen_starved, listen_told, listen_unwritten, over, SendCause, SendsLines, Sent, send_starved, session, SessionCause, Tells, whole_line, line_begun, WritesLawfully}
 use Rattle.beep_cmd.proofs.EndsLemmas.{sent}
 use Rattle.beep_cmd.proofs.ServingLemmas.{asks_once, each_none, each_of_it, each_one, session_cause}
@@ -145,7 +147,7 @@ sent_recorded settings before after result run octets consumed recording ended l
 
 pub listened_recorded : (settings : Settings) (before after : Seen) (result : ℕ) (source : SourceState) (sink sink_after : SinkState) → ListenRecorded settings before after result sink sink_after
     → Listened settings before after result (run_of source source sink sink_after)
-listened_recorded settings before after result source sink sink_after (record_told cause n m c text ending (whole_line is appended)) = listen_told cause n m c is
+listened_recorded settings before after result source sink sink_after (record_told cause n m c text ending (whole_line is appended)) = listen_told cause n m c.0 is
 listened_recorded settings before after result source sink sink_after (record_told cause n m c text ending (line_begun is rose prefix)) = listen_unwritten is rose
 listened_recorded settings before after result source sink sink_after (record_starved cause c is none) = listen_starved is
 
@@ -158,6 +160,8 @@ pub send_sends : (settings : Settings) (lines : List (List ℕ)) (cause : Ended)
 send_sends settings lines cause before after one sent = record {
   all = λ released. each_one (λ link. WhereTold (SendsAll (sender_plan settings lines)) link.log) before after before.counts.given refl one (sent.all released);
   above = each_one (λ link. WhereTold (KeepsScriptOn (sender_plan settings lines)) link.log) before after before.counts.given refl one sent.above;
+  unrefused = each_one (λ link. WhereTold (GoesUnrefused (terms_by Role.Initiator settings) cause) link.log) before after before.counts.given refl one sent.unrefused;
+  waits = each_one (λ link. WhereTold (ReadsOnlyGoing (terms_by Role.Initiator settings)) link.log) before after before.counts.given refl one sent.waits;
 }
 
 -- no link was given, so that none was released, and none shows otherwise
@@ -165,8 +169,25 @@ pub unlinked_sends : (settings : Settings) (lines : List (List ℕ)) (cause : En
 unlinked_sends settings lines cause other before after same = record {
   all = λ e. absurd (other e);
   above = each_none (λ link. WhereTold (KeepsScriptOn (sender_plan settings lines)) link.log) before after same;
+  unrefused = each_none (λ link. WhereTold (GoesUnrefused (terms_by Role.Initiator settings) cause) link.log) before after same;
+  waits = each_none (λ link. WhereTold (ReadsOnlyGoing (terms_by Role.Initiator settings)) link.log) before after same;
 }
 
 pub listen_caused : (settings : Settings) (cause : Ended) (before after : Seen) → settings.sessions ≡ 1 → Ran Role.Listener settings cause before after → ListenCause cause settings before after
 listen_caused settings cause before after one r =
     session (cause_of Role.Listener settings cause before after r) (λ e. r.given ∙ ap (λ (n : ℕ). before.counts.given + n) (sym one))
+
+-- what was kept over the one link was kept over each
+pub listen_keeps : (settings : Settings) (cause : Ended) (before after : Seen) → after.counts.given ≡ before.counts.given + 1 → HasListened settings cause before after → KeepsListening cause settings before after
+listen_keeps settings cause before after one kept = record {
+  above = each_one (λ link. WhereTold (KeepsAboveOn (listener_plan settings)) link.log) before after before.counts.given refl one kept.above;
+  unrefused = each_one (λ link. WhereTold (GoesUnrefused (terms_by Role.Listener settings) cause) link.log) before after before.counts.given refl one kept.unrefused;
+  waits = each_one (λ link. WhereTold (ReadsOnlyGoing (terms_by Role.Listener settings)) link.log) before after before.counts.given refl one kept.waits;
+}
+
+pub unlinked_keeps : (settings : Settings) (cause : Ended) (before after : Seen) → after.counts.given ≡ before.counts.given → KeepsListening cause settings before after
+unlinked_keeps settings cause before after same = record {
+  above = each_none (λ link. WhereTold (KeepsAboveOn (listener_plan settings)) link.log) before after same;
+  unrefused = each_none (λ link. WhereTold (GoesUnrefused (terms_by Role.Listener settings) cause) link.log) before after same;
+  waits = each_none (λ link. WhereTold (ReadsOnlyGoing (terms_by Role.Listener settings)) link.log) before after same;
+}

@@ -12,7 +12,8 @@ use Rattle.beep_wires.specs.Links.{Link, Counts, Ask, accept, dial, Asked}
 use Rattle.beep_link.specs.declared.ended.Ended.{Ended}
 use Rattle.beep_link.specs.Causes.{HasRead, IsQuiet, Seen, WhereTold}
 use Rattle.beep_journal.specs.declared.role.Role.{Role}
-use Rattle.beep_steps.specs.Logs.{IsLawfulOn, Shows, terms_by}
+use Rattle.beep_steps.specs.Logs.{IsLawfulOn, ReadsOnlyGoing, Shows, terms_by}
+use Rattle.beep_steps.specs.Refusing.{GoesUnrefused}
 use Rattle.beep_steps.specs.Scripting.{KeepsScriptOn}
 use Rattle.beep_steps.specs.Sending.{sender_plan, SendsAll}
 use Rattle.beep_settings.specs.declared.settings.Settings.{Settings}
@@ -131,12 +132,17 @@ KeepsLines settings lines before after = EachOf before after
     (λ link. WhereTold (KeepsScriptOn (sender_plan settings lines)) link.log)
 
 -- a run of `send` that ended with a release sent all of these lines: the log of its link shows
--- each, once and in order, where it is told; and whatever ended it, its script was kept
+-- each, once and in order, where it is told; whatever ended it, its script was kept; the peer
+-- refused nothing where that didn't end it; and wherever was read the session went on
 pub record SendsLines (cause : Ended) (settings : Settings) (lines : List (List ℕ))
     (before after : Seen) : Type 0 where
   pub all : cause ≡ Ended.Released
       → EachOf before after (λ link. WhereTold (SendsAll (sender_plan settings lines)) link.log)
   pub above : KeepsLines settings lines before after
+  pub unrefused : EachOf before after
+      (λ link. WhereTold (GoesUnrefused (terms_by Role.Initiator settings) cause) link.log)
+  pub waits : EachOf before after
+      (λ link. WhereTold (ReadsOnlyGoing (terms_by Role.Initiator settings)) link.log)
 
 -- as many links were accepted as the settings say, or an accept failed
 abbrev pub ListenCause : Ended → Settings → Seen → Seen → Type 0

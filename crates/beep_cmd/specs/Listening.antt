@@ -12,8 +12,9 @@ use Rattle.beep_journal.specs.declared.role.Role.{Role}
 use Rattle.beep_settings.specs.declared.settings.Settings.{Settings}
 use Rattle.beep_link.specs.declared.ended.Ended.{Ended}
 use Rattle.beep_link.specs.Causes.{Seen, WhereTold}
+use Rattle.beep_steps.specs.Refusing.{GoesUnrefused}
 use Rattle.beep_steps.specs.Scripting.{KeepsAboveOn}
-use Rattle.beep_steps.specs.Logs.{moments, Shows, terms_by}
+use Rattle.beep_steps.specs.Logs.{moments, ReadsOnlyGoing, Shows, terms_by}
 use Rattle.beep_ends.specs.Listening.{is_whole, listener_plan, AreLinesOf}
 use Rattle.beep_cmd.specs.Ends.{ended_line, ended_status, ends_run, EachOf, Tells}
 
@@ -51,13 +52,16 @@ AreTold before after =
     EachOf before after (λ link. (log : List Entry) × (link.log ≡ Some log))
 
 -- what was written of a session is the lines that its log shows, or a beginning of them where it
--- ended out of memory, by a refusal or by a fault of the output; and above channel zero what was
--- sent is the beginning of its script
+-- ended out of memory, by a refusal or by a fault of the output; above channel zero what was sent
+-- is the beginning of its script; the peer refused nothing where that didn't end it; and wherever
+-- was read the session went on
 pub record WritesOf (settings : Settings) (session : Session) (log : List Entry) : Type 0 where
   pub shows : Shows (terms_by Role.Listener settings) session.cause log
   pub lines : AreLinesOf (listener_plan settings) (is_whole session.cause) (moments log)
       session.text
   pub above : KeepsAboveOn (listener_plan settings) log
+  pub unrefused : GoesUnrefused (terms_by Role.Listener settings) session.cause log
+  pub waits : ReadsOnlyGoing (terms_by Role.Listener settings) log
 
 -- the sessions over the links from this number on up to another, the latest first
 abbrev pub SessionsOver : Settings → (ℕ → Link) → ℕ → List Session → ℕ → Type 0

@@ -5,11 +5,15 @@ use Rattle.std.specs.Io.KnownBytes.{Appends}
 use Rattle.beep_journal.specs.declared.role.Role.{Role}
 use Rattle.beep_wires.specs.States.{SinkState}
 use Rattle.beep_link.specs.declared.ended.Ended.{Ended}
-use Rattle.beep_link.specs.Causes.{Seen}
+use Rattle.beep_link.specs.Causes.{Seen, WhereTold}
+use Rattle.beep_steps.specs.Logs.{ReadsOnlyGoing, terms_by}
+use Rattle.beep_steps.specs.Refusing.{GoesUnrefused}
+use Rattle.beep_steps.specs.Scripting.{KeepsAboveOn}
+use Rattle.beep_ends.specs.Listening.{listener_plan}
 use Rattle.beep_settings.specs.declared.settings.Settings.{Settings}
 use Rattle.beep_wires.specs.Links.{Link}
 use Rattle.beep_cmd.specs.Recorded.{IsEnding, IsRecordOf}
-use Rattle.beep_cmd.specs.Ends.{ended_line, ended_status, ListenCause, SendCause, SendsLines, Tells}
+use Rattle.beep_cmd.specs.Ends.{ended_line, ended_status, EachOf, ListenCause, SendCause, SendsLines, Tells}
 
 -- a run that is recorded was ended by a cause that holds, and what is due at its end was written,
 -- or begun where the write failed; or it was out of memory, and wrote nothing, whatever ended it
@@ -32,7 +36,7 @@ pub data TellsWhole (role : Role) (link : Link) (status result : ℕ) (old new :
   no_record : result ≡ 7 → Appends old.written new.written []
       → TellsWhole role link status result old new
 
--- the same with the status of what ended a run; for want of memory nothing is written
+-- the same with the status of what ended a run; where memory ran out nothing is written
 abbrev pub TellsRecord : Role → Link → Ended → ℕ → SinkState → SinkState → Type 0
 TellsRecord role link Ended.Released result old new = TellsWhole role link 0 result old new
 TellsRecord role link (Ended.Broken rule place) result old new =
@@ -53,8 +57,19 @@ SendRecorded settings lines before after status old new =
     EndsRecorded (λ cause. SendCause cause settings before after
     × SendsLines cause settings lines before after) Role.Initiator before after status old new
 
--- what a run of `listen` that is recorded writes
+-- the log of each link shows, where it is told, that above channel zero a listener kept its script,
+-- that the peer refused nothing where that didn't end the session, and that wherever was read the
+-- session went on
+pub record KeepsListening (cause : Ended) (settings : Settings) (before after : Seen) : Type 0 where
+  pub above : EachOf before after
+      (λ link. WhereTold (KeepsAboveOn (listener_plan settings)) link.log)
+  pub unrefused : EachOf before after
+      (λ link. WhereTold (GoesUnrefused (terms_by Role.Listener settings) cause) link.log)
+  pub waits : EachOf before after
+      (λ link. WhereTold (ReadsOnlyGoing (terms_by Role.Listener settings)) link.log)
+
+-- what a run of `listen` that is recorded writes, and that it kept its script
 abbrev pub ListenRecorded : Settings → Seen → Seen → ℕ → SinkState → SinkState → Type 0
 ListenRecorded settings before after status old new =
-    EndsRecorded (λ cause. ListenCause cause settings before after) Role.Listener before after
-    status old new
+    EndsRecorded (λ cause. ListenCause cause settings before after
+    × KeepsListening cause settings before after) Role.Listener before after status old new

@@ -91,8 +91,8 @@ pub(crate) fn record_listen<O: Sink, W: Wires>(
     }
 }
 
-/// Writes a record with the status of what ended its run, and answers the status. For want of
-/// memory nothing is written.
+/// Writes a record with the status of what ended its run, and answers the status. Where memory
+/// ran out nothing is written.
 fn tell_record<O: Sink>(out: &mut Octets, ended: Ended, output: &mut O) -> u8
     ensures { (role : RoleValue) (link : Link)
         → (ended ≢ EndedValue.NoMemory → RecordsLink link role [] out.old.octets)

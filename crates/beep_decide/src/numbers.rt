@@ -5,7 +5,7 @@ ghost use Rattle.beep_decide.specs.Numbers.{other_role, has_parity, may_start};
 use beep_frame::MAX_NUMBER;
 use beep_journal::Role;
 
-/// The other role.
+/// The role of the peer of an end with this role.
 pub fn other_role(role: Role) -> Role
     ensures { result ≡ other_role role }
 {

@@ -195,6 +195,3 @@ pub fn decide(
         | None => Ok(Answer::Refuse(500)),
     }
 }
-
-#[cfg(test)]
-mod tests;

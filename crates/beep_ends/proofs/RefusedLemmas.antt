@@ -6,11 +6,11 @@ use Rattle.beep_talk.specs.declared.plan.Command.{Command}
 use Rattle.beep_link.specs.declared.ended.Ended.{Ended}
 use Rattle.beep_steps.specs.Logs.{command_of, moments}
 use Rattle.beep_steps.specs.Refusing.{GoesUnrefused, IsUnrefused}
-use Rattle.beep_steps.specs.Turning.{none_refused}
+use Rattle.beep_steps.specs.Turning.{none_refused, IsCalm}
 use Rattle.beep_ends.specs.declared.sender.Sender.{Sender}
 use Rattle.beep_ends.specs.Sender.{StandsBy}
 
-pub sent-unrefused : (one : Sender) (log : List Entry) (cause : Ended) → StandsBy one (moments log) → GoesUnrefused (terms_of one.session) cause log
-sent-unrefused one log cause s =
-    none_refused (terms_of one.session) one.is_closing cause log
+pub sent-unrefused : (one : Sender) (log : List Entry) (cause : Ended) → IsCalm cause → StandsBy one (moments log) → GoesUnrefused (terms_of one.session) cause log
+sent-unrefused one log cause calm s =
+    none_refused (terms_of one.session) one.is_closing cause log calm
     (subst (λ (c : Command). IsUnrefused c one.is_closing (moments log)) (sym (ap command_of s.0.sends.sender.role)) s.1)

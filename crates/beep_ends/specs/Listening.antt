@@ -4,6 +4,7 @@
 -- The code keeps no journal, no marks, and no list of the answers that are whole.
 use Rattle.std.specs.Prelude.{◌≡◌, ℕ, ◌+◌, ◌≤◌, ◌==◌, Bool, true, false, ◌&&◌, List, [], ◌∷◌, ◌++◌, flat_map, length, map}
 use Rattle.beep_frame.specs.declared.head.Head.{Head}
+use Rattle.beep_frame.specs.declared.head.TheConstants.{MAX_NUMBER}
 use Rattle.beep_frame.specs.declared.kind.Kind.{Kind}
 use Rattle.beep_frame.specs.declared.tag.Tag.{Tag}
 use Rattle.beep_frame.specs.Frame.{same_kind}
@@ -200,7 +201,7 @@ pub record ListensTaking (number count : ℕ) (session : Held) (bodies : List Bo
   pub front : List Mark
   pub left : List Mark
   pub marks_are : map mark_modulo_2_64 (arrived_marks head payload before) ≡ front ++ left
-  pub few : count + length left ≤ 2147483648
+  pub few : count + length left ≤ MAX_NUMBER + 1
   pub untaken : IsUntaken head.channel left session
   pub takes : Takes (plan_of session) bodies buffer text head front before
   pub pruned : ArePruned before bodies

@@ -27,7 +27,7 @@ use Rattle.beep_link.specs.Causes.{IsOfFaults, IsOfReads}
 use Rattle.beep_link.specs.declared.ended.Ended.{Ended}
 use Rattle.beep_steps.specs.Logs.{moments, command_of}
 use Rattle.beep_steps.specs.Refusing.{GoesUnrefused, IsUnrefused}
-use Rattle.beep_steps.specs.Turning.{shown_on, spends_on, stops_on, none_refused, faults_refused, writes_on, quiets_on, closes_on, closes_serving, quiets_serving, writes_serving, writes_unrefused, quiets_unrefused, closes_unrefused}
+use Rattle.beep_steps.specs.Turning.{shown_on, spends_on, stops_on, none_refused, calm_reads, IsCalm, faults_refused, writes_on, quiets_on, closes_on, closes_serving, quiets_serving, writes_serving, writes_unrefused, quiets_unrefused, closes_unrefused}
 use Rattle.beep_steps.proofs.ServeLemmas.{shows-served}
 use Rattle.beep_steps.proofs.StepLemmas.{same-lines}
 use Rattle.beep_ends.specs.Listening.{plan_of, IsServed, ListensDry, ListensServed, TellsLines, TellsServed, UnrefusedOn, WritesLines, is_whole}
@@ -222,15 +222,16 @@ module _ (session : Held) (bodies : List Body) (buffer : List ℕ) where
   -- ---- one that was refused nothing
 
   -- a listener was told to listen
-  as_told : session.role ≡ Role.Listener → (log : List Moment)
+  as_shown : session.role ≡ Role.Listener → (log : List Moment)
       → IsUnrefused Command.Listen false log → IsUnrefused (command_of session.role) false log
-  as_told role log u =
+  as_shown role log u =
       subst (λ (c : Command). IsUnrefused c false log) (sym (ap command_of role)) u
 
-  pub goes_refused : (log : List Entry) (cause : Ended) → UnrefusedOn session (moments log)
-      → GoesUnrefused (terms_of session) cause log
-  goes_refused log cause u =
-      none_refused (terms_of session) false cause log (as_told u.role (moments log) u.unrefused)
+  pub goes_refused : (log : List Entry) (cause : Ended) → IsCalm cause
+      → UnrefusedOn session (moments log) → GoesUnrefused (terms_of session) cause log
+  goes_refused log cause calm u =
+      none_refused (terms_of session) false cause log calm
+      (as_shown u.role (moments log) u.unrefused)
 
   writes_refusing : (log : List Entry) (front octets : List ℕ)
       → UnrefusedOn session (put_all (front ++ octets) (moments log))
@@ -302,5 +303,5 @@ module _ (session : Held) (bodies : List Body) (buffer : List ℕ) where
   spends_served log text s cause is going = (
     spends_listening log text s.0 cause is going,
     shows-served (plan_of session) session [] (moments log) s.1,
-    goes_refused log cause s.2,
+    goes_refused log cause (calm_reads cause is) s.2,
   )

@@ -12,7 +12,7 @@ ghost use Rattle.beep_ends.specs.SpeakingTurning.{ListensScripted};
 ghost use Rattle.beep_steps.specs.Scripting.{KeepsAboveOn};
 ghost use Rattle.beep_steps.specs.Ends.{AreFit, reads_of};
 ghost use Rattle.beep_steps.specs.Refusing.{GoesUnrefused};
-ghost use Rattle.beep_steps.specs.Logs.{moments, IsLawfulOn, Shows, terms_by};
+ghost use Rattle.beep_steps.specs.Logs.{moments, IsLawfulOn, ReadsOnlyGoing, Shows, terms_by};
 
 use crate::listener::Listener;
 use beep_answering::Offers;
@@ -49,6 +49,8 @@ pub fn listen_end<W: Wires, O: Sink>(
         (W.state wires.new link).log }
     ensures unrefused { WhereTold (GoesUnrefused (terms_by RoleValue.Listener settings.now)
         result) (W.state wires.new link).log }
+    ensures waits { WhereTold (ReadsOnlyGoing (terms_by RoleValue.Listener settings.now))
+        (W.state wires.new link).log }
 
     // What was written is the lines that came, or a beginning of them.
     ensures lines { WhereTold (λ log.

@@ -1,10 +1,10 @@
 //! A sender over one link.
 ghost use Rattle.std.specs.Prelude.{◌≡◌, ◌≢◌, ◌≤◌, ◌+◌, ◌*◌, [], IfOk};
 ghost use Rattle.beep_journal.specs.declared.role.Role.{Role as RoleValue};
-ghost use Rattle.beep_link.specs.Causes.{IsCaused, IsUnused, Keeps, WhereTold};
+ghost use Rattle.beep_link.specs.Causes.{IsBounded, IsCaused, IsUnused, Keeps, WhereTold};
 ghost use Rattle.beep_link.specs.declared.ended.Ended.{Ended as EndedValue};
 ghost use Rattle.beep_steps.specs.Ends.{AreFit, reads_of};
-ghost use Rattle.beep_steps.specs.Logs.{IsLawfulOn, Shows, terms_by};
+ghost use Rattle.beep_steps.specs.Logs.{IsLawfulOn, ReadsOnlyGoing, Shows, terms_by};
 ghost use Rattle.beep_steps.specs.Refusing.{GoesUnrefused};
 ghost use Rattle.beep_steps.specs.Scripting.{KeepsScriptOn};
 ghost use Rattle.beep_steps.specs.Sending.{sender_plan, SendsAll};
@@ -45,6 +45,8 @@ pub fn send_end<W: Wires>(
         (W.state wires.new link).log }
     ensures unrefused { WhereTold (GoesUnrefused (terms_by RoleValue.Initiator settings.now)
         result) (W.state wires.new link).log }
+    ensures waits { WhereTold (ReadsOnlyGoing (terms_by RoleValue.Initiator settings.now))
+        (W.state wires.new link).log }
 
     // Where the session is released all was sent.
     ensures sent { result ≡ EndedValue.Released → WhereTold
@@ -55,7 +57,8 @@ pub fn send_end<W: Wires>(
     ensures scripted { WhereTold (KeepsScriptOn (sender_plan settings.now lines.now))
         (W.state wires.new link).log }
 
-    // What stays, and how often is read.
+    // What stays, and how much and how often is read.
+    ensures bounded { IsBounded (reads_of settings.now) (W.state wires.new link).log }
     ensures keeps { Keeps link
         (record {
           state = W.state wires.old;

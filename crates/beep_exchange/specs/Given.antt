@@ -36,6 +36,10 @@ without_least ns = option_map_or (λ n. without n ns) (least ns) ns
 abbrev pub message_number : ℕ → ℕ
 message_number count = count % 2 ^ 31
 
+-- it is one of these numbers
+abbrev pub IsMessageNumber : ℕ → Type 0
+IsMessageNumber number = number < 2 ^ 31
+
 -- ---- own requests
 
 -- the own requests that were given

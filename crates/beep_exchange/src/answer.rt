@@ -7,7 +7,7 @@ use beep_history::MAX_ANSWERS;
 /// An unfinished answer: its number, and its octets so far, at most 2^32 - 1.
 #[derive(Clone, Copy, Debug, PartialEq, Eq)]
 pub struct Answer {
-    /// The answer number.
+    /// The answer number of its frames, 0 to 2147483647.
     pub number: u32,
     /// The octets of its frames, where 2^32 - 1 stands for that many or more.
     pub octets: u32,

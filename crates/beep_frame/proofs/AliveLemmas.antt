@@ -182,11 +182,11 @@ one_reading (f ∷ fs) (g ∷ gs) r s a b u v e =
     let tails : fs ≡ gs = rest.0 in
     ((let l : f ∷ fs ≡ g ∷ gs = cc in l), rest.1)
 
-pub no_line_behind_header : (h : Head) (m : List ℕ) (line : Line) → IsHead h → run (at_line line_start) (header h ++ m) ≡ at_line line → ⊥
-no_line_behind_header h [] line w e =
+pub no_line_after_header : (h : Head) (m : List ℕ) (line : Line) → IsHead h → run (at_line line_start) (header h ++ m) ≡ at_line line → ⊥
+no_line_after_header h [] line w e =
     let two : at_head h ≡ at_line line = sym (header_runs h w) ∙ ap (run (at_line line_start)) (sym (append-nil (header h))) ∙ e in
     cc
-no_line_behind_header h (c ∷ m) line w e =
+no_line_after_header h (c ∷ m) line w e =
     let two : dead ≡ at_line line = sym (run-dead m) ∙ ap (λ t. run t (c ∷ m)) (sym (header_runs h w)) ∙ sym (run-append (at_line line_start) (header h) (c ∷ m)) ∙ e in
     cc
 
@@ -196,7 +196,7 @@ not_in_trailer frames r line a e t =
     let place : List ℕ = (header t.head ++ t.payload) ++ take t.count trailer in
     let there = unfinished_trailer place t.head t.payload t.count t.is_frame t.fewer refl in
     let same = one_reading frames t.frames r place a t.each (unfinished_line r line e) there t.whole in
-    no_line_behind_header t.head (t.payload ++ take t.count trailer) line t.is_frame.0 (ap (run (at_line line_start)) (sym (append_assoc (header t.head) t.payload (take t.count trailer)) ∙ sym same.1) ∙ e)
+    no_line_after_header t.head (t.payload ++ take t.count trailer) line t.is_frame.0 (ap (run (at_line line_start)) (sym (append_assoc (header t.head) t.payload (take t.count trailer)) ∙ sym same.1) ∙ e)
 
 -- ---- a prefix of what is alive is alive
 

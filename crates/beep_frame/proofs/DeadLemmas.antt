@@ -47,8 +47,8 @@ trailer_at (suc (suc (suc (suc (suc n))))) c y z h e = absurd (omega arith)
 
 module _ (r : List ℕ) (c : ℕ) (d : DiesInTrailer r c) (y z : List ℕ) where
   -- after the header
-  behind_header : List ℕ
-  behind_header = (d.payload ++ take d.count trailer) ++ c ∷ z
+  after_header : List ℕ
+  after_header = (d.payload ++ take d.count trailer) ++ c ∷ z
 
   header_first : r ++ c ∷ z ≡ header d.head ++ ((d.payload ++ take d.count trailer) ++ c ∷ z)
   header_first =

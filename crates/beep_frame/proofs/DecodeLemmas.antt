@@ -19,7 +19,7 @@ use Rattle.beep_frame.specs.Finding.{Finds, EndsFrame, EndsInLine, EndsInTrailer
 use Rattle.beep_frame.specs.Modulo.{modulo_2_64}
 use Rattle.beep_frame.specs.Tracks.{TrackerState, IsWithinSize, Tracks, HasStopped}
 use Rattle.beep_frame.specs.Decodes.{Answers, GivesMore, GivesHead, GivesFrame, GivesSeq, Breaks}
-use Rattle.beep_frame.specs.Answering.{moved, behind_header, last_number, broken_by, renewed, step_of, after_found}
+use Rattle.beep_frame.specs.Answering.{moved, after_header, last_number, broken_by, renewed, step_of, after_found}
 use Rattle.beep_frame.proofs.AliveLemmas.{dies_in_line, dies_in_trailer, not_in_trailer, unfinished_line, unfinished_trailer, unfinished_header}
 use Rattle.beep_frame.proofs.LawLemmas.{head_at, no_head, not_whole}
 use Rattle.beep_frame.specs.Fed.{fed_of}
@@ -80,7 +80,7 @@ module _ (d : TrackerState) (place : Place) (line : Line) (n : ℕ) (octets fed 
       let some : 0 < head.size = grind (arith, nat_tests) in
       (head, [], record { known_is = refl; is_head = is_head; rest_is = whole ∙ sym (append-nil (header head)) }, omega arith, some)
 
-  gives_head : (head : Head) → (known ≡ None) × IsHead head × (rest ++ take n octets ≡ header head) → head.size ≤ d.max → GivesHead head (Tracks (record (moved d place line n) { place = behind_header head.size })) d.max (fed_of fed frames rest known) (take n octets)
+  gives_head : (head : Head) → (known ≡ None) × IsHead head × (rest ++ take n octets ≡ header head) → head.size ≤ d.max → GivesHead head (Tracks (record (moved d place line n) { place = after_header head.size })) d.max (fed_of fed frames rest known) (take n octets)
   gives_head head f small =
       record { first = f.0; is_head = f.1; within = small; whole = f.2; stands = record { goes_on = s.goes_on; whole = grown (take n octets); each = s.each; within = s.within; at = at_payload head f.1 f.2 _ refl; known_within = small; used = used_now; left = left_now } }
 
@@ -136,7 +136,7 @@ module _ (d : TrackerState) (place : Place) (line : Line) (n : ℕ) (octets fed 
   is_broken rule = record { by = refl; left_is = left_then }
 
   decodes_head : (head : Head) → (known ≡ None) × IsHead head × (rest ++ take n octets ≡ header head) → (b : Bool) → nat_lt d.max head.size ≡ b
-      → Answers (cond b (Step.Broken Rule.Size (last_number (modulo_2_64 (d.used + n)))) (Step.Head head)) (cond b (broken_by (moved d place line n) Rule.Size) (record (moved d place line n) { place = behind_header head.size })) (fed_of fed frames rest known) octets n
+      → Answers (cond b (Step.Broken Rule.Size (last_number (modulo_2_64 (d.used + n)))) (Step.Head head)) (cond b (broken_by (moved d place line n) Rule.Size) (record (moved d place line n) { place = after_header head.size })) (fed_of fed frames rest known) octets n
   decodes_head head f true e =
       let above : d.max < head.size = grind (arith, nat_tests) in
       (too_large head f above, is_broken Rule.Size)
@@ -157,7 +157,7 @@ module _ (d : TrackerState) (place : Place) (line : Line) (n : ℕ) (octets fed 
   decodes_as found step new e g f =
       subst (λ x. Answers x new (fed_of fed frames rest known) octets n) (sym e) (subst (λ x. Answers (step_of (moved d place line n) found) x (fed_of fed frames rest known) octets n) (sym g) (decodes found f))
 
-max_by : (d : TrackerState) (head : Head) (b : Bool) → (cond b (broken_by d Rule.Size) (record d { place = behind_header head.size })).max ≡ d.max
+max_by : (d : TrackerState) (head : Head) (b : Bool) → (cond b (broken_by d Rule.Size) (record d { place = after_header head.size })).max ≡ d.max
 max_by d head true = refl
 max_by d head false = refl
 

@@ -9,8 +9,8 @@ use Rattle.beep_frame.specs.declared.finder.Place.{Place}
 use Rattle.beep_frame.specs.declared.finder.Found.{Found}
 use Rattle.beep_frame.specs.Frame.{IsHead, IsSeq, seq_frame}
 use Rattle.beep_frame.specs.Spelling.{header, trailer, spelling}
-use Rattle.beep_frame.specs.Line.{at_line, at_head, at_seq, dead, line_start, line_turn}
-use Rattle.beep_frame.specs.Reading.{run, At, PayloadOf, StopsAt}
+use Rattle.beep_frame.specs.Line.{at_line, at_head, at_seq, dead, line_start, line_turn, IsTurn}
+use Rattle.beep_frame.specs.Reading.{run, At, PayloadOf, StopsAt, TakesLine}
 use Rattle.beep_frame.specs.Finding.{Finds, EndsInLine, EndsInTrailer, EndsFrame, DiesInLine, DiesInTrailer}
 use Rattle.beep_frame.proofs.RunLemmas.{run-append}
 use Rattle.beep_frame.proofs.LineLemmas.{reads}
@@ -22,18 +22,18 @@ module _ (old : Line) (rest octets : List ℕ) (known : Option Head) (n : ℕ) (
   onward : run (at_line line_start) (rest ++ take n octets) ≡ run (at_line old) (take n octets)
   onward = run-append (at_line line_start) rest (take n octets) ∙ ap (λ t. run t (take n octets)) at.0
 
-  pub line_more : (new : Line) → at_line new ≡ run (at_line old) (take n octets) → n ≡ length octets → (n ≡ length octets) × At Place.Line new (rest ++ octets) known
+  line_more : (new : Line) → at_line new ≡ run (at_line old) (take n octets) → n ≡ length octets → (n ≡ length octets) × At Place.Line new (rest ++ octets) known
   line_more new e all =
       let same : take n octets ≡ octets = take_all n octets (omega arith) in
       (all, (rw same at onward ∙ sym (rw same at e), at.1))
 
-  pub line_head : (head : Head) → at_head head ≡ run (at_line old) (take n octets) → (known ≡ None) × IsHead head × (rest ++ take n octets ≡ header head)
+  line_head : (head : Head) → at_head head ≡ run (at_line old) (take n octets) → (known ≡ None) × IsHead head × (rest ++ take n octets ≡ header head)
   line_head head e = let r = reads (at_head head) (rest ++ take n octets) (onward ∙ sym e) in (at.1, r.0, sym r.1)
 
-  pub line_seq : (seq : Seq) → at_seq seq ≡ run (at_line old) (take n octets) → (known ≡ None) × IsSeq seq × (rest ++ take n octets ≡ spelling (seq_frame seq))
+  line_seq : (seq : Seq) → at_seq seq ≡ run (at_line old) (take n octets) → (known ≡ None) × IsSeq seq × (rest ++ take n octets ≡ spelling (seq_frame seq))
   line_seq seq e = let r = reads (at_seq seq) (rest ++ take n octets) (onward ∙ sym e) in (at.1, r.0, sym r.1)
 
-  pub line_bad : dead ≡ run (at_line old) (take n octets) → n ≤ length octets → StopsAt old octets n → EndsInLine rest known (take n octets)
+  line_bad : dead ≡ run (at_line old) (take n octets) → n ≤ length octets → StopsAt old octets n → EndsInLine rest known (take n octets)
   line_bad e within s =
       let one : n - 1 + 1 ≡ n = omega (arith, s.some) in
       let c : ℕ = get_or octets (n - 1) 0 in
@@ -41,6 +41,16 @@ module _ (old : Line) (rest octets : List ℕ) (known : Option Head) (n : ℕ) (
       let last : run (at_line old) (take n octets) ≡ line_turn s.before c = ap (run (at_line old)) taken ∙ run-append (at_line old) (take (n - 1) octets) (c ∷ []) ∙ ap (λ t. run t (c ∷ [])) s.inside in
       let inside : run (at_line line_start) (rest ++ take (n - 1) octets) ≡ at_line s.before = run-append (at_line line_start) rest (take (n - 1) octets) ∙ ap (λ t. run t (take (n - 1) octets)) at.0 ∙ s.inside in
       record { none = at.1; before = take (n - 1) octets; octet = c; taken_is = taken; dies = record { line = s.before; inside = inside; dies = sym last ∙ sym e } }
+
+  -- what the octets of a line lead to is found
+  pub line_finds : (found : Found) (new : Line) → IsTurn found new (run (at_line old) (take n octets)) → n ≤ length octets → TakesLine found old octets n
+      → Finds found Place.Line new rest known octets n
+  line_finds Found.More new turn within takes = line_more new turn takes
+  line_finds (Found.Head head) new turn within takes = line_head head turn
+  line_finds Found.Frame new turn within takes = absurd turn
+  line_finds (Found.Seq seq) new turn within takes = line_seq seq turn
+  line_finds Found.BadLine new turn within takes = line_bad turn within takes
+  line_finds Found.BadTrailer new turn within takes = absurd turn
 
 -- ---- in a trailer
 

@@ -20,7 +20,7 @@ use Rattle.beep_frame.proofs.LineLemmas.{reads, ReadsTurn}
 use Rattle.beep_frame.proofs.RunLemmas.{run-append, run-dead}
 use Rattle.beep_frame.proofs.WholeLemmas.{header_runs}
 use Rattle.beep_frame.proofs.StreamLemmas.{same_frame, same_line}
-use Rattle.beep_frame.proofs.AliveLemmas.{one_reading, alive_before, unfinished_line, unfinished_payload, unfinished_trailer, no_line_behind_header, finish_line, IsEnd}
+use Rattle.beep_frame.proofs.AliveLemmas.{one_reading, alive_before, unfinished_line, unfinished_payload, unfinished_trailer, no_line_after_header, finish_line, IsEnd}
 use Rattle.beep_frame.specs.Fed.{fed_of}
 
 pub is_one_reading : OneReading
@@ -107,7 +107,7 @@ line_short rest line e =
 
 pub head_at : (place : Place) (line : Line) (rest : List ℕ) (known : Option Head) → At place line rest known → IsHeadOf rest known
 head_at Place.Line line rest known at =
-    subst (IsHeadOf rest) (sym at.1) (record { short = omega (arith, line_short rest line at.0); none = λ head more w e. no_line_behind_header head more line w (ap (run (at_line line_start)) (sym e) ∙ at.0) })
+    subst (IsHeadOf rest) (sym at.1) (record { short = omega (arith, line_short rest line at.0); none = λ head more w e. no_line_after_header head more line w (ap (run (at_line line_start)) (sym e) ∙ at.0) })
 head_at (Place.Payload left) line rest known at =
     subst (IsHeadOf rest) (sym at.2.known_is) (record { is_head = at.2.is_head; more = at.1; begins = at.2.rest_is })
 head_at (Place.Trailer count) line rest known at =

@@ -2,8 +2,8 @@
 use Rattle.std.proofs.Common.{◌≡◌, ℕ, ◌+◌, ◌-◌, ◌<◌, List, [], ◌∷◌, ◌++◌, length, take, get_or, refl, arith}
 use Rattle.std.proofs.lemmas.List.{take_more}
 use Rattle.beep_frame.specs.declared.line.Line.{Line}
-use Rattle.beep_frame.specs.declared.line.LineTurn.{LineTurn}
-use Rattle.beep_frame.specs.Line.{Turn, at_line, dead, line_turn}
+use Rattle.beep_frame.specs.declared.finder.Found.{Found}
+use Rattle.beep_frame.specs.Line.{Turn, at_line, dead, line_turn, IsTurn}
 use Rattle.beep_frame.specs.Reading.{turn, run, StopsAt, TakesLine}
 
 pub run-append : (t : Turn) (xs ys : List ℕ) → run t (xs ++ ys) ≡ run (run t xs) ys
@@ -25,8 +25,11 @@ stops line now octets i r =
     record { some = omega arith; before = now; inside = rw same r }
 
 -- a line that ended has taken what its last turn says
-pub takes : (t : LineTurn) (line now : Line) (octets : List ℕ) (i : ℕ) → (t ≡ LineTurn.Inside → ⊥) → run (at_line line) (take i octets) ≡ at_line now → TakesLine t line octets (i + 1)
-takes LineTurn.Inside line now octets i n r = absurd (n refl)
-takes (LineTurn.Data head) line now octets i n r = stops line now octets i r
-takes (LineTurn.Seq seq) line now octets i n r = stops line now octets i r
-takes LineTurn.Dead line now octets i n r = stops line now octets i r
+pub takes : (found : Found) (line now next : Line) (last : Turn) (octets : List ℕ) (i : ℕ) → IsTurn found next last → (found ≡ Found.More → ⊥)
+    → run (at_line line) (take i octets) ≡ at_line now → TakesLine found line octets (i + 1)
+takes Found.More line now next last octets i t n r = absurd (n refl)
+takes (Found.Head head) line now next last octets i t n r = stops line now octets i r
+takes Found.Frame line now next last octets i t n r = t
+takes (Found.Seq seq) line now next last octets i t n r = stops line now octets i r
+takes Found.BadLine line now next last octets i t n r = stops line now octets i r
+takes Found.BadTrailer line now next last octets i t n r = t

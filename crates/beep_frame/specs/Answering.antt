@@ -20,8 +20,8 @@ moved d place line count =
     }
 
 -- where the next octet stands after a header
-abbrev pub behind_header : ℕ → Place
-behind_header size = if size == 0 then Place.Trailer 0 else Place.Payload size
+abbrev pub after_header : ℕ → Place
+after_header size = if size == 0 then Place.Trailer 0 else Place.Payload size
 
 -- the number of the octet that was used last
 abbrev pub last_number : ℕ → ℕ
@@ -49,7 +49,7 @@ abbrev pub after_found : TrackerState → Found → TrackerState
 after_found d Found.More = d
 after_found d (Found.Head head) =
     if nat_lt d.max head.size then broken_by d Rule.Size
-    else record d { place = behind_header head.size }
+    else record d { place = after_header head.size }
 after_found d Found.Frame = renewed d
 after_found d (Found.Seq seq) = renewed d
 after_found d Found.BadLine = broken_by d Rule.Header

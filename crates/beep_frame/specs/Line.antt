@@ -1,13 +1,13 @@
 -- What one octet does to a line: the decoder's step, for its proofs alone.
 -- No contract of a public call cites it: what a line means is its text (Spelling).
-use Rattle.std.specs.Prelude.{ℕ, ◌+◌, ◌==◌, Option, Some, None, List, length, nat_lt, if◌then◌else◌, slice_index, slice_index_or, slice_set, replicate}
+use Rattle.std.specs.Prelude.{◌≡◌, ℕ, ◌+◌, ◌==◌, Option, Some, None, List, length, nat_lt, if◌then◌else◌, slice_index, slice_index_or, slice_set, replicate}
 use Rattle.beep_frame.specs.declared.kind.Kind.{Kind}
 use Rattle.beep_frame.specs.declared.head.Head.{Head}
 use Rattle.beep_frame.specs.declared.seq.Seq.{Seq}
 use Rattle.beep_frame.specs.declared.line.Keyword.{Keyword}
 use Rattle.beep_frame.specs.declared.line.Part.{Part}
 use Rattle.beep_frame.specs.declared.line.PartTurn.{PartTurn}
-use Rattle.beep_frame.specs.declared.line.LineTurn.{LineTurn}
+use Rattle.beep_frame.specs.declared.finder.Found.{Found}
 use Rattle.beep_frame.specs.declared.line.Line.{Line}
 use Rattle.beep_frame.specs.Frame.{head_of}
 use Rattle.beep_frame.specs.Machine.{parts_of, keyword_by, part_turn}
@@ -23,12 +23,14 @@ pub data Turn : Type 0 where
 abbrev pub line_start : Line
 line_start = record { keyword = Keyword.Seq; at = 0; number = None; values = replicate 12 0 }
 
--- what a line's step answered, and the line after it, as one value
-abbrev pub turn_of : LineTurn → Line → Turn
-turn_of LineTurn.Inside line = at_line line
-turn_of (LineTurn.Data head) line = at_head head
-turn_of (LineTurn.Seq seq) line = at_seq seq
-turn_of LineTurn.Dead line = dead
+-- what was found in a line, and the line after it, are where its octets lead
+abbrev pub IsTurn : Found → Line → Turn → Type 0
+IsTurn Found.More line turn = at_line line ≡ turn
+IsTurn (Found.Head head) line turn = at_head head ≡ turn
+IsTurn Found.Frame line turn = ⊥
+IsTurn (Found.Seq seq) line turn = at_seq seq ≡ turn
+IsTurn Found.BadLine line turn = dead ≡ turn
+IsTurn Found.BadTrailer line turn = ⊥
 
 abbrev pub begun_by : Option Keyword → Line → Turn
 begun_by (Some keyword) line = at_line (record line { keyword = keyword; at = 1 })

@@ -3,7 +3,7 @@ use Rattle.std.specs.Prelude.{◌≡◌, ℕ, ◌+◌, ◌-◌, ◌<◌, Option,
 use Rattle.beep_frame.specs.declared.head.Head.{Head}
 use Rattle.beep_frame.specs.declared.finder.Place.{Place}
 use Rattle.beep_frame.specs.declared.line.Line.{Line}
-use Rattle.beep_frame.specs.declared.line.LineTurn.{LineTurn}
+use Rattle.beep_frame.specs.declared.finder.Found.{Found}
 use Rattle.beep_frame.specs.Frame.{IsHead}
 use Rattle.beep_frame.specs.Spelling.{header, trailer}
 use Rattle.beep_frame.specs.Line.{Turn, at_line, at_head, at_seq, dead, line_start, line_turn}
@@ -46,8 +46,10 @@ pub record StopsAt (old : Line) (octets : List ℕ) (used : ℕ) : Type 0 where
   pub inside : run (at_line old) (take (used - 1) octets) ≡ at_line before
 
 -- how many octets a line takes: all of them while it goes on, otherwise up to its end
-abbrev pub TakesLine : LineTurn → Line → List ℕ → ℕ → Type 0
-TakesLine LineTurn.Inside old octets used = used ≡ length octets
-TakesLine (LineTurn.Data head) old octets used = StopsAt old octets used
-TakesLine (LineTurn.Seq seq) old octets used = StopsAt old octets used
-TakesLine LineTurn.Dead old octets used = StopsAt old octets used
+abbrev pub TakesLine : Found → Line → List ℕ → ℕ → Type 0
+TakesLine Found.More old octets used = used ≡ length octets
+TakesLine (Found.Head head) old octets used = StopsAt old octets used
+TakesLine Found.Frame old octets used = ⊥
+TakesLine (Found.Seq seq) old octets used = StopsAt old octets used
+TakesLine Found.BadLine old octets used = StopsAt old octets used
+TakesLine Found.BadTrailer old octets used = ⊥

@@ -1,13 +1,13 @@
 //! Finding what the octets of a feed lead to: one place in a frame after another.
 ghost use Rattle.std.specs.Prelude.{◌≡◌, ◌≢◌, ℕ, ◌<◌, ◌≤◌, true, Option, List, take, length, slice_index};
-ghost use Rattle.beep_frame.specs.Line.{at_line, turn_of};
+ghost use Rattle.beep_frame.specs.Line.{at_line, IsTurn};
 ghost use Rattle.beep_frame.specs.Reading.{run, At, TakesLine};
 ghost use Rattle.beep_frame.specs.Finding.{is_place, Finds};
 ghost use Rattle.beep_frame.specs.declared.head.Head.{Head as header_type};
 ghost use Rattle.beep_frame.specs.declared.line.Line.{Line as line_type};
 
 use crate::head::Head;
-use crate::line::{Line, LineTurn};
+use crate::line::Line;
 use crate::seq::Seq;
 use crate::whole::whole_header;
 
@@ -72,28 +72,22 @@ fn find_line(line: &mut Line, bytes: &[u8]) -> (usize, Found)
             return (bytes.len() - rest.len(), Found::Head(head));
         }
     }
-    let (count, turn) = read_line(line, bytes);
-    match turn {
-        LineTurn::Inside => (count, Found::More),
-        LineTurn::Data(head) => (count, Found::Head(head)),
-        LineTurn::Seq(seq) => (count, Found::Seq(seq)),
-        LineTurn::Dead => (count, Found::BadLine),
-    }
+    read_line(line, bytes)
 }
 
 /// Takes octets up to the line's end, or all of them.
-fn read_line(line: &mut Line, bytes: &[u8]) -> (usize, LineTurn)
+fn read_line(line: &mut Line, bytes: &[u8]) -> (usize, Found)
     ensures within { result.0 ≤ length bytes.now }
-    ensures turn { turn_of result.1 line.new ≡ run (at_line line.old) (take result.0 bytes.now) }
+    ensures turn { IsTurn result.1 line.new (run (at_line line.old) (take result.0 bytes.now)) }
     ensures used { TakesLine result.1 line.old bytes.now result.0 }
 {
     for (i, byte) in bytes.iter().enumerate() {
-        match line.turn(*byte) {
-            LineTurn::Inside => {}
-            turn => return (i + 1, turn),
-        }
+        let found = line.turn(*byte);
+        let Found::More = found else {
+            return (i + 1, found);
+        };
     }
-    (bytes.len(), LineTurn::Inside)
+    (bytes.len(), Found::More)
 }
 
 /// Goes on in a payload of which `left` octets are left. It looks at none of them.

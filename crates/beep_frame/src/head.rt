@@ -11,7 +11,7 @@ pub const MAX_NUMBER: u32 = 2147483647;
 /// What a header says. Numbers stand as they are on the wire: `seqno` counts octets modulo 2^32.
 #[derive(Clone, Copy, Debug, PartialEq, Eq)]
 pub struct Head {
-    /// The keyword.
+    /// What the frame is part of: its keyword.
     pub kind: Kind,
     /// The channel, 0 to 2147483647.
     pub channel: u32,

@@ -7,6 +7,7 @@
 ghost use Rattle.std.specs.Prelude.{◌≡◌, ◌<◌, ◌≤◌, ◌==◌, length};
 ghost use Rattle.beep_frame.specs.Machine.{parts_of, keyword_by, digit_turn_of, number_turn_of, octet_turn_of, part_turn};
 
+use crate::finder::Found;
 use crate::head::{Head, MAX_NUMBER};
 use crate::kind::Kind;
 use crate::seq::Seq;
@@ -38,19 +39,6 @@ pub(crate) enum PartTurn {
     Digit(u32),
     /// The part's last octet: its value.
     Whole(u32),
-    /// It can't stand here.
-    Dead,
-}
-
-/// What an octet is to a line.
-#[derive(Clone, Copy, Debug, PartialEq, Eq)]
-pub(crate) enum LineTurn {
-    /// The line goes on.
-    Inside,
-    /// The last octet of a header.
-    Data(Head),
-    /// The last octet of a SEQ.
-    Seq(Seq),
     /// It can't stand here.
     Dead,
 }
@@ -206,7 +194,7 @@ impl Part {
 }
 
 impl Line {
-    ghost use Rattle.beep_frame.specs.Line.{line_start, turn_of, line_turn, begun, after_part, completed, head_of_line, seq_of_line};
+    ghost use Rattle.beep_frame.specs.Line.{line_start, IsTurn, line_turn, begun, after_part, completed, head_of_line, seq_of_line};
 
     /// A line of which no octet has come.
     pub(crate) fn start() -> Line
@@ -227,64 +215,64 @@ impl Line {
         self.at == 0
     }
 
-    /// Takes the next octet.
+    /// Takes the next octet: the line goes on, ends, or can't have it.
     #[tactic(auto, unfolding(crate::specs::Line::line_turn))]
-    pub(crate) fn turn(&mut self, byte: u8) -> LineTurn
-        ensures { turn_of result self.new ≡ line_turn self.old byte }
+    pub(crate) fn turn(&mut self, byte: u8) -> Found
+        ensures { IsTurn result self.new (line_turn self.old byte) }
     {
         if self.at == 0 {
             return self.begin(byte);
         }
         let parts = parts(self.keyword);
         if self.at >= parts.len() {
-            return LineTurn::Dead;
+            return Found::BadLine;
         }
         let turn = parts[self.at].turn(self.number, byte);
         self.follow(turn, parts.len())
     }
 
-    fn begin(&mut self, byte: u8) -> LineTurn
-        ensures { turn_of result self.new ≡ begun self.old byte }
+    fn begin(&mut self, byte: u8) -> Found
+        ensures { IsTurn result self.new (begun self.old byte) }
     {
         match keyword_of(byte) {
             Some(keyword) => {
                 self.keyword = keyword;
                 self.at = 1;
-                LineTurn::Inside
+                Found::More
             }
-            None => LineTurn::Dead,
+            None => Found::BadLine,
         }
     }
 
-    fn follow(&mut self, turn: PartTurn, count: usize) -> LineTurn
+    fn follow(&mut self, turn: PartTurn, count: usize) -> Found
         requires within { self.old.at < count }
         requires parts { count ≤ MAX_PARTS }
-        ensures { turn_of result self.new ≡ after_part turn self.old count }
+        ensures { IsTurn result self.new (after_part turn self.old count) }
     {
         match turn {
             PartTurn::Digit(number) => {
                 self.number = Some(number);
-                LineTurn::Inside
+                Found::More
             }
             PartTurn::Whole(value) => self.complete(value, count),
-            PartTurn::Dead => LineTurn::Dead,
+            PartTurn::Dead => Found::BadLine,
         }
     }
 
-    fn complete(&mut self, value: u32, count: usize) -> LineTurn
+    fn complete(&mut self, value: u32, count: usize) -> Found
         requires within { self.old.at < count }
         requires parts { count ≤ MAX_PARTS }
-        ensures { turn_of result self.new ≡ completed self.old value count }
+        ensures { IsTurn result self.new (completed self.old value count) }
     {
         self.values[self.at] = value;
         self.at += 1;
         self.number = None;
         if self.at < count {
-            return LineTurn::Inside;
+            return Found::More;
         }
         match self.keyword {
-            Keyword::Data(kind) => LineTurn::Data(self.head(kind)),
-            Keyword::Seq => LineTurn::Seq(self.seq()),
+            Keyword::Data(kind) => Found::Head(self.head(kind)),
+            Keyword::Seq => Found::Seq(self.seq()),
         }
     }
 

@@ -59,7 +59,7 @@ impl Tracker {
     ghost use Rattle.beep_frame.specs.Fed.{Fed, nothing_fed};
     ghost use Rattle.beep_frame.specs.Tracks.{Tracks, HasStopped, wanted_at};
     ghost use Rattle.beep_frame.specs.Decodes.{Answers, is_broken};
-    ghost use Rattle.beep_frame.specs.Answering.{step_of, after_found, renewed, broken_by, last_number, behind_header};
+    ghost use Rattle.beep_frame.specs.Answering.{step_of, after_found, renewed, broken_by, last_number, after_header};
 
     /// A tracker of a stream of which no octet has come, that takes payloads of at most `max`
     /// octets.

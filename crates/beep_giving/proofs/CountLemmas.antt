@@ -14,7 +14,7 @@ use Rattle.beep_exchange.specs.Given.{ends_reply, message_number, after_given, a
 use Rattle.beep_inbox.specs.Runs.{marks_with}
 use Rattle.beep_outbox.specs.Queue.{Message, message_marks}
 use Rattle.beep_channel.specs.Held.{Held, Live, next_ask, next_reply, ansno_of}
-use Rattle.beep_channel.specs.Stands.{IsCounted, ends_of, answers_after, answers_told}
+use Rattle.beep_channel.specs.Stands.{IsCounted, ends_of, answers_after, answer_number}
 use Rattle.beep_channel.proofs.CountedLemmas.{ends-append, ends-part, counted-ask, counted-reply}
 use Rattle.beep_lives.specs.Lives.{live_at}
 use Rattle.beep_lives.proofs.ListLemmas.{live-number}
@@ -57,7 +57,7 @@ one-count g h given taken k l =
 abbrev message-of : Kind → List ℕ → ℕ → ℕ → Message
 message-of kind octets request ansno = record { tag = record { kind = kind; request = request; ansno = ansno }; octets = octets }
 
-told-number : (n : ℕ) → option_map_or (λ (a : ℕ). a) (answers_told n) 0 ≡ message_number n
+told-number : (n : ℕ) → option_map_or (λ (a : ℕ). a) (answer_number n) 0 ≡ message_number n
 told-number zero = refl
 told-number (suc n) = let e : nat_lt 0 (suc n) ≡ true = grind (arith, nat_tests) in rw e refl
 

@@ -11,7 +11,7 @@ use Rattle.beep_exchange.specs.Given.{ends_reply, first_owed_now}
 use Rattle.beep_inbox.specs.Runs.{Run}
 use Rattle.beep_journal.specs.Life.{history}
 use Rattle.beep_channel.specs.Held.{Live}
-use Rattle.beep_channel.specs.Stands.{ends_of, answers_after, answers_told}
+use Rattle.beep_channel.specs.Stands.{ends_of, answers_after, answer_number}
 use Rattle.beep_lives.specs.Lives.{live_at}
 use Rattle.beep_standing.specs.Standing.{Marks, AreLiveBy}
 use Rattle.beep_standing.proofs.DueLemmas.{channel-untaken}
@@ -36,7 +36,7 @@ module _ (size number : ℕ) (journal : List Item) (given taken : Marks) (channe
         let k = counted-above size number journal given taken channels c (above-zero number above) s at in
         let owed = k.owed in grind (arith, nat_tests)
 
-    answers-at : c.held.life.given.answers ≡ answers_told (answers_after 0 (given number))
+    answers-at : c.held.life.given.answers ≡ answer_number (answers_after 0 (given number))
     answers-at = (counted-above size number journal given taken channels c (above-zero number above) s at).answers
 
     untaken-at : (not (length c.held.inbox == 0) ≡ false) ↔ (map mark_modulo_2_64 (marks Side.Received (history number journal)) ≡ taken number)
@@ -49,7 +49,7 @@ module _ (size number : ℕ) (journal : List Item) (given taken : Marks) (channe
   owes-stands None at live = absurd (let none : false ≡ true = live in cc)
   owes-stands (Some c) at live = owes-at c at
 
-  pub answers-stand : (o : Option Live) → live_at number channels ≡ o → IsSome o → answers_of o ≡ answers_told (answers_after 0 (given number))
+  pub answers-stand : (o : Option Live) → live_at number channels ≡ o → IsSome o → answers_of o ≡ answer_number (answers_after 0 (given number))
   answers-stand None at live = absurd (let none : false ≡ true = live in cc)
   answers-stand (Some c) at live = answers-at c at
 

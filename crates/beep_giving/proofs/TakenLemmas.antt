@@ -1,5 +1,5 @@
 -- What a part that is taken above zero makes of a peer, for every journal for which it stood.
-use Rattle.std.proofs.Common.{◌≡◌, ℕ, ◌<◌, ◌==◌, false, if◌then◌else◌, List, [], ◌∷◌, ◌++◌, length, Option, Some, option_map, take, refl, sym, ap, ◌∙◌, subst}
+use Rattle.std.proofs.Common.{◌≡◌, ℕ, ◌<◌, ◌==◌, false, if◌then◌else◌, List, [], ◌∷◌, ◌++◌, length, Option, Some, option_map, take, inl, refl, sym, ap, ◌∙◌, subst}
 use Rattle.std.proofs.Math.Logic.{∥∥₁_elim, ∥∥₁_map}
 use denote.Struct.Props.{props}
 use Rattle.beep_history.specs.Journal.{Item}
@@ -79,7 +79,7 @@ module _ (number : ℕ) (old : Peer) (lives : List Live) (above : 0 < number) (p
         record {
           given_now = l.given_now;
           gives = gives-first size journal given (with_marks number (taken number ++ part_marks part after) taken) given lives old.management old.management.answers
-              (record old { lives = last; management = now }) refl refl l lets kept;
+              (record old { lives = last; management = now }) refl (inl refl) l lets kept;
           same = l.same;
           stands = record { hears = s.hears; holds = l.holds; released = s.released };
         }

@@ -6,7 +6,7 @@ ghost use Rattle.beep_history.specs.Journal.{Item};
 ghost use Rattle.beep_history.specs.Marks.{marks, mark_modulo_2_64};
 ghost use Rattle.beep_exchange.specs.Given.{ends_reply};
 ghost use Rattle.beep_journal.specs.Life.{history};
-ghost use Rattle.beep_channel.specs.Stands.{ends_of, answers_after, answers_told};
+ghost use Rattle.beep_channel.specs.Stands.{ends_of, answers_after, answer_number};
 ghost use Rattle.beep_lives.specs.Lives.{live_at};
 ghost use Rattle.beep_standing.specs.Standing.{Marks};
 ghost use Rattle.beep_peer.specs.Peering.{IsPeer};
@@ -37,7 +37,7 @@ pub fn begun_answers(peer: &Peer, number: u32) -> Option<u32>
     ensures stands { IsSome (live_at number peer.now.lives)
         → (size : ℕ) (fed rest : List ℕ) (journal : List Item) (given taken : Marks)
         → IsPeer size fed rest journal given taken peer.now
-        → result ≡ answers_told (answers_after 0 (given number)) }
+        → result ≡ answer_number (answers_after 0 (given number)) }
 {
     match peer.lives.channel(number) {
         Some(channel) => channel.begun_answers(),

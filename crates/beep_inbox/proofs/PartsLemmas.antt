@@ -4,7 +4,7 @@ use Rattle.std.proofs.lemmas.Bool.Decides.{nat_tests}
 use Rattle.std.proofs.lemmas.List.{append-nil, take_all, take-take, drop-take, drop-drop, take-append-le, drop-append-le, drop_all, length-take-le, length-drop, nil_from_length}
 use Rattle.std.proofs.Math.Seq.{drop-append_seam}
 use Rattle.beep_inbox.specs.declared.part.Part.{Part}
-use Rattle.beep_inbox.specs.Runs.{Run, octets_of, has_mark, AllMarked, put_behind, put_run, left_runs}
+use Rattle.beep_inbox.specs.Runs.{Run, octets_of, has_mark, AllMarked, put_after, put_run, left_runs}
 use Rattle.beep_inbox.proofs.RunsLemmas.{put-marked}
 use Rattle.beep_inbox.specs.Untaken.{IsTaken, run_of, runs_of, lengths, goes_on, joined_part, put_part, beginning, remainder, first_part, left_parts}
 
@@ -73,7 +73,7 @@ put-last (first ∷ next ∷ parts) last part =
 pub put-runs : (parts : List Part) (part : Part) (octets more : List ℕ)
     → lengths parts ≡ length octets → part.len ≡ length more
     → runs_of (put_part parts part) (octets ++ more)
-    ≡ put_behind (runs_of parts octets) (run_of part more)
+    ≡ put_after (runs_of parts octets) (run_of part more)
 put-runs [] part octets more e f =
     rw (nil_from_length octets (sym e))
     (ap (λ (os : List ℕ). run_of part os ∷ []) (take_all part.len more (omega (arith, f))))
@@ -117,7 +117,7 @@ put-runs (first ∷ next ∷ parts) part octets more e f =
     let left : length (drop first.len octets) ≡ length octets - first.len =
     length-drop first.len octets in
     let rest : runs_of (put_part (next ∷ parts) part) (drop first.len octets ++ more)
-    ≡ put_behind (runs_of (next ∷ parts) (drop first.len octets)) (run_of part more) =
+    ≡ put_after (runs_of (next ∷ parts) (drop first.len octets)) (run_of part more) =
     put-runs (next ∷ parts) part (drop first.len octets) more (omega (arith, e, left)) f in
     rw (take-append-le first.len octets more within, drop-append-le first.len octets more within)
     (ap (λ (runs : List Run). run_of first (take first.len octets) ∷ runs) rest)
@@ -225,8 +225,8 @@ puts parts octets part more empty e all f is-empty either = record {
     some : has_mark (run_of part more) ≡ true
     some = marked-some empty more part.ended is-empty either
 
-    choose : (b : Bool) → b ≡ true → put_behind (runs_of parts octets) (run_of part more)
-        ≡ (if b then put_behind (runs_of parts octets) (run_of part more) else runs_of parts octets)
+    choose : (b : Bool) → b ≡ true → put_after (runs_of parts octets) (run_of part more)
+        ≡ (if b then put_after (runs_of parts octets) (run_of part more) else runs_of parts octets)
     choose b g = rw g refl
 
     runs : runs_of (put_part parts part) (octets ++ more)

@@ -8,7 +8,7 @@ use Rattle.beep_frame.specs.declared.tag.Tag.{Tag}
 use Rattle.beep_frame.specs.Frame.{same_kind}
 use Rattle.beep_history.specs.Marks.{Mark, octet, end}
 use Rattle.beep_history.specs.Messages.{same_tag}
-use Rattle.beep_inbox.specs.Runs.{Run, marks_with, run_marks, marks_of, octets_of, has_mark, AllMarked, joins, joined, put_behind, put_run, left_runs}
+use Rattle.beep_inbox.specs.Runs.{Run, marks_with, run_marks, marks_of, octets_of, has_mark, AllMarked, joins, joined, put_after, put_run, left_runs}
 
 -- ---- two tags that are one
 
@@ -83,7 +83,7 @@ some-joined xs ys ended e = let len = length-append xs ys in grind (arith, nat_t
 -- ---- a run after the others
 
 marks-behind : (runs : List Run) (run : Run)
-    → marks_of (put_behind runs run) ≡ marks_of runs ++ run_marks run
+    → marks_of (put_after runs run) ≡ marks_of runs ++ run_marks run
 marks-behind [] run = append-nil (run_marks run)
 marks-behind (last ∷ []) run = by (joins run last) refl
   where
@@ -102,7 +102,7 @@ marks-behind (first ∷ next ∷ runs) run =
     ∙ sym (append_assoc (run_marks first) (marks_of (next ∷ runs)) (run_marks run))
 
 octets-behind : (runs : List Run) (run : Run)
-    → octets_of (put_behind runs run) ≡ octets_of runs + length run.octets
+    → octets_of (put_after runs run) ≡ octets_of runs + length run.octets
 octets-behind [] run = omega arith
 octets-behind (last ∷ []) run = by (joins run last)
   where
@@ -112,13 +112,13 @@ octets-behind (last ∷ []) run = by (joins run last)
     by true = omega (arith, length-append last.octets run.octets)
     by false = omega arith
 octets-behind (first ∷ next ∷ runs) run =
-    let rest : octets_of (put_behind (next ∷ runs) run)
+    let rest : octets_of (put_after (next ∷ runs) run)
     ≡ octets_of (next ∷ runs) + length run.octets =
     octets-behind (next ∷ runs) run in
     omega (arith, rest)
 
 marked-behind : (runs : List Run) (run : Run) → AllMarked runs → has_mark run ≡ true
-    → AllMarked (put_behind runs run)
+    → AllMarked (put_after runs run)
 marked-behind [] run all e = (e, tt)
 marked-behind (last ∷ []) run all e = by (joins run last)
   where
@@ -134,7 +134,7 @@ pub put-marks : (runs : List Run) (run : Run)
 put-marks runs run = by (has_mark run) refl
   where
     by : (b : Bool) → has_mark run ≡ b
-        → marks_of (if b then put_behind runs run else runs) ≡ marks_of runs ++ run_marks run
+        → marks_of (if b then put_after runs run else runs) ≡ marks_of runs ++ run_marks run
     by true e = marks-behind runs run
     by false e =
         sym (append-nil (marks_of runs))
@@ -146,14 +146,14 @@ pub put-octets : (runs : List Run) (run : Run)
 put-octets runs run = by (has_mark run) refl
   where
     by : (b : Bool) → has_mark run ≡ b
-        → octets_of (if b then put_behind runs run else runs) ≡ octets_of runs + length run.octets
+        → octets_of (if b then put_after runs run else runs) ≡ octets_of runs + length run.octets
     by true e = octets-behind runs run
     by false e = omega (arith, nil-octets run.octets run.ended e)
 
 pub put-marked : (runs : List Run) (run : Run) → AllMarked runs → AllMarked (put_run runs run)
 put-marked runs run all = by (has_mark run) refl
   where
-    by : (b : Bool) → has_mark run ≡ b → AllMarked (if b then put_behind runs run else runs)
+    by : (b : Bool) → has_mark run ≡ b → AllMarked (if b then put_after runs run else runs)
     by true e = marked-behind runs run all e
     by false e = all
 

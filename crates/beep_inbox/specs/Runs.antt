@@ -51,15 +51,15 @@ joined before run =
     record { tag = before.tag; octets = before.octets ++ run.octets; ended = run.ended }
 
 -- a run after the last one, as one with it where it goes on with its message
-abbrev pub put_behind : List Run → Run → List Run
-put_behind [] run = run ∷ []
-put_behind (last ∷ []) run =
+abbrev pub put_after : List Run → Run → List Run
+put_after [] run = run ∷ []
+put_after (last ∷ []) run =
     if joins run last then joined last run ∷ [] else last ∷ run ∷ []
-put_behind (first ∷ next ∷ runs) run = first ∷ put_behind (next ∷ runs) run
+put_after (first ∷ next ∷ runs) run = first ∷ put_after (next ∷ runs) run
 
 -- a run after the others, where it has a mark
 abbrev pub put_run : List Run → Run → List Run
-put_run runs run = if has_mark run then put_behind runs run else runs
+put_run runs run = if has_mark run then put_after runs run else runs
 
 -- ---- taking
 

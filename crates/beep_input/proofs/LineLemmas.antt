@@ -31,7 +31,7 @@ first-piece (octet ∷ octets) = by_test (octet == 10) refl (first-piece octets)
         put_first octet octets (take (lf_len octets) octets) (others_of octets) false e p
         ∙ ap (λ (b : Bool). take (cond b 0 (suc (lf_len octets))) (octet ∷ octets) ∷ cond b (pieces_at_lf octets) (others_of octets)) (sym e)
 
--- what is behind the first LF has the other pieces; where there is none, nothing is there, and it
+-- what comes after the first LF has the other pieces; where there is none, nothing is there, and it
 -- counts as an empty piece
 module _ {A : Type 0} (F : List (List ℕ) → A) (none : F ([] ∷ []) ≡ F []) where
   pub others-behind : (octets : List ℕ) → F (others_of octets) ≡ F (pieces_at_lf (drop (suc (lf_len octets)) octets))

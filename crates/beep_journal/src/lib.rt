@@ -7,8 +7,6 @@
 #![tactic(auto)]
 
 mod event;
-#[cfg(test)]
-mod examples;
 mod form;
 mod item;
 pub mod laws;

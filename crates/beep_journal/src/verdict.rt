@@ -194,6 +194,3 @@ pub fn broken_content(
         Ok(Some(Rule::ZeroReply))
     }
 }
-
-#[cfg(test)]
-mod tests;

@@ -116,6 +116,3 @@ impl Judge {
         self.session.channels.released
     }
 }
-
-#[cfg(test)]
-mod tests;

@@ -61,6 +61,3 @@ pub fn is_lawful(
         }
     }
 }
-
-#[cfg(test)]
-mod tests;

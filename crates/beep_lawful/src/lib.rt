@@ -14,8 +14,6 @@ pub mod laws;
 mod limits;
 mod outgoing;
 mod seqs;
-#[cfg(test)]
-mod story;
 mod terms;
 mod tuning;
 mod windows;

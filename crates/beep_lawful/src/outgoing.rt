@@ -56,6 +56,3 @@ pub fn due(
         window: left as u32,
     }))
 }
-
-#[cfg(test)]
-mod tests;

@@ -14,7 +14,7 @@ use crate::breach::Breach;
 use crate::heads::{breaks_after_end, is_apart};
 use crate::terms::Terms;
 use crate::tuning::{is_tuning, tunes_next};
-use crate::windows::told_edge;
+use crate::windows::advertised_edge;
 use beep_decide::is_greeted;
 use beep_frame::Seq;
 use beep_history::{JournalItem, Side, octets_passed};
@@ -28,7 +28,7 @@ pub fn opens_half(size: u32, taken: u128, past: &[JournalItem]) -> bool
     requires within { taken ≤ 2 ^ 100 }
     ensures { result ≡ is_seq_due size taken (greatest_edge Side.Received (history_of past.now)) }
 {
-    let gain = (taken + u128::from(size)).saturating_sub(told_edge(past));
+    let gain = (taken + u128::from(size)).saturating_sub(advertised_edge(past));
     u128::from(size) <= 2 * gain
 }
 
@@ -69,7 +69,7 @@ fn is_right_seq(
     let says = seq.ackno == wire_number(received)
         && u128::from(terms.window) <= edge
         && seq.window <= terms.window
-        && told_edge(past) <= edge;
+        && advertised_edge(past) <= edge;
     Ok(says && is_called_for(alloc, terms, tuning, journal, past, seq)?)
 }
 

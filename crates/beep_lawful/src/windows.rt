@@ -11,24 +11,24 @@ use beep_history::{JournalItem, Side, octets_acked, octets_passed};
 use beep_seq::INITIAL_WINDOW;
 
 /// The greatest count of octets up to which the peer was ever allowed to send.
-pub fn told_edge(past: &[JournalItem]) -> u128
+pub fn advertised_edge(past: &[JournalItem]) -> u128
     ensures value { result ≡ greatest_edge Side.Received (history_of past.now) }
     ensures within { result ≤ length past.now * 2 ^ 32 + 2 ^ 32 }
 {
     match past {
         [] => u128::from(INITIAL_WINDOW),
-        [JournalItem::Told(Side::Sent, seq), before @ ..] => told_edge(before).max(
+        [JournalItem::Told(Side::Sent, seq), before @ ..] => advertised_edge(before).max(
             octets_passed(Side::Received, before) + u128::from(seq.window),
         ),
         [
             JournalItem::Began(..) | JournalItem::Passed(..) | JournalItem::Told(Side::Received, _),
             before @ ..,
-        ] => told_edge(before),
+        ] => advertised_edge(before),
     }
 }
 
 /// The window of the last SEQ of the peer.
-fn window_told(past: &[JournalItem]) -> u32
+fn window_advertised(past: &[JournalItem]) -> u32
     ensures { result ≡ last_window Side.Sent (history_of past.now) }
 {
     match past {
@@ -37,7 +37,7 @@ fn window_told(past: &[JournalItem]) -> u32
         [
             JournalItem::Began(..) | JournalItem::Passed(..) | JournalItem::Told(Side::Sent, _),
             before @ ..,
-        ] => window_told(before),
+        ] => window_advertised(before),
     }
 }
 
@@ -45,6 +45,6 @@ fn window_told(past: &[JournalItem]) -> u32
 pub fn octets_open(past: &[JournalItem]) -> u128
     ensures { result ≡ open_now Side.Sent (history_of past.now) }
 {
-    let end = octets_acked(Side::Sent, past) + u128::from(window_told(past));
+    let end = octets_acked(Side::Sent, past) + u128::from(window_advertised(past));
     end.saturating_sub(octets_passed(Side::Sent, past))
 }

@@ -6,7 +6,7 @@ use Rattle.beep_wires.specs.Transfer.{AppendsPrefix}
 use Rattle.beep_link.specs.Causes.{WithText}
 use Rattle.beep_lines.specs.Lines.{GathersAll, GathersSome}
 
--- nothing was written, and the lines are gathered behind the others
+-- nothing was written, and the lines are gathered after the others
 pub gathers : (now : Option (List ℕ)) (old lines new : List ℕ) → new ≡ old ++ lines → GathersAll now now old lines new
 gathers now old lines new e = ([], Appends-nil now, sym e)
 
@@ -46,7 +46,7 @@ gathers-stopped a b c old first mid second new p q = (
   ),
 )
 
--- what comes behind a beginning leaves it one
+-- what comes after a beginning leaves it one
 pub some-longer : (a b : Option (List ℕ)) (old lines more new : List ℕ) → GathersSome a b old lines new → GathersSome a b old (lines ++ more) new
 some-longer a b old lines more new p = (
   p.0,

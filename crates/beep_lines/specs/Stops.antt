@@ -1,7 +1,7 @@
 -- Which stops writing lines may give.
 use Rattle.beep_link.specs.declared.ended.Stop.{Stop}
 
--- it is for want of memory, or a write of the output failed
+-- it is because memory ran out, or a write of the output failed
 abbrev pub IsOfOutput : Stop → Type 0
 IsOfOutput Stop.Released = ⊥
 IsOfOutput (Stop.Broken rule place) = ⊥

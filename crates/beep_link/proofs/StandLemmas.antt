@@ -4,7 +4,7 @@ use lib.Seq.{take-append_seam}
 use Rattle.beep_wires.specs.Log.{Entry, read, wrote, quiet, ended, Logs}
 use Rattle.beep_wires.specs.Writing.{AreWrites}
 use Rattle.std.proofs.KnownBytes.{Appends-nil, Appends-trans}
-use Rattle.beep_link.specs.Causes.{IsOfReads, IsSpent, WhereTold, WithText}
+use Rattle.beep_link.specs.Causes.{GrewByWrites, IsOfReads, IsSpent, ReadsWhere, WhereTold, WithText}
 use Rattle.beep_link.specs.declared.ended.Ended.{Ended}
 use Rattle.beep_link.specs.declared.left.Reads.{Reads}
 use Rattle.beep_link.specs.declared.left.Left.{Left}
@@ -92,3 +92,57 @@ spent-is (Ended.Spent count) reads left s = tt
 -- the front of two lists is the first
 pub take-front : (front rest : List ℕ) (n : ℕ) → length front ≡ n → take n (front ++ rest) ≡ front
 take-front front rest n is = ap (λ (k : ℕ). take k (front ++ rest)) (sym is) ∙ take-append_seam front rest
+
+-- ---- where was read
+
+-- no entry is more
+pub grew-none : (log : Option (List Entry)) → GrewByWrites log log
+grew-none None = ([], [], tt, λ i. [])
+grew-none (Some log) = ([], [], λ i. log, λ i. [])
+
+more-writes : (more late : List Entry) (octets others : List ℕ) → AreWrites more octets → AreWrites late others → AreWrites (late ++ more) (octets ++ others)
+more-writes more [] octets others h e = subst (AreWrites more) (sym (ap (λ (x : List ℕ). octets ++ x) e ∙ append-nil octets)) h
+more-writes more (wrote last ∷ late) octets others h k =
+    (octets ++ k.0, more-writes more late octets k.0 h k.1, ap (λ (x : List ℕ). octets ++ x) k.2 ∙ sym (append_assoc octets k.0 last))
+more-writes more (read last ∷ late) octets others h k = absurd k
+more-writes more (quiet ∷ late) octets others h k = absurd k
+more-writes more (ended ∷ late) octets others h k = absurd k
+
+logs-more : (old mid new : Option (List Entry)) (more late : List Entry) → Logs old mid more → Logs mid new late → Logs old new (late ++ more)
+logs-more None None None more late p q = tt
+logs-more None None (Some new) more late p q = q
+logs-more None (Some mid) new more late p q = absurd p
+logs-more (Some old) None new more late p q = absurd p
+logs-more (Some old) (Some mid) None more late p q = q
+logs-more (Some old) (Some mid) (Some new) more late p q = q ∙ ap (λ (x : List Entry). late ++ x) p ∙ sym (append_assoc late more old)
+
+-- and then these were written
+pub grew-more : (old mid new : Option (List Entry)) (late : List Entry) (octets : List ℕ) → GrewByWrites old mid → Logs mid new late → AreWrites late octets → GrewByWrites old new
+grew-more old mid new late octets (more, others, logs, writes) next h = (late ++ more, others ++ octets, logs-more old mid new more late logs next, more-writes more late others octets writes h)
+
+reads-after : (P : List Entry → Type 0) (more log : List Entry) (octets : List ℕ) → AreWrites more octets → ReadsWhere P log → ReadsWhere P (more ++ log)
+reads-after P [] log octets h r = r
+reads-after P (wrote last ∷ more) log octets h r = reads-after P more log h.0 h.1 r
+reads-after P (read last ∷ more) log octets h r = absurd h
+reads-after P (quiet ∷ more) log octets h r = absurd h
+reads-after P (ended ∷ more) log octets h r = absurd h
+
+-- writes are no reads
+pub reads-grown : (P : List Entry → Type 0) (old new : Option (List Entry)) → GrewByWrites old new → WhereTold (ReadsWhere P) old → WhereTold (ReadsWhere P) new
+reads-grown P None None g r = tt
+reads-grown P None (Some new) (more, octets, logs, writes) r = absurd logs
+reads-grown P (Some old) None (more, octets, logs, writes) r = absurd logs
+reads-grown P (Some old) (Some new) (more, octets, logs, writes) r = subst (ReadsWhere P) (sym logs) (reads-after P more old octets writes r)
+
+-- what holds of a log and what holds of it hold together
+pub told-pair : (P Q : List Entry → Type 0) (log : Option (List Entry)) → WhereTold P log → WhereTold Q log → WhereTold (λ l. P l × Q l) log
+told-pair P Q None p q = tt
+told-pair P Q (Some log) p q = (p, q)
+
+-- what holds wherever was read holds there of the other
+pub reads-map : (P Q : List Entry → Type 0) → ((log : List Entry) → P log → Q log) → (log : List Entry) → ReadsWhere P log → ReadsWhere Q log
+reads-map P Q f [] r = tt
+reads-map P Q f (read octets ∷ log) r = (f log r.0, reads-map P Q f log r.1)
+reads-map P Q f (wrote octets ∷ log) r = reads-map P Q f log r
+reads-map P Q f (quiet ∷ log) r = (f log r.0, reads-map P Q f log r.1)
+reads-map P Q f (ended ∷ log) r = (f log r.0, reads-map P Q f log r.1)

@@ -3,7 +3,8 @@
 use Rattle.std.specs.Prelude.{◌≡◌, ◌⊎◌, ℕ, ◌+◌, ◌-◌, ◌*◌, ◌≤◌, ◌<◌, true, false, Option, Some, None, List, [], ◌∷◌, length}
 use Rattle.std.specs.Borrow.{GName}
 use Rattle.std.specs.Io.KnownBytes.{Appends}
-use Rattle.beep_wires.specs.Log.{Entry, read, wrote, quiet, ended}
+use Rattle.beep_wires.specs.Log.{Entry, read, wrote, quiet, ended, Logs}
+use Rattle.beep_wires.specs.Writing.{AreWrites}
 use Rattle.beep_wires.specs.Links.{Link, Counts, Asked, SameBeside}
 use Rattle.beep_wires.specs.declared.links.Got.{Got}
 use Rattle.beep_wires.specs.Counts.{Rose}
@@ -76,7 +77,7 @@ IsCaused (Ended.Idle count) reads old new = (count ≡ reads.idle) × IsQuiet re
 IsCaused (Ended.Spent count) reads old new =
     (count ≡ reads.octets) × HasRead reads.octets new.link.log
 
--- a fault of the link, or want of memory: the turns end so at any place
+-- a fault of the link, or lack of memory: the turns end so at any place
 abbrev pub IsOfFaults : Ended → Type 0
 IsOfFaults Ended.Released = ⊥
 IsOfFaults (Ended.Broken rule place) = ⊥
@@ -110,6 +111,20 @@ IsWritten cause old new = cause ≡ Ended.WriteFault → Rose old new
 abbrev pub WhereTold : (List Entry → Type 0) → Option (List Entry) → Type 0
 WhereTold P None = Unit {0}
 WhereTold P (Some log) = P log
+
+-- wherever the log shows a read, a quiet one or the end of the link among them, this holds of the
+-- log before it
+abbrev pub ReadsWhere : (List Entry → Type 0) → List Entry → Type 0
+ReadsWhere P [] = Unit {0}
+ReadsWhere P (read octets ∷ log) = P log × ReadsWhere P log
+ReadsWhere P (wrote octets ∷ log) = ReadsWhere P log
+ReadsWhere P (quiet ∷ log) = P log × ReadsWhere P log
+ReadsWhere P (ended ∷ log) = P log × ReadsWhere P log
+
+-- the log of a link grew by writes alone, where it is known
+abbrev pub GrewByWrites : Option (List Entry) → Option (List Entry) → Type 0
+GrewByWrites old new = (more : List Entry) × (octets : List ℕ) × Logs old new more
+    × AreWrites more octets
 
 -- from what an output held before to what it holds now it grew by some octets, of which this holds;
 -- an output that doesn't tell what it holds may have grown by any

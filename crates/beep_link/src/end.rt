@@ -81,7 +81,7 @@ pub trait End {
     ghost closes: { (end : Self) (log : List Entry) (text : List ℕ)
         → Self.stands end log [] text → Self.stands end (over ∷ log) [] text };
 
-    /// It may be stopped at any place for want of memory and by a fault of the link.
+    /// It may be stopped at any place because memory ran out and by a fault of the link.
     ghost stops: { (end : Self) (log : List Entry) (octets text : List ℕ) (ended : EndedValue)
         → IsOfFaults ended → Self.stands end log octets text
         → Self.tells (Self.terms end) ended log text };

@@ -2,7 +2,7 @@
 ghost use Rattle.std.specs.Prelude.{◌≡◌, ◌⊎◌, [], ℕ, List, Option, true, IfErr, OnOk};
 ghost use Rattle.beep_wires.specs.Counts.{Rose};
 ghost use Rattle.beep_wires.specs.Log.{Entry};
-ghost use Rattle.beep_link.specs.Causes.{Keeps, SameReads, WhereTold, WithText};
+ghost use Rattle.beep_link.specs.Causes.{GrewByWrites, Keeps, SameReads, WhereTold, WithText};
 ghost use Rattle.beep_link.specs.declared.ended.Ended.{Ended as EndedValue};
 
 use crate::buffers::BUFFER;
@@ -54,6 +54,7 @@ pub(crate) fn say<E: End, W: Wires>(
           asked = W.asked wires.new;
           lent = W.lent wires.new;
         }) }
+    ensures writes { GrewByWrites (W.state wires.old link).log (W.state wires.new link).log }
     ensures same_counts { W.counts wires.new ≡ W.counts wires.old }
     ensures same_reads { SameReads (W.state wires.old link) (W.state wires.new link) }
 {

@@ -1,8 +1,9 @@
 //! The turns over a link.
 ghost use Rattle.std.specs.Prelude.{◌≡◌, ◌≤◌, ◌<◌, ◌+◌, ◌*◌, ℕ, [], List, Option, true, false, OnOk, IfErr, vec_len};
 ghost use Rattle.beep_wires.specs.Links.{Link};
-ghost use Rattle.beep_link.specs.Causes.{CountsQuiet, IsBounded, IsCaused, IsUnused, IsWritten, Keeps, reads_left, TellsLeft, WhereTold, WithText};
+ghost use Rattle.beep_link.specs.Causes.{CountsQuiet, IsBounded, IsCaused, IsUnused, IsWritten, Keeps, reads_left, ReadsWhere, TellsLeft, WhereTold, WithText};
 ghost use Rattle.beep_link.specs.declared.buffers.TheConstants.{BUFFER};
+ghost use Rattle.beep_link.specs.declared.ended.Ended.{Ended as EndedValue};
 
 use crate::buffers::{BUFFER, Buffers};
 use crate::end::End;
@@ -31,6 +32,10 @@ pub fn run_turns<E: End, W: Wires, O: Sink>(
     ensures told { E.stands end.old [] [] [] → WhereTold (λ log.
         WithText (O.state output.old).written (O.state output.new).written
         (E.tells (E.terms end.old) result log)) (W.state wires.new link).log }
+
+    // Wherever it read, its session wasn't over: the settings may have ended it there.
+    ensures waits { E.stands end.old [] [] [] → WhereTold (ReadsWhere (λ log. (text : List ℕ)
+        × E.tells (E.terms end.old) (EndedValue.Idle 0) log text)) (W.state wires.new link).log }
 
     // What stays, and how often is read.
     ensures keeps { Keeps link
@@ -87,6 +92,12 @@ fn turn<E: End, W: Wires, O: Sink>(
         → IfErr result (λ ended. WhereTold (λ log. WithText before
         (O.state output.new).written (E.tells (E.terms end.old) ended log))
         (W.state wires.new link).log) }
+    ensures waits { (before : Option (List ℕ)) → WhereTold (λ log. WithText before
+        (O.state output.old).written (E.stands end.old log [])) (W.state wires.old link).log
+        → WhereTold (ReadsWhere (λ log. (text : List ℕ)
+        × E.tells (E.terms end.old) (EndedValue.Idle 0) log text)) (W.state wires.old link).log
+        → WhereTold (ReadsWhere (λ log. (text : List ℕ)
+        × E.tells (E.terms end.old) (EndedValue.Idle 0) log text)) (W.state wires.new link).log }
     ensures going { OnOk result ((W.state wires.new link).has_ended ≡ false) }
     ensures falls { OnOk result (reads_left reads left.new < reads_left reads left.old) }
     ensures told { OnOk result (TellsLeft reads left.new (W.state wires.new link).log) }

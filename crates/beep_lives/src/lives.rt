@@ -441,6 +441,3 @@ impl Lives {
         let _ended = self.channels.remove(i);
     }
 }
-
-#[cfg(test)]
-mod tests;

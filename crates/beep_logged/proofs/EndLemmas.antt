@@ -1,4 +1,4 @@
--- What is read on behind a release, behind a broken rule, or where a session has stopped; and a
+-- What is read on after a release, after a broken rule, or where a session has stopped; and a
 -- beginning of what is written.
 use Rattle.std.proofs.Common.{◌≡◌, ◌⊎◌, inl, inr, ℕ, Bool, true, false, not, ◌&&◌, ◌==◌, List, [], ◌∷◌, ◌++◌, length, None, Some, Option, refl, sym, ap, ◌∙◌, subst}
 use Rattle.std.specs.Option.{is_none}

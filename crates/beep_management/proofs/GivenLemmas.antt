@@ -12,7 +12,7 @@ use Rattle.beep_outbox.specs.Queue.{Message, message_marks}
 use Rattle.beep_journal.specs.Zero.{zero_history}
 use Rattle.beep_journal.specs.Laws.{contents}
 use Rattle.beep_channel.specs.Held.{Live}
-use Rattle.beep_channel.specs.Stands.{Stands, IsCounted, ends_of, answers_after, answers_told}
+use Rattle.beep_channel.specs.Stands.{Stands, IsCounted, ends_of, answers_after, answer_number}
 use Rattle.beep_channel.proofs.CountedLemmas.{ends-append, ends-part}
 use Rattle.beep_standing.specs.Standing.{Marks, with_marks}
 use Rattle.beep_spoken.specs.Spoken.{Spoken, text_of, kinds_of}
@@ -170,7 +170,7 @@ pub owes-answers : (size : ℕ) (journal : List Item) (given taken : Marks) (m :
     → taken 0 ≡ map mark_modulo_2_64 (marks Side.Received (zero_history journal))
     → (channel.held.life.given.owed ≡ length m.answers) × (channel.held.life.given.answers ≡ None)
 owes-answers size journal given taken m channel spoken prepared d s number all =
-    (omega (arith, d.owed, counted.owed, came), counted.answers ∙ ap answers_told (none-after (given 0) spoken d.spoken_is.kinds d.plain))
+    (omega (arith, d.owed, counted.owed, came), counted.answers ∙ ap answer_number (none-after (given 0) spoken d.spoken_is.kinds d.plain))
   where
     counted : IsCounted true channel.held.life.given (given 0) (taken 0)
     counted = subst (λ (n : ℕ). IsCounted (n == 0) channel.held.life.given (given 0) (taken 0)) number s.counted

@@ -147,7 +147,7 @@ impl Management {
 
     /// How many channels are starting.
     pub fn count_starting(&self) -> usize
-        requires few { length self.now.starting + length self.now.granted < 4294967296 }
+        requires few { length self.now.starting + length self.now.granted < 2 ^ 32 }
         ensures { result ≡ length self.now.starting + length self.now.granted }
     {
         self.starting.len() + self.granted.len()

@@ -68,20 +68,23 @@ number_back n small =
 code_digit : (d : ℕ) → d < 10 → (is_digit (d + 48) ≡ true) × (digit_of (d + 48) ≡ d)
 code_digit d small = (grind (arith, nat_tests), grind (arith, nat_tests))
 
+-- a code is written in digits
+pub code-digits : (n : ℕ) → n ≤ 999 → list_all is_digit (code_digits n) ≡ true
+code-digits n small =
+    let hundreds = code_digit (n / 100) (omega arith) in
+    let tens = code_digit (n / 10 % 10) (omega arith) in
+    let ones = code_digit (n % 10) (omega arith) in
+    both (is_digit (n / 100 + 48)) _ hundreds.0 (both (is_digit (n / 10 % 10 + 48)) _ tens.0 (both (is_digit (n % 10 + 48)) true ones.0 refl))
+
 pub code_back : (n : ℕ) → n ≤ 999 → code_said (Some (code_digits n)) ≡ Some n
 code_back n small =
     let hundreds = code_digit (n / 100) (omega arith) in
     let tens = code_digit (n / 10 % 10) (omega arith) in
     let ones = code_digit (n % 10) (omega arith) in
-    let are = both (is_digit (n / 100 + 48)) _ hundreds.0 (both (is_digit (n / 10 % 10 + 48)) _ tens.0 (both (is_digit (n % 10 + 48)) true ones.0 refl)) in
-    ap (λ b. cond b (Some (number_of 10 (code_digits n))) None) are ∙ ap (λ m. Some m) (omega (arith, hundreds.1, tens.1, ones.1))
+    ap (λ b. cond b (Some (number_of 10 (code_digits n))) None) (code-digits n small) ∙ ap (λ m. Some m) (omega (arith, hundreds.1, tens.1, ones.1))
 
 pub decimal-allowed : (n : ℕ) → n < 2 ^ 32 → list_all is_allowed (decimal n) ≡ true
 decimal-allowed n small = digits-allowed (decimal n) (decimal_spells n (omega arith)).0
 
 pub code-allowed : (n : ℕ) → n ≤ 999 → list_all is_allowed (code_digits n) ≡ true
-code-allowed n small =
-    let hundreds = code_digit (n / 100) (omega arith) in
-    let tens = code_digit (n / 10 % 10) (omega arith) in
-    let ones = code_digit (n % 10) (omega arith) in
-    digits-allowed (code_digits n) (both (is_digit (n / 100 + 48)) _ hundreds.0 (both (is_digit (n / 10 % 10 + 48)) _ tens.0 (both (is_digit (n % 10 + 48)) true ones.0 refl)))
+code-allowed n small = digits-allowed (code_digits n) (code-digits n small)

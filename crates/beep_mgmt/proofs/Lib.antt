@@ -1,5 +1,6 @@
 mod BackLemmas
 mod Base64Lemmas
+mod CanonicalLemmas
 mod FormLemmas
 mod MessageLemmas
 mod NumberLemmas

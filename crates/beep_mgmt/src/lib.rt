@@ -6,6 +6,7 @@
 #![tactic(auto)]
 
 mod build;
+mod canonical;
 mod form;
 pub mod laws;
 mod limits;

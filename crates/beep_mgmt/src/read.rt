@@ -6,6 +6,7 @@ ghost use Rattle.beep_mgmt.specs.Message.{Says, RefusesMessage, message_said};
 ghost use Rattle.beep_mgmt.specs.Parts.{error_of};
 ghost use Rattle.beep_mgmt.specs.Written.{is_writable};
 
+use crate::canonical::canonical_said;
 use crate::form::form_said;
 use crate::laws::{a_message_that_says_a_value_is_read, the_value_said_is_that_of_the_message};
 use crate::mgmt::Mgmt;
@@ -34,7 +35,8 @@ pub enum MgmtError {
     NoMemory,
 }
 
-/// The value that a payload says. It goes over the octets a few times.
+/// The value that a payload says. It goes over the octets a few times, and once where they are the
+/// text that is written of one of the commonest values.
 pub fn read_mgmt(alloc: Global, payload: &[u8]) -> Result<Mgmt, MgmtError>
     ensures value { IfOk result (λ m. Says payload.now (form_of m)) }
     ensures writable { IfOk result (λ m. IsTrue (is_writable (form_of m))) }
@@ -59,6 +61,19 @@ fn read_value(alloc: Global, payload: &[u8]) -> Result<Mgmt, MgmtError>
     if payload.len() > MAX_TEXT {
         return Err(MgmtError::TooLong);
     }
+    match canonical_said(alloc, payload) {
+        Ok(Some(mgmt)) => Ok(mgmt),
+        Ok(None) => read_tree(alloc, payload),
+        Err(_) => Err(MgmtError::NoMemory),
+    }
+}
+
+/// The value of the body's element, which is read as a tree.
+fn read_tree(alloc: Global, payload: &[u8]) -> Result<Mgmt, MgmtError>
+    ensures value { IfOk result (λ m. Says payload.now (form_of m)) }
+    ensures writable { IfOk result (λ m. IsTrue (is_writable (form_of m))) }
+    ensures refused { IfErr result (λ error. RefusesMessage payload.now error) }
+{
     let element = match read_element(alloc, body(payload)) {
         Ok(element) => element,
         Err(error) => return Err(error_of(error)),

@@ -106,7 +106,7 @@ impl Octets {
         }
     }
 
-    /// The octets.
+    /// The octets as a slice, without the room after them.
     pub fn as_slice(&self) -> &[u8]
         ensures { result.now ≡ self.now.octets }
     {

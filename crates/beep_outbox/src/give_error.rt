@@ -8,7 +8,7 @@ use beep_octets::NoMemory;
 pub enum GiveError {
     /// With its octets there would be more than the limit. It may find room after a cut.
     Full {
-        /// The unsent octets.
+        /// How many octets are unsent.
         queued: u32,
         /// How many there may be.
         limit: u32,

@@ -11,7 +11,7 @@ use Rattle.beep_two_sessions.specs.End.{End as OneEnd, goes, StandsAs, NothingIs
 use Rattle.beep_two_sessions.specs.Still.{HasNothingLeft, IsStillEnd, IsStill as AreStill}
 use Rattle.beep_two_sessions.proofs.MoveLemmas.{stands-a, stands-b}
 use Rattle.beep_two_sessions.proofs.PrefixLemmas.{apart, taken-at-a, taken-at-b, order-at-a, order-at-b}
-use Rattle.beep_two_sessions.proofs.NoStallLemmas.{still-taken, released-taken}
+use Rattle.beep_two_sessions.proofs.NoStallLemmas.{still-taken, ended-taken, released-taken}
 use Rattle.beep_two_sessions.proofs.BookLemmas.{books}
 use Rattle.beep_two_sessions.proofs.ReplyLemmas.{replies-at-a, replies-at-b}
 use Rattle.beep_two_sessions.proofs.GreetLemmas.{greeted-a, greeted-b}
@@ -99,6 +99,7 @@ kept-so world w still is = record {
   replies_at_a = λ n k above pos. replies-at-a w.moves world.two w.reached n k above pos;
   replies_at_b = λ n k above pos. replies-at-b w.moves world.two w.reached n k above pos;
   if_still = λ e n k above pos. still-taken w.moves world.two w.reached (still-world world w (is.0 e)) n k above pos;
+  if_ended = λ n k above pos e. ended-taken w.moves world.two w.reached n k above pos e;
   if_released = λ e n k above pos. released-taken w.moves world.two w.reached n k above pos e;
   totals = totals-of world w;
 }

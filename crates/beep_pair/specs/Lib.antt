@@ -6,6 +6,7 @@ pub mod Sessions
 pub mod World
 pub mod Steps
 pub mod Drains
-pub mod Draining
 pub mod Report
 pub mod Command
+-- What proofs alone need: the rounds of a drain.
+pub mod Draining

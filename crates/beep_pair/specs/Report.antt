@@ -4,6 +4,8 @@ use Rattle.std.specs.Prelude.{◌≡◌, ◌↔◌, ◌⊎◌, ℕ, ◌<◌, Boo
 use Rattle.std.specs.List.{list_any}
 use Rattle.beep_frame.specs.Frame.{is_msg}
 use Rattle.beep_journal.specs.Life.{is_released}
+use Rattle.beep_journal.specs.Lives.{has_ended}
+use Rattle.beep_journal.specs.Zero.{events}
 use Rattle.beep_channel.specs.Stands.{ends_of}
 use Rattle.beep_lives.specs.Lives.{can_send, owes_seq}
 use Rattle.beep_speaking.specs.declared.emit.Emit.{Emit}
@@ -87,8 +89,8 @@ IsTakenWhole two number count =
 
 -- each session stands lawfully for its journal and found no broken rule; of each life and giver
 -- what was taken is the first part of what was given, in order, and each request has one reply, of
--- those that its giver had wholly taken; all of it was taken where nothing can move, or where an
--- end is released; and the accounts count it
+-- those that its giver had wholly taken; all of it was taken where nothing can move, in a life that
+-- has ended at an end, or where an end is released; and the accounts count it
 pub record IsKept (two : Two) (still : Bool) (both : Sessions) : Type 0 where
   pub unbroken_a : StandsUnbroken two.a
   pub unbroken_b : StandsUnbroken two.b
@@ -106,6 +108,9 @@ pub record IsKept (two : Two) (still : Bool) (both : Sessions) : Type 0 where
       → AreReplies (ends_of is_msg (two.a.took number count)) 0 (two.b.took number count)
   pub if_still : still ≡ true → (number count : ℕ) → 0 < number → 0 < count
       → IsTakenWhole two number count
+  pub if_ended : (number count : ℕ) → 0 < number → 0 < count
+      → (has_ended number count (events two.a.journal) ≡ true)
+      ⊎ (has_ended number count (events two.b.journal) ≡ true) → IsTakenWhole two number count
   pub if_released : (is_released two.a.journal ≡ true) ⊎ (is_released two.b.journal ≡ true)
       → (number count : ℕ) → 0 < number → 0 < count → IsTakenWhole two number count
   pub totals : AreTotals two both.accounts

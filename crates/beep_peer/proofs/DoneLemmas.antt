@@ -16,7 +16,7 @@ use Rattle.beep_hearing.specs.Hears.{Hears, SameAbove}
 use Rattle.beep_management.specs.Managed.{Prepared, Managed}
 use Rattle.beep_peer.specs.declared.peer.Peer.{Peer}
 use Rattle.beep_peer.specs.Peering.{WaitsIn, Carries}
-use Rattle.beep_peer.specs.Calls.{LetsGo, IsDone, Settles, words_of}
+use Rattle.beep_peer.specs.Calls.{AreLeft, LetsGo, IsDone, Settles}
 use Rattle.beep_peer.specs.Waiting.{AreLetGo, KeepsAbove}
 use Rattle.beep_peer.proofs.LetLemmas.{gives-first}
 
@@ -54,7 +54,7 @@ abbrev pub done-settles : (size : ℕ) (fed : List ℕ) (journal : List Item) (g
     → WaitsIn size fed journal given taken head payload peer → (channels : List Live) (m : Managed) (released : Bool)
     → (d : IsDone size journal (passed Side.Received head payload ∷ journal) given taken released channels m)
     → (after : Peer) → Hears fed [] (passed Side.Received head payload ∷ journal) after.ear → after.released ≡ (peer.released || released)
-    → (answers : List Prepared) → words_of m.answers ≡ words_of answers
+    → (answers : List Prepared) → AreLeft channels answers m.answers
     → LetsGo size (passed Side.Received head payload ∷ journal) d.given_now d.taken_now m.answers after.lives after.management
     → AreLetGo channels m after.management → KeepsAbove channels after.lives
     → Settles size fed journal given taken head payload after

@@ -1,11 +1,12 @@
 -- What was let go was given, and what it waited for has come, also after it is given.
-use Rattle.std.proofs.Common.{◌≡◌, ℕ, ◌==◌, Bool, true, false, if◌then◌else◌, List, [], ◌∷◌, ◌++◌, Option, Some, None, refl, sym, ap, ◌∙◌, subst}
+use Rattle.std.proofs.Common.{◌≡◌, ℕ, ◌==◌, Bool, true, false, if◌then◌else◌, List, [], ◌∷◌, ◌++◌, Option, Some, None, inl, inr, ⊎_elim, refl, sym, ap, ◌∙◌, subst}
 use Rattle.std.proofs.lemmas.List.{append_cancel_right}
 use Rattle.std.proofs.lemmas.Bool.{eqb-false, ne_eqb}
 use Rattle.beep_frame.specs.declared.kind.Kind.{Kind}
 use Rattle.beep_mgmt.specs.Form.{Form, greeting, start, chosen, close, okay, fault}
 use Rattle.beep_history.specs.Journal.{Item}
 use Rattle.beep_channel.specs.Held.{Live}
+use Rattle.beep_lives.specs.Lives.{live_at, numbers}
 use Rattle.beep_standing.specs.Standing.{Marks}
 use Rattle.beep_asked.specs.Kept.{Kept, asks_otherwise}
 use Rattle.beep_management.specs.declared.wait.Wait.{Wait}
@@ -13,7 +14,7 @@ use Rattle.beep_management.specs.Managed.{Prepared, Managed, without}
 use Rattle.beep_management.specs.Steps.{cleared_by, answers_if}
 use Rattle.beep_outbox.specs.Queue.{marks_of}
 use Rattle.beep_peer.specs.declared.peer.Peer.{Peer}
-use Rattle.beep_peer.specs.Calls.{LetsGo, GivesFirst, words_of}
+use Rattle.beep_peer.specs.Calls.{AreLeft, GivesFirst, LetsGo, words_of}
 use Rattle.beep_peer.specs.Waiting.{IsDrainedAt, HasCome, AllHaveCome, AreLetGo, KeepsAbove}
 
 -- ---- what they say
@@ -23,22 +24,49 @@ words-without : (number : ℕ) (answers : List Prepared) → words_of (without n
 words-without number [] = refl
 words-without number (answer ∷ answers) = ap (λ (ws : List (Kind × List ℕ)). (answer.kind, answer.octets) ∷ ws) (words-without number answers)
 
-words-if : (names : Bool) (number : ℕ) (answers : List Prepared) → words_of (if names then without number answers else answers) ≡ words_of answers
-words-if true number answers = words-without number answers
-words-if false number answers = refl
+-- answers that are left say what they said
+pub left-words : (channels : List Live) (old new : List Prepared) → AreLeft channels old new → words_of new ≡ words_of old
+left-words channels old new left = ⊎_elim (λ same. ap words_of same) (λ less. ap words_of less.1 ∙ words-without less.0 old) left
 
-words-cleared : (said : Option Form) (names : Bool) (answers : List Prepared) → words_of (cleared_by said names answers) ≡ words_of answers
-words-cleared None names answers = refl
-words-cleared (Some (greeting features localize profiles)) names answers = refl
-words-cleared (Some (start number server profiles)) names answers = refl
-words-cleared (Some (chosen profile)) names answers = refl
-words-cleared (Some (close number code note)) names answers = words-if names number answers
-words-cleared (Some okay) names answers = refl
-words-cleared (Some (fault code note)) names answers = refl
+left-if : (channels : List Live) (names : Bool) (number : ℕ) (answers : List Prepared) → (names ≡ true → live_at number channels ≡ None)
+    → AreLeft channels answers (if names then without number answers else answers)
+left-if channels true number answers gone = inr (number, refl, gone refl)
+left-if channels false number answers gone = inl refl
 
-pub words-answered : (grants : Bool) (one : Kept) (answers : List Prepared) → words_of (answers_if grants one answers) ≡ words_of answers
-words-answered true one answers = words-cleared one.said one.names answers
-words-answered false one answers = refl
+-- after a grant, where the life of a close has no channel now
+left-cleared : (channels : List Live) (said : Option Form) (names : Bool) (answers : List Prepared)
+    → ((number code : ℕ) (note : List ℕ) → said ≡ Some (close number code note) → names ≡ true → live_at number channels ≡ None)
+    → AreLeft channels answers (cleared_by said names answers)
+left-cleared channels None names answers gone = inl refl
+left-cleared channels (Some (greeting features localize profiles)) names answers gone = inl refl
+left-cleared channels (Some (start number server profiles)) names answers gone = inl refl
+left-cleared channels (Some (chosen profile)) names answers gone = inl refl
+left-cleared channels (Some (close number code note)) names answers gone = left-if channels names number answers (gone number code note refl)
+left-cleared channels (Some okay) names answers gone = inl refl
+left-cleared channels (Some (fault code note)) names answers gone = inl refl
+
+pub left-answered : (channels : List Live) (grants : Bool) (one : Kept) (answers : List Prepared)
+    → (grants ≡ true → (number code : ℕ) (note : List ℕ) → one.said ≡ Some (close number code note) → one.names ≡ true → live_at number channels ≡ None)
+    → AreLeft channels answers (answers_if grants one answers)
+left-answered channels true one answers gone = left-cleared channels one.said one.names answers (gone refl)
+left-answered channels false one answers gone = inl refl
+
+-- a number without a channel has none among others of the same numbers
+none-on : (n : ℕ) (old new : List Live) → numbers new ≡ numbers old → live_at n old ≡ None → live_at n new ≡ None
+none-on n [] [] same none = refl
+none-on n [] (channel ∷ new) same none = absurd (let h : channel.held.number ∷ numbers new ≡ [] = same in cc)
+none-on n (before ∷ old) [] same none = absurd (let h : [] ≡ before.held.number ∷ numbers old = same in cc)
+none-on n (before ∷ old) (channel ∷ new) same none =
+    let first : channel.held.number ≡ before.held.number = cc (same) in
+    let rest : numbers new ≡ numbers old = cc (same) in
+    ap (λ m. if m == n then Some channel else live_at n new) first ∙ by (before.held.number == n) none (none-on n old new rest)
+  where
+    by : (b : Bool) → (if b then Some before else live_at n old) ≡ None → (live_at n old ≡ None → live_at n new ≡ None) → (if b then Some channel else live_at n new) ≡ None
+    by true none rest = absurd (let h : Some before ≡ None = none in cc)
+    by false none rest = rest none
+
+left-on : (old new : List Live) (before now : List Prepared) → numbers new ≡ numbers old → AreLeft old before now → AreLeft new before now
+left-on old new before now same left = ⊎_elim inl (λ less. inr (less.0, less.1, none-on less.0 old new same less.2)) left
 
 -- ---- what they waited for
 
@@ -62,7 +90,7 @@ module _ (old new : List Live) (m n : Managed) (k : KeepsAbove old new) (mine : 
 -- ---- both
 
 module _ (size : ℕ) (journal : List Item) (given taken before : Marks) (lives : List Live) (m : Managed) (answers : List Prepared) (peer : Peer)
-    (zero : given 0 ≡ before 0) (same : words_of m.answers ≡ words_of answers)
+    (zero : given 0 ≡ before 0) (same : AreLeft lives answers m.answers)
     (l : LetsGo size journal given taken m.answers peer.lives peer.management) (a : AreLetGo lives m peer.management) (k : KeepsAbove lives peer.lives) where
   same-gone : a.gone ≡ l.gone
   same-gone = append_cancel_right a.gone l.gone peer.management.answers (sym a.split ∙ l.split)
@@ -71,7 +99,7 @@ module _ (size : ℕ) (journal : List Item) (given taken before : Marks) (lives 
   pub gives-first : GivesFirst before l.given_now answers peer
   gives-first = record {
     now = m.answers;
-    same = same;
+    left = left-on lives peer.lives answers m.answers k.order same;
     gone = l.gone;
     split = l.split;
     come = subst (λ (gone : List Prepared). AllHaveCome gone peer.lives peer.management) same-gone

@@ -1,5 +1,5 @@
 -- What goes out of a peer, for every journal for which it stood.
-use Rattle.std.proofs.Common.{◌≡◌, ℕ, ◌+◌, ◌≤◌, ◌==◌, Bool, true, false, not, ◌&&◌, ◌||◌, List, ◌∷◌, length, refl, sym, ap, ◌∙◌, subst}
+use Rattle.std.proofs.Common.{◌≡◌, ℕ, ◌+◌, ◌≤◌, ◌==◌, Bool, true, false, not, ◌&&◌, ◌||◌, List, ◌∷◌, length, inl, refl, sym, ap, ◌∙◌, subst}
 use Rattle.std.proofs.Math.Logic.{∥∥₁_elim, ∥∥₁_map}
 use denote.Struct.Props.{props}
 use Rattle.std.proofs.lemmas.List.{length-map}
@@ -30,7 +30,7 @@ use Rattle.beep_speaking.specs.declared.emit.Emit.{Emit}
 use Rattle.beep_speaking.specs.Emits.{Emits, SendsNext, IsReached}
 use Rattle.beep_peer.specs.declared.peer.Peer.{Peer}
 use Rattle.beep_peer.specs.Peering.{AreFew, Holds, IsPeer, Carries, AreHeld, IsGoing, is_greeted}
-use Rattle.beep_peer.specs.Calls.{LetsGo, HasGone, IsDone, HasSent, IsSent, Speaks, words_of}
+use Rattle.beep_peer.specs.Calls.{AreLeft, LetsGo, HasGone, IsDone, HasSent, IsSent, Speaks}
 use Rattle.beep_peer.specs.Waiting.{AreLetGo, KeepsAbove}
 use Rattle.beep_peer.proofs.LetLemmas.{gives-first}
 use Rattle.beep_peer.proofs.GainLemmas.{quiet-events, quiet-managed}
@@ -200,7 +200,7 @@ module _ (size : ℕ) (journal : List Item) (given taken : Marks) (head : Head) 
         → KeepsAbove peer.lives now.lives → IsSent size fed rest journal whole given taken peer.management.answers now
     quiet-sent now quiet ear released l a k = record {
       given_now = l.given_now;
-      gives = gives-first size whole given taken given peer.lives peer.management peer.management.answers now refl refl l a k;
+      gives = gives-first size whole given taken given peer.lives peer.management peer.management.answers now refl (inl refl) l a k;
       taken_now = taken;
       given_is = carries-above journal whole given given l.given_now (carries-same journal whole given same) l.same;
       taken_is = carries-same journal whole taken same;
@@ -218,7 +218,7 @@ module _ (size : ℕ) (journal : List Item) (given taken : Marks) (head : Head) 
     pub gone-sent : (releases : Bool) (lives : List Live) (m : Managed) (now : Peer) → IsDone size begun whole given taken releases lives m
         → now.ear ≡ peer.ear → now.released ≡ (releases || peer.released)
         → ((given_now taken_now : Marks) → Holds size whole given_now taken_now lives m → LetsGo size whole given_now taken_now m.answers now.lives now.management)
-        → words_of m.answers ≡ words_of peer.management.answers → AreLetGo lives m now.management → KeepsAbove lives now.lives
+        → AreLeft lives peer.management.answers m.answers → AreLetGo lives m now.management → KeepsAbove lives now.lives
         → IsSent size fed rest journal whole given taken peer.management.answers now
     gone-sent releases lives m now d ear released lets same a k =
         let l = lets d.given_now d.taken_now d.holds in

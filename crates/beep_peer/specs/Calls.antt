@@ -1,6 +1,6 @@
 -- What each call makes of the journal for which a peer stands (RFC 3080, sections 2.2.1 and 2.3.1).
 -- Each speaks of every journal for which the peer stood: none is kept.
-use Rattle.std.specs.Prelude.{◌≡◌, ℕ, ◌==◌, ◌||◌, Bool, true, false, List, [], ◌∷◌, ◌++◌, map, Option}
+use Rattle.std.specs.Prelude.{◌≡◌, ℕ, ◌⊎◌, ◌==◌, ◌||◌, Bool, true, false, List, [], ◌∷◌, ◌++◌, map, Option, None}
 use Rattle.beep_frame.specs.declared.head.Head.{Head}
 use Rattle.beep_frame.specs.declared.kind.Kind.{Kind}
 use Rattle.beep_history.specs.declared.journal.Side.{Side}
@@ -16,13 +16,13 @@ use Rattle.beep_standing.specs.Due.{has_due, has_ready}
 use Rattle.beep_speaking.specs.declared.emit.Emit.{Emit}
 use Rattle.beep_speaking.specs.Emits.{NoSeq}
 use Rattle.std.specs.List.{list_any}
-use Rattle.beep_lives.specs.Lives.{can_send, owes_seq, IsFirstOf}
+use Rattle.beep_lives.specs.Lives.{can_send, live_at, owes_seq, IsFirstOf}
 use Rattle.beep_mgmt.specs.Form.{Form}
 use Rattle.beep_decide.specs.Decide.{PlainStanding, decide}
 use Rattle.beep_answering.specs.declared.settled.Settled.{Settled}
 use Rattle.beep_answering.specs.Decided.{SaysAnswer, SettledBy, kind_of}
 use Rattle.beep_hearing.specs.Hears.{IsZeroTaken, SameAbove}
-use Rattle.beep_management.specs.Managed.{Prepared, Managed}
+use Rattle.beep_management.specs.Managed.{Prepared, Managed, without}
 use Rattle.beep_management.specs.Manages.{Manages}
 use Rattle.beep_peer.specs.declared.peer.Peer.{Peer}
 use Rattle.beep_peer.specs.Peering.{AreFew, HasRoomFor, Holds, IsPeer, Carries, is_greeted}
@@ -44,12 +44,18 @@ pub record LetsGo (size : ℕ) (journal : List Item) (given taken : Marks)
 abbrev pub words_of : List Prepared → List (Kind × List ℕ)
 words_of answers = map (λ answer. (answer.kind, answer.octets)) answers
 
+-- these answers are left as they were, or none of them waits any more for the life of one number
+-- that has ended
+abbrev pub AreLeft : List Live → List Prepared → List Prepared → Type 0
+AreLeft channels old new = (new ≡ old) ⊎ ((number : ℕ) × (new ≡ without number old)
+    × (live_at number channels ≡ None))
+
 -- of these answers the first, whose waits are over, were given to channel zero, and nothing else;
 -- the others are left
 pub record GivesFirst (given given_now : Marks) (answers : List Prepared) (peer : Peer)
     : Type 0 where
   pub now : List Prepared
-  pub same : words_of now ≡ words_of answers
+  pub left : AreLeft peer.lives answers now
   pub gone : List Prepared
   pub split : now ≡ gone ++ peer.management.answers
   pub come : AllHaveCome gone peer.lives peer.management

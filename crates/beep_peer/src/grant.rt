@@ -1,6 +1,8 @@
 //! What the grant of a request of channel zero makes of the live channels (RFC 3080, sections
 //! 2.3.1.2 and 2.3.1.3).
-ghost use Rattle.std.specs.Prelude.{◌≡◌, ℕ, ◌≤◌, ◌∷◌, [], length, not, nat_lt, ◌&&◌, Some, IfSome};
+ghost use Rattle.std.specs.Prelude.{◌≡◌, ℕ, ◌≤◌, ◌∷◌, [], length, not, nat_lt, ◌&&◌, List, None, Some, true, IfSome};
+ghost use Rattle.beep_mgmt.specs.Form.{close};
+ghost use Rattle.beep_lives.specs.Lives.{live_at};
 ghost use Rattle.std.specs.Option.{option_to_list};
 ghost use Rattle.beep_channel.specs.Held.{Live};
 ghost use Rattle.beep_decide.specs.Asks.{is_close_of};
@@ -29,6 +31,9 @@ pub(crate) fn grant(lives: &mut Lives, answered: Answered) -> bool
         → IfSome answered.channel (λ one. one ≡ channel)
         → Does size (kept_of answered.request).said answered.request.names channel
         lives.old lives.new }
+    ensures leaves { (number code : ℕ) (note : List ℕ)
+        → (kept_of answered.request).said ≡ Some (close number code note)
+        → answered.request.names ≡ true → live_at number lives.new ≡ None }
     ensures released { result ≡ is_close_of 0 (kept_of answered.request).said }
 {
     let Answered { request, channel } = answered;

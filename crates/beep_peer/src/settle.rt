@@ -1,5 +1,5 @@
 //! What a whole message of channel zero makes of a session (RFC 3080, section 2.3.1).
-ghost use Rattle.std.specs.Prelude.{◌≡◌, ◌≢◌, ◌↔◌, ◌∷◌, [], ℕ, ◌≤◌, ◌+◌, ◌-◌, ◌&&◌, List, length, true, false, Some, Err, IfSome, IfOk, IfErr, OnOk, OnErr, IsOk, option_map};
+ghost use Rattle.std.specs.Prelude.{◌≡◌, ◌≢◌, ◌↔◌, ◌∷◌, [], ℕ, ◌≤◌, ◌+◌, ◌-◌, ◌&&◌, List, length, true, false, None, Some, Err, IfSome, IfOk, IfErr, OnOk, OnErr, IsOk, option_map};
 ghost use Rattle.std.specs.List.{list_all};
 ghost use Rattle.std.specs.Option.{option_map_or, option_to_list};
 ghost use Rattle.beep_frame.specs.declared.rule.Rule.{Rule};
@@ -7,7 +7,8 @@ ghost use Rattle.beep_frame.specs.Modulo.{modulo_2_64};
 ghost use Rattle.beep_frame.specs.Frame.{is_msg};
 ghost use Rattle.beep_history.specs.declared.journal.Side.{Side};
 ghost use Rattle.beep_history.specs.Journal.{Item, passed};
-ghost use Rattle.beep_mgmt.specs.Form.{form_of};
+ghost use Rattle.beep_mgmt.specs.Form.{close, form_of};
+ghost use Rattle.beep_lives.specs.Lives.{live_at};
 ghost use Rattle.beep_mgmt.specs.Message.{message_said};
 ghost use Rattle.beep_journal.specs.Zero.{zero_history, completes_form};
 ghost use Rattle.beep_seq.specs.declared.limits.TheConstants.{MIN_WINDOW, MAX_WINDOW};
@@ -241,6 +242,9 @@ fn grant_where(grants: bool, lives: &mut Lives, answered: Answered) -> bool
         → IfSome answered.channel (λ one. one ≡ channel)
         → Does size (kept_of answered.request).said answered.request.names channel
         lives.old lives.new }
+    ensures leaves { grants ≡ true → (number code : ℕ) (note : List ℕ)
+        → (kept_of answered.request).said ≡ Some (close number code note)
+        → answered.request.names ≡ true → live_at number lives.new ≡ None }
     ensures kept { grants ≡ false → lives.new ≡ lives.old }
     ensures released { result ≡ (grants && is_close_of 0 (kept_of answered.request).said) }
 {

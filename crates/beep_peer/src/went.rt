@@ -8,7 +8,7 @@ ghost use Rattle.beep_lawful.specs.declared.terms.Terms.{Terms};
 ghost use Rattle.beep_standing.specs.Standing.{Marks};
 ghost use Rattle.beep_upright.specs.Turns.{kinds_at};
 ghost use Rattle.beep_upright.specs.Upright.{asked_at, AreReady, IsUpright};
-ghost use Rattle.beep_peer.specs.Calls.{HasGone, IsDone, words_of};
+ghost use Rattle.beep_peer.specs.Calls.{AreLeft, HasGone, IsDone};
 ghost use Rattle.beep_peer.specs.Left.{left_to_say};
 
 use crate::grant::grant;
@@ -35,7 +35,7 @@ pub(crate) fn went(lives: &mut Lives, management: &mut Management, kind: Kind) -
         management.old
         → IsUpright terms (passed Side.Sent head payload ∷ began Side.Sent head ∷ journal)
         lives.new management.new }
-    ensures words { words_of management.new.answers ≡ words_of management.old.answers }
+    ensures left { AreLeft lives.new management.old.answers management.new.answers }
     ensures falls { left_to_say lives.new management.new ≤ left_to_say lives.old management.old }
 {
     if kind.is_msg() {

@@ -5,7 +5,7 @@ use Rattle.std.proofs.lemmas.Bool.Decides.{nat_tests}
 use Rattle.std.proofs.lemmas.List.Folds.{list_all-append}
 use Rattle.beep_history.specs.declared.journal.Side.{Side}
 use Rattle.beep_journal.specs.Log.{Entry, quiet, ended}
-use Rattle.beep_record.specs.declared.limits.TheConstants.{MAX_PIECE, MAX_STATUS}
+use Rattle.beep_record.specs.declared.limits.TheConstants.{MAX_ENTRY, MAX_STATUS}
 use Rattle.beep_record.specs.declared.mode.Mode.{Mode}
 use Rattle.beep_record.specs.declared.mode.Part.{Part}
 use Rattle.beep_record.specs.Record.{piece_of, IsBegun, hex_digit, octet_text, octets_text, entry_text, log_text, status_text, first_line, IsLog, IsPiece}
@@ -41,7 +41,7 @@ piece_line Side.Received octets = refl
 piece_line Side.Sent octets = refl
 
 -- a piece with one more octet completes the line
-with_octet : (s : State) (side : Side) (part : Part) (octet : ℕ) (front more t : List ℕ) → InPiece side part s t → length s.piece < MAX_PIECE → octet < 256
+with_octet : (s : State) (side : Side) (part : Part) (octet : ℕ) (front more t : List ℕ) → InPiece side part s t → length s.piece < MAX_ENTRY → octet < 256
     → piece_text part s.piece ≡ octets_text s.piece ++ front → front ++ more ≡ octet_text octet → IsBegun t
 with_octet s side part octet front more t is room small begun whole =
     with_line s (piece_of side (s.piece ++ octet ∷ [])) (letter side ∷ 32 ∷ piece_text part s.piece) (more ++ 10 ∷ []) t
@@ -69,7 +69,7 @@ fresh_piece : (s : State) (side : Side) (t : List ℕ) → InPiece side Part.Fre
 fresh_piece s side t is =
     decide (nat_lt 0 (length s.piece))
     (λ some. whole_piece s side t is (grind (arith, nat_tests)))
-    (λ none. let room : length s.piece < MAX_PIECE = grind (arith, nat_tests) in
+    (λ none. let room : length s.piece < MAX_ENTRY = grind (arith, nat_tests) in
     with_octet s side Part.Fresh 97 [] (97 ∷ []) t is room (omega arith) (sym (append-nil _)) (sym (plain_text 97 refl)))
 
 pub alive_in : (mode : Mode) (s : State) (t : List ℕ) → ReachedIn mode s t → IsBegun t

@@ -3,7 +3,7 @@ use Rattle.std.proofs.Common.{◌≡◌, ℕ, ◌<◌, ◌≤◌, Bool, true, fa
 use Rattle.std.specs.Fmt.{decimal}
 use Rattle.beep_history.specs.declared.journal.Side.{Side}
 use Rattle.beep_journal.specs.declared.role.Role.{Role}
-use Rattle.beep_record.specs.declared.limits.TheConstants.{MAX_PIECE, MAX_STATUS}
+use Rattle.beep_record.specs.declared.limits.TheConstants.{MAX_ENTRY, MAX_STATUS}
 use Rattle.beep_record.specs.declared.mode.Mode.{Mode}
 use Rattle.beep_record.specs.declared.mode.Part.{Part}
 use Rattle.beep_record.specs.Record.{hex_digit, octets_text, log_text, first_line, has_ended, are_octets, IsLog}
@@ -31,9 +31,9 @@ MayCome Side.Sent over = Unit {0}
 
 -- the piece has room for the octet that has begun
 abbrev pub HasRoom : Part → List ℕ → Type 0
-HasRoom Part.Fresh piece = length piece ≤ MAX_PIECE
-HasRoom Part.Slash piece = length piece < MAX_PIECE
-HasRoom (Part.High digit) piece = (length piece < MAX_PIECE) × (digit < 16) × (is_high digit ≡ true)
+HasRoom Part.Fresh piece = length piece ≤ MAX_ENTRY
+HasRoom Part.Slash piece = length piece < MAX_ENTRY
+HasRoom (Part.High digit) piece = (length piece < MAX_ENTRY) × (digit < 16) × (is_high digit ≡ true)
 
 -- the lines before are those of a record
 pub record IsKept (s : State) : Type 0 where

@@ -7,7 +7,7 @@ use Rattle.std.proofs.lemmas.Bool.Decides.{nat_tests}
 use Rattle.beep_history.specs.declared.journal.Side.{Side}
 use Rattle.beep_journal.specs.declared.role.Role.{Role}
 use Rattle.beep_journal.specs.Log.{Entry, read, wrote, quiet, ended}
-use Rattle.beep_record.specs.declared.limits.TheConstants.{MAX_PIECE}
+use Rattle.beep_record.specs.declared.limits.TheConstants.{MAX_ENTRY}
 use Rattle.beep_record.specs.declared.mode.Mode.{Mode}
 use Rattle.beep_record.specs.declared.mode.Part.{Part}
 use Rattle.beep_record.specs.Record.{piece_of, Record, IsRecord, IsStatus, record_text, is_plain, hex_digit, octet_text, octets_text, entry_text, log_text, status_text, first_line, has_ended, are_octets, IsLog, IsPiece}
@@ -29,26 +29,26 @@ run-none (x ∷ xs) = run-none xs
 abbrev pub in_piece : Side → Part → Role → Bool → List Entry → List ℕ → State
 in_piece side part role over log piece = record { mode = Mode.Piece side part; role = role; over = over; log = log; piece = piece }
 
-plain-run : (side : Side) (role : Role) (over : Bool) (log : List Entry) (piece : List ℕ) (octet : ℕ) → length piece < MAX_PIECE → is_plain octet ≡ true
+plain-run : (side : Side) (role : Role) (over : Bool) (log : List Entry) (piece : List ℕ) (octet : ℕ) → length piece < MAX_ENTRY → is_plain octet ≡ true
     → run (Some (in_piece side Part.Fresh role over log piece)) (octet ∷ []) ≡ Some (in_piece side Part.Fresh role over log (piece ++ octet ∷ []))
 unfolding step
 plain-run side role over log piece octet room plain =
     let lf : (octet == 10) ≡ false = grind (arith, nat_tests) in
-    let full : nat_le MAX_PIECE (length piece) ≡ false = grind (arith, nat_tests) in
+    let full : nat_le MAX_ENTRY (length piece) ≡ false = grind (arith, nat_tests) in
     let slash : (octet == 92) ≡ false = grind (arith, nat_tests) in
     rw (lf, full, plain, slash) refl
 
-letter-run : (side : Side) (role : Role) (over : Bool) (log : List Entry) (piece : List ℕ) (octet : ℕ) → length piece < MAX_PIECE → (octet ≡ 13) ⊎ (octet ≡ 10) ⊎ (octet ≡ 92)
+letter-run : (side : Side) (role : Role) (over : Bool) (log : List Entry) (piece : List ℕ) (octet : ℕ) → length piece < MAX_ENTRY → (octet ≡ 13) ⊎ (octet ≡ 10) ⊎ (octet ≡ 92)
     → run (Some (in_piece side Part.Fresh role over log piece)) (octet_text octet) ≡ Some (in_piece side Part.Fresh role over log (piece ++ octet ∷ []))
 unfolding step octet_text
 letter-run side role over log piece octet room which =
-    let full : nat_le MAX_PIECE (length piece) ≡ false = grind (arith, nat_tests) in
+    let full : nat_le MAX_ENTRY (length piece) ≡ false = grind (arith, nat_tests) in
     elim which [
       | inl is ↦ rw (is, full) refl
       | inr rest ↦ elim rest [ inl is ↦ rw (is, full) refl | inr is ↦ rw (is, full) refl ]
     ]
 
-two-run : (side : Side) (role : Role) (over : Bool) (log : List Entry) (piece : List ℕ) (high low one two : ℕ) → nat_le MAX_PIECE (length piece) ≡ false
+two-run : (side : Side) (role : Role) (over : Bool) (log : List Entry) (piece : List ℕ) (high low one two : ℕ) → nat_le MAX_ENTRY (length piece) ≡ false
     → (one == 114) ≡ false → (one == 110) ≡ false → (one == 92) ≡ false → is_hex one ≡ true → digit_of one ≡ high → is_high high ≡ true
     → is_hex two ≡ true → digit_of two ≡ low → is_hexed (16 * high + low) ≡ true
     → run (Some (in_piece side Part.Fresh role over log piece)) (92 ∷ one ∷ two ∷ []) ≡ Some (in_piece side Part.Fresh role over log (piece ++ (16 * high + low) ∷ []))
@@ -56,10 +56,10 @@ unfolding step
 two-run side role over log piece high low one two full cr lf slash hex1 is_one up hex2 is_two hexed =
     rw (full, cr, lf, slash, hex1, is_one, up, hex2, is_two, hexed) refl
 
-hexed-run : (side : Side) (role : Role) (over : Bool) (log : List Entry) (piece : List ℕ) (octet : ℕ) → length piece < MAX_PIECE → octet < 256 → is_hexed octet ≡ true
+hexed-run : (side : Side) (role : Role) (over : Bool) (log : List Entry) (piece : List ℕ) (octet : ℕ) → length piece < MAX_ENTRY → octet < 256 → is_hexed octet ≡ true
     → run (Some (in_piece side Part.Fresh role over log piece)) (octet_text octet) ≡ Some (in_piece side Part.Fresh role over log (piece ++ octet ∷ []))
 hexed-run side role over log piece octet room small hexed =
-    let full : nat_le MAX_PIECE (length piece) ≡ false = grind (arith, nat_tests) in
+    let full : nat_le MAX_ENTRY (length piece) ≡ false = grind (arith, nat_tests) in
     let upper : octet / 16 < 16 = omega arith in
     let lower : octet % 16 < 16 = omega arith in
     let whole : 16 * (octet / 16) + octet % 16 ≡ octet = omega arith in
@@ -69,7 +69,7 @@ hexed-run side role over log piece octet room small hexed =
     (high_digit octet hexed) (hex_is_hex _ lower) (digit_of-hex_digit _ lower) (ap is_hexed whole ∙ hexed)
     ∙ ap (λ o. Some (in_piece side Part.Fresh role over log (piece ++ o ∷ []))) whole
 
-octet-run : (side : Side) (role : Role) (over : Bool) (log : List Entry) (piece : List ℕ) (octet : ℕ) → length piece < MAX_PIECE → octet < 256
+octet-run : (side : Side) (role : Role) (over : Bool) (log : List Entry) (piece : List ℕ) (octet : ℕ) → length piece < MAX_ENTRY → octet < 256
     → run (Some (in_piece side Part.Fresh role over log piece)) (octet_text octet) ≡ Some (in_piece side Part.Fresh role over log (piece ++ octet ∷ []))
 octet-run side role over log piece octet room small =
     decide (is_plain octet)
@@ -79,7 +79,7 @@ octet-run side role over log piece octet room small =
     decide (octet == 92) (λ is. letter-run side role over log piece octet room (inr (inr (eqb-true octet 92 is)))) (λ slash.
     hexed-run side role over log piece octet room small (hexed_else octet plain cr lf slash)))))
 
-piece-run : (side : Side) (role : Role) (over : Bool) (log : List Entry) (octets piece : List ℕ) → are_octets octets ≡ true → length piece + length octets ≤ MAX_PIECE
+piece-run : (side : Side) (role : Role) (over : Bool) (log : List Entry) (octets piece : List ℕ) → are_octets octets ≡ true → length piece + length octets ≤ MAX_ENTRY
     → run (Some (in_piece side Part.Fresh role over log piece)) (octets_text octets) ≡ Some (in_piece side Part.Fresh role over log (piece ++ octets))
 piece-run side role over log [] piece are within = ap (λ p. Some (in_piece side Part.Fresh role over log p)) (sym (append-nil piece))
 piece-run side role over log (octet ∷ octets) piece are within =
@@ -90,7 +90,7 @@ piece-run side role over log (octet ∷ octets) piece are within =
     ∙ ap (λ p. Some (in_piece side Part.Fresh role over log p)) (append_assoc piece (octet ∷ []) octets)
 
 -- octets that stand for themselves
-plain-runs : (side : Side) (role : Role) (over : Bool) (log : List Entry) (octets piece : List ℕ) → are_plain octets ≡ true → length piece + length octets ≤ MAX_PIECE
+plain-runs : (side : Side) (role : Role) (over : Bool) (log : List Entry) (octets piece : List ℕ) → are_plain octets ≡ true → length piece + length octets ≤ MAX_ENTRY
     → run (Some (in_piece side Part.Fresh role over log piece)) octets ≡ Some (in_piece side Part.Fresh role over log (piece ++ octets))
 plain-runs side role over log [] piece are within = ap (λ p. Some (in_piece side Part.Fresh role over log p)) (sym (append-nil piece))
 plain-runs side role over log (octet ∷ octets) piece are within =
@@ -99,23 +99,23 @@ plain-runs side role over log (octet ∷ octets) piece are within =
     ∙ ap (λ p. Some (in_piece side Part.Fresh role over log p)) (append_assoc piece (octet ∷ []) octets)
 
 -- the piece has these octets too
-plain-went : (s next : State) (side : Side) (octets : List ℕ) → s.mode ≡ Mode.Piece side Part.Fresh → are_plain octets ≡ true → (0 < length octets → length s.piece + length octets ≤ MAX_PIECE)
+plain-went : (s next : State) (side : Side) (octets : List ℕ) → s.mode ≡ Mode.Piece side Part.Fresh → are_plain octets ≡ true → (0 < length octets → length s.piece + length octets ≤ MAX_ENTRY)
     → next ≡ with_piece s (s.piece ++ octets) → run (Some s) octets ≡ Some next
 plain-went s next side [] at are room is = ap (λ (t : State). Some t) (sym (is ∙ ap (with_piece s) (append-nil s.piece)))
 plain-went s next side (octet ∷ octets) at are room is =
-    let within : length s.piece + length (octet ∷ octets) ≤ MAX_PIECE = room (omega arith) in
+    let within : length s.piece + length (octet ∷ octets) ≤ MAX_ENTRY = room (omega arith) in
     ap (λ m. run (Some (record s { mode = m })) (octet ∷ octets)) at ∙ plain-runs side s.role s.over s.log (octet ∷ octets) s.piece are within
     ∙ ap (λ m. Some (record s { mode = m; piece = s.piece ++ octet ∷ octets })) (sym at) ∙ ap (λ (t : State). Some t) (sym is)
 
 -- the piece has this octet too, whose text came
-pub octet-went : (s next : State) (side : Side) (octet : ℕ) (text : List ℕ) → s.mode ≡ Mode.Piece side Part.Fresh → length s.piece < MAX_PIECE → octet < 256 → text ≡ octet_text octet
+pub octet-went : (s next : State) (side : Side) (octet : ℕ) (text : List ℕ) → s.mode ≡ Mode.Piece side Part.Fresh → length s.piece < MAX_ENTRY → octet < 256 → text ≡ octet_text octet
     → next ≡ with_piece s (s.piece ++ octet ∷ []) → run (Some s) text ≡ Some next
 octet-went s next side octet text at room small spelled is =
     ap (λ m. run (Some (record s { mode = m })) text) at ∙ ap (run (Some (in_piece side Part.Fresh s.role s.over s.log s.piece))) spelled
     ∙ octet-run side s.role s.over s.log s.piece octet room small
     ∙ ap (λ m. Some (record s { mode = m; piece = s.piece ++ octet ∷ [] })) (sym at) ∙ ap (λ (t : State). Some t) (sym is)
 
-pub piece-went : (s next : State) (side : Side) (octets text : List ℕ) → s.mode ≡ Mode.Piece side Part.Fresh → are_octets octets ≡ true → length s.piece + length octets ≤ MAX_PIECE
+pub piece-went : (s next : State) (side : Side) (octets text : List ℕ) → s.mode ≡ Mode.Piece side Part.Fresh → are_octets octets ≡ true → length s.piece + length octets ≤ MAX_ENTRY
     → text ≡ octets_text octets → next ≡ with_piece s (s.piece ++ octets) → run (Some s) text ≡ Some next
 piece-went s next side octets text at are room spelled is =
     ap (λ m. run (Some (record s { mode = m })) text) at ∙ ap (run (Some (in_piece side Part.Fresh s.role s.over s.log s.piece))) spelled
@@ -123,7 +123,7 @@ piece-went s next side octets text at are room spelled is =
     ∙ ap (λ m. Some (record s { mode = m; piece = s.piece ++ octets })) (sym at) ∙ ap (λ (t : State). Some t) (sym is)
 
 pub plain-goes : {E : Type 0} (r : Result ℕ E) (s next : State) (side : Side) (octets : List ℕ) → s.mode ≡ Mode.Piece side Part.Fresh → IfOk r (λ count. count ≤ length octets)
-    → IfOk r (λ count. are_plain (take count octets) ≡ true) → IfOk r (λ count. 0 < count → length s.piece + count ≤ MAX_PIECE)
+    → IfOk r (λ count. are_plain (take count octets) ≡ true) → IfOk r (λ count. 0 < count → length s.piece + count ≤ MAX_ENTRY)
     → IfOk r (λ count. next ≡ with_piece s (s.piece ++ take count octets)) → IfOk r (λ count. run (Some s) (take count octets) ≡ Some next)
 plain-goes (Err e) s next side octets at within are room is = tt
 plain-goes (Ok count) s next side octets at within are room is =

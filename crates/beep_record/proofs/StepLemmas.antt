@@ -8,7 +8,7 @@ use Rattle.std.proofs.lemmas.Bool.Decides.{nat_tests}
 use Rattle.beep_history.specs.declared.journal.Side.{Side}
 use Rattle.beep_journal.specs.declared.role.Role.{Role}
 use Rattle.beep_journal.specs.Log.{Entry, read, wrote, quiet, ended}
-use Rattle.beep_record.specs.declared.limits.TheConstants.{MAX_PIECE, MAX_STATUS}
+use Rattle.beep_record.specs.declared.limits.TheConstants.{MAX_ENTRY, MAX_STATUS}
 use Rattle.beep_record.specs.declared.mode.Mode.{Mode}
 use Rattle.beep_record.specs.declared.mode.Part.{Part}
 use Rattle.beep_record.specs.Record.{piece_of, is_plain, hex_digit, octet_text, octets_text, entry_text, log_text, first_line, has_ended, IsLog}
@@ -88,7 +88,7 @@ line s side b t is =
 
 -- the piece has one more octet, whose text is whole
 push : (s : State) (side : Side) (part : Part) (octet b : ℕ) (front t : List ℕ) → InPiece side part s t → piece_text part s.piece ≡ octets_text s.piece ++ front
-    → front ++ b ∷ [] ≡ octet_text octet → length s.piece < MAX_PIECE → nat_lt octet 256 ≡ true → Stepped (t ++ b ∷ []) (kept s side octet)
+    → front ++ b ∷ [] ≡ octet_text octet → length s.piece < MAX_ENTRY → nat_lt octet 256 ≡ true → Stepped (t ++ b ∷ []) (kept s side octet)
 push s side part octet b front t is begun whole room small = record {
   kept = record { log = is.kept.log; over = is.kept.over };
   may = is.may;
@@ -133,8 +133,8 @@ fresh s side b t is small =
     let P : Option State → Type 0 = Stepped (t ++ b ∷ []) in
     by_test P (b == 10)
     (λ same. by_test P (length s.piece == 0) (λ _. tt) (λ some. ended_piece s side b t is (eqb-true b 10 same) (grind (arith, nat_tests)))) (λ _.
-    by_test P (nat_le MAX_PIECE (length s.piece)) (λ _. tt) (λ below.
-    let room : length s.piece < MAX_PIECE = grind (arith, nat_tests) in
+    by_test P (nat_le MAX_ENTRY (length s.piece)) (λ _. tt) (λ below.
+    let room : length s.piece < MAX_ENTRY = grind (arith, nat_tests) in
     by_test P (b == 92) (λ same. part_of s side Part.Fresh Part.Slash b 92 t is room refl (eqb-true b 92 same)) (λ _.
     by_test P (is_plain b) (λ plain. push s side Part.Fresh b b [] t is (sym (append-nil _)) (sym (plain_text b plain)) room small) (λ _. tt))))
 

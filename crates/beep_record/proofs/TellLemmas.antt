@@ -5,7 +5,7 @@ use Rattle.std.specs.declared.result.Result.{Result}
 use Rattle.std.specs.declared.result.Result.TheVariants.{Ok, Err}
 use Rattle.std.specs.Result.{IfOk}
 use Rattle.beep_journal.specs.Log.{Entry, flat}
-use Rattle.beep_record.specs.declared.limits.TheConstants.{MAX_PIECE}
+use Rattle.beep_record.specs.declared.limits.TheConstants.{MAX_ENTRY}
 use Rattle.beep_record.specs.declared.mode.Mode.{Mode}
 use Rattle.beep_record.specs.declared.mode.Part.{Part}
 use Rattle.beep_record.specs.declared.teller.Teller.{Teller}
@@ -40,7 +40,7 @@ module _ (before : List Entry) where
       (if_later (octet == 82) _ _ _ _ refl (if_later (octet == 81) _ _ _ _ refl (if_later (octet == 69) _ _ _ _ refl refl)))))
   mode_later (Mode.Line side) s octet = if_later (octet == 32) _ _ _ _ refl refl
   mode_later (Mode.Piece side Part.Fresh) s octet =
-      if_later (octet == 10) _ _ _ _ (if_later (length s.piece == 0) _ _ _ _ refl refl) (if_later (nat_le MAX_PIECE (length s.piece)) _ _ _ _ refl
+      if_later (octet == 10) _ _ _ _ (if_later (length s.piece == 0) _ _ _ _ refl refl) (if_later (nat_le MAX_ENTRY (length s.piece)) _ _ _ _ refl
       (if_later (octet == 92) _ _ _ _ refl (if_later (is_plain octet) _ _ _ _ refl refl)))
   mode_later (Mode.Piece side Part.Slash) s octet =
       if_later (octet == 114) _ _ _ _ refl (if_later (octet == 110) _ _ _ _ refl (if_later (octet == 92) _ _ _ _ refl

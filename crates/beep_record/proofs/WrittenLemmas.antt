@@ -4,7 +4,7 @@ use Rattle.std.proofs.lemmas.List.{take_more, take_all, drop_all, length-take-le
 use Rattle.beep_history.specs.declared.journal.Side.{Side}
 use Rattle.beep_journal.specs.declared.role.Role.{Role}
 use Rattle.beep_journal.specs.Log.{Entry, read, wrote, quiet, ended, flat, got_all, put_all, Moment, got, put, none, over}
-use Rattle.beep_record.specs.declared.limits.TheConstants.{MAX_PIECE}
+use Rattle.beep_record.specs.declared.limits.TheConstants.{MAX_ENTRY}
 use Rattle.beep_record.specs.Record.{piece_of, octet_text, octets_text, entry_text, log_text, first_line, has_ended, are_octets, IsPiece, ArePieces, IsOrdered}
 use Rattle.beep_record.specs.Written.{HasLines, Writes}
 use Rattle.beep_record.proofs.OctetLemmas.{are_left, are_right, octets_text-push}
@@ -44,7 +44,7 @@ pub record Cut (side : Side) (octets rest old new : List ℕ) : Type 0 where
   pub ended : (log : List Entry) → has_ended (lines ++ log) ≡ has_ended log
   pub ordered : (log : List Entry) → IsOrdered (piece_of side octets ∷ log) → IsOrdered (lines ++ log)
   pub flat_is : (log : List Entry) → flat (lines ++ log) ≡ flat (piece_of side done ∷ log)
-  pub one : 0 < length octets → length octets ≤ MAX_PIECE → ((rest ≡ octets) × (lines ≡ [])) ⊎ ((rest ≡ []) × (lines ≡ piece_of side octets ∷ []))
+  pub one : 0 < length octets → length octets ≤ MAX_ENTRY → ((rest ≡ octets) × (lines ≡ [])) ⊎ ((rest ≡ []) × (lines ≡ piece_of side octets ∷ []))
   pub text_is : new ≡ old ++ log_text lines
 
 flat-none : (side : Side) (log : List Entry) → flat log ≡ flat (piece_of side [] ∷ log)
@@ -84,7 +84,7 @@ take_nil : (n : ℕ) (xs : List ℕ) → xs ≡ [] → take n xs ≡ []
 take_nil n xs empty = take_all n xs (omega (arith, ap length empty)) ∙ empty
 
 -- the next line is the whole piece, where that has room in it
-only_line : (side : Side) (octets rest : List ℕ) (lines : List Entry) (count n : ℕ) → 0 < length rest → count ≡ min (length rest) MAX_PIECE → length octets ≤ MAX_PIECE
+only_line : (side : Side) (octets rest : List ℕ) (lines : List Entry) (count n : ℕ) → 0 < length rest → count ≡ min (length rest) MAX_ENTRY → length octets ≤ MAX_ENTRY
     → ((rest ≡ octets) × (lines ≡ [])) ⊎ ((rest ≡ []) × (lines ≡ piece_of side octets ∷ []))
     → (take n (drop count rest) ≡ []) × (piece_of side (take count rest) ∷ lines ≡ piece_of side octets ∷ [])
 only_line side octets rest lines count n some is within (inl first) =
@@ -94,7 +94,7 @@ only_line side octets rest lines count n some is within (inl first) =
 only_line side octets rest lines count n some is within (inr done) = absurd (omega (arith, ap length done.0))
 
 -- one line more
-pub cut_more : (side : Side) (octets rest old text new : List ℕ) (count n : ℕ) → are_octets octets ≡ true → 0 < length rest → count ≡ min (length rest) MAX_PIECE → n ≡ length rest - count → Cut side octets rest old text
+pub cut_more : (side : Side) (octets rest old text new : List ℕ) (count n : ℕ) → are_octets octets ≡ true → 0 < length rest → count ≡ min (length rest) MAX_ENTRY → n ≡ length rest - count → Cut side octets rest old text
     → new ≡ text ++ entry_text (piece_of side (take count rest)) → Cut side octets (take n (drop count rest)) old new
 cut_more side octets rest old text new count n are some is size cut more =
     let line = take count rest in

@@ -6,7 +6,7 @@ use Rattle.std.specs.List.{list_all}
 use Rattle.beep_history.specs.declared.journal.Side.{Side}
 use Rattle.beep_journal.specs.declared.role.Role.{Role}
 use Rattle.beep_journal.specs.Log.{Entry, quiet, ended}
-use Rattle.beep_record.specs.declared.limits.TheConstants.{MAX_PIECE}
+use Rattle.beep_record.specs.declared.limits.TheConstants.{MAX_ENTRY}
 use Rattle.beep_record.specs.declared.mode.Mode.{Mode}
 use Rattle.beep_record.specs.declared.mode.Part.{Part}
 use Rattle.beep_record.specs.Record.{is_plain, first_line, piece_of}
@@ -69,7 +69,7 @@ abbrev pub fresh_step : State → Side → ℕ → Option State
 fresh_step s side octet =
     if octet == 10
     then (if length s.piece == 0 then None else Some (with_entry s (piece_of side s.piece) s.over))
-    else if nat_le MAX_PIECE (length s.piece) then None
+    else if nat_le MAX_ENTRY (length s.piece) then None
     else if octet == 92 then Some (moved s (Mode.Piece side Part.Slash))
     else if is_plain octet then kept s side octet
     else None

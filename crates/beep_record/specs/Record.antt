@@ -8,7 +8,7 @@ use Rattle.std.specs.Fmt.{decimal}
 use Rattle.beep_history.specs.declared.journal.Side.{Side}
 use Rattle.beep_journal.specs.declared.role.Role.{Role}
 use Rattle.beep_journal.specs.Log.{Entry, read, wrote, quiet, ended}
-use Rattle.beep_record.specs.declared.limits.TheConstants.{MAX_PIECE, MAX_STATUS}
+use Rattle.beep_record.specs.declared.limits.TheConstants.{MAX_ENTRY, MAX_STATUS}
 
 -- ---- an octet
 
@@ -90,7 +90,7 @@ are_octets octets = list_all (λ octet. nat_lt octet 256) octets
 pub record IsPiece (octets : List ℕ) : Type 0 where
   pub are : IsTrue (are_octets octets)
   pub some : 0 < length octets
-  pub within : length octets ≤ MAX_PIECE
+  pub within : length octets ≤ MAX_ENTRY
 
 -- each piece has a line
 abbrev pub ArePieces : List Entry → Type 0

@@ -24,7 +24,7 @@ mod wire;
 mod write;
 
 pub use beep_journal::Role;
-pub use limits::{MAX_PIECE, MAX_STATUS};
+pub use limits::{MAX_ENTRY, MAX_STATUS};
 pub use log::{Entry, Log, LogEntries};
 pub use read::{RecordError, read_record};
 pub use report::replay;

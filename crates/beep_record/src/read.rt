@@ -51,6 +51,3 @@ pub(crate) fn may_end(mode: Mode) -> bool
 {
     matches!(mode, Mode::Start | Mode::Over(_))
 }
-
-#[cfg(test)]
-mod tests;

@@ -7,7 +7,7 @@ ghost use Rattle.beep_record.specs.Logged.{entry_of};
 ghost use Rattle.beep_record.specs.Record.{first_line, piece_of};
 ghost use Rattle.beep_record.specs.Reading.{state_of, with_piece, Steps, IsNumbered};
 
-use crate::limits::MAX_PIECE;
+use crate::limits::MAX_ENTRY;
 use crate::log::{Entry, LogEntries};
 use crate::mode::{Mode, Part};
 use crate::octet::{
@@ -121,7 +121,7 @@ impl Reader {
             self.end_piece(side)?;
             return Ok(true);
         }
-        if MAX_PIECE <= self.piece.len() {
+        if MAX_ENTRY <= self.piece.len() {
             return Ok(false);
         }
         if octet == b'\\' {
@@ -289,11 +289,11 @@ impl Reader {
         ensures within { IfOk result (λ count. count ≤ length octets.now) }
         ensures plain { IfOk result (λ count. are_plain (take count octets.now) ≡ true) }
         ensures room { IfOk result (λ count.
-            0 < count → length self.old.piece.octets + count ≤ MAX_PIECE) }
+            0 < count → length self.old.piece.octets + count ≤ MAX_ENTRY) }
         ensures kept { IfOk result (λ count. state_of self.new
             ≡ with_piece (state_of self.old) (self.old.piece.octets ++ take count octets.now)) }
     {
-        let room = MAX_PIECE.saturating_sub(self.piece.len());
+        let room = MAX_ENTRY.saturating_sub(self.piece.len());
         let count = plain_count(&octets[..octets.len().min(room)]);
         self.piece.extend(&octets[..count])?;
         Ok(count)
@@ -308,11 +308,11 @@ impl Reader {
             ≡ Some (state_of self.new)) }
         ensures mode { OnOk result (self.new.mode ≡ self.old.mode) }
     {
-        if self.piece.len() < MAX_PIECE - 1 && is_line_end(octets) {
+        if self.piece.len() < MAX_ENTRY - 1 && is_line_end(octets) {
             self.piece.extend(b"\r\n")?;
             return Ok(4);
         }
-        if self.piece.len() < MAX_PIECE {
+        if self.piece.len() < MAX_ENTRY {
             if let Some(octet) = lettered(octets) {
                 self.piece.extend(&[octet])?;
                 return Ok(2);

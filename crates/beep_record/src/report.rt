@@ -158,6 +158,3 @@ impl Replayer {
         }
     }
 }
-
-#[cfg(test)]
-mod tests;

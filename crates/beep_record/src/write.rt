@@ -4,7 +4,7 @@ ghost use Rattle.beep_record.specs.Record.{IsOrdered, entry_text, octets_text, p
 ghost use Rattle.beep_record.specs.Written.{HasLines, Writes};
 ghost use Rattle.beep_record.specs.Logged.{entry_of};
 
-use crate::limits::MAX_PIECE;
+use crate::limits::MAX_ENTRY;
 use crate::log::{Entry, Log};
 use crate::octet::put_octet;
 use crate::reader::first_line;
@@ -46,7 +46,7 @@ fn put_piece(side: Side, octets: &[u8], out: &mut Octets) -> Result<(), NoMemory
 {
     let mut rest = octets;
     while !rest.is_empty() {
-        let count = rest.len().min(MAX_PIECE);
+        let count = rest.len().min(MAX_ENTRY);
         put_line(side, &rest[..count], out)?;
         rest = &rest[count..];
     }

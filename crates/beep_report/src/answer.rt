@@ -4,7 +4,7 @@ use beep_channel::AskError;
 use beep_outbox::GiveError;
 use beep_peer::{CloseError, ReleaseError, StartError};
 
-/// What an act is answered. No cause is want of memory.
+/// What an act is answered. No cause is lack of memory.
 #[derive(Clone, Copy, Debug, PartialEq, Eq)]
 pub enum Answer {
     /// It is done.

@@ -8,13 +8,15 @@ use Rattle.beep_wires.specs.Log.{Entry}
 use Rattle.beep_link.specs.declared.ended.Ended.{Ended}
 use Rattle.beep_link.specs.Causes.{IsCaused, Keeps, Seen, WhereTold}
 use Rattle.beep_steps.specs.Ends.{reads_of}
-use Rattle.beep_steps.specs.Logs.{IsLawfulOn, Shows, terms_by}
-use Rattle.beep_steps.specs.Scripting.{KeepsScriptOn}
+use Rattle.beep_steps.specs.Logs.{IsLawfulOn, ReadsOnlyGoing, Shows, terms_by}
+use Rattle.beep_steps.specs.Refusing.{GoesUnrefused}
+use Rattle.beep_steps.specs.Scripting.{KeepsAboveOn, KeepsScriptOn}
 use Rattle.beep_steps.specs.Sending.{sender_plan, SendsAll}
+use Rattle.beep_ends.specs.Listening.{listener_plan}
 use Rattle.beep_recorder.specs.Kept.{Recording, RecordsKnown}
-use Rattle.beep_runs.specs.Runs.{IsRecorded, Ran, SentAll}
+use Rattle.beep_runs.specs.Runs.{HasListened, IsRecorded, Ran, SentAll}
 
--- what a log shows of any end it shows of want of memory
+-- what a log shows of any end it shows of one by NoMemory
 starved : (terms : Terms) (cause : Ended) (log : List Entry) → Shows terms cause log → Shows terms Ended.NoMemory log
 starved terms Ended.Released log s = inl s.sound
 starved terms (Ended.Broken rule place) log s = inr s.1
@@ -67,14 +69,40 @@ module _ (role : Role) (settings : Settings) (cause : Ended) (before given used 
     none = none_of;
   }
 
+-- a run that is out of memory says nothing of refusals, and any other says what ended its session
+starved-unrefused : (terms : Terms) (log : Option (List Entry)) → WhereTold (GoesUnrefused terms Ended.NoMemory) log
+starved-unrefused terms None = tt
+starved-unrefused terms (Some log) = tt
+
+goes-unrefused : (terms : Terms) (cause result : Ended) (log : Option (List Entry)) → WhereTold (GoesUnrefused terms cause) log → (result ≡ cause) ⊎ (result ≡ Ended.NoMemory)
+    → WhereTold (GoesUnrefused terms result) log
+goes-unrefused terms cause result log unrefused =
+    ⊎_elim (λ same. subst (λ (e : Ended). WhereTold (GoesUnrefused terms e) log) (sym same) unrefused)
+    (λ short. subst (λ (e : Ended). WhereTold (GoesUnrefused terms e) log) (sym short) (starved-unrefused terms log))
+
 -- what was sent by the end of the session was sent by the end of the run
 pub sent_all : (settings : Settings) (lines : List (List ℕ)) (cause result : Ended) (before used after : Seen) (link : ℕ) → link ≡ before.counts.given → after.state link ≡ record (used.state link) { is_open = false }
     → (cause ≡ Ended.Released → WhereTold (SendsAll (sender_plan settings lines)) (used.state link).log) → WhereTold (KeepsScriptOn (sender_plan settings lines)) (used.state link).log
-    → (result ≡ cause) ⊎ (result ≡ Ended.NoMemory) → SentAll settings lines result before after
-sent_all settings lines cause result before used after link is shut sent above ended = record {
+    → WhereTold (GoesUnrefused (terms_by Role.Initiator settings) cause) (used.state link).log → WhereTold (ReadsOnlyGoing (terms_by Role.Initiator settings)) (used.state link).log → (result ≡ cause) ⊎ (result ≡ Ended.NoMemory) → SentAll settings lines result before after
+sent_all settings lines cause result before used after link is shut sent above unrefused waits ended = record {
   all = λ released. on (SendsAll (sender_plan settings lines)) (⊎_elim (λ same. sent (sym same ∙ released))
       (λ short. absurd (let h : Ended.NoMemory ≡ Ended.Released = sym short ∙ released in cc)) ended);
   above = on (KeepsScriptOn (sender_plan settings lines)) above;
+  unrefused = on (GoesUnrefused (terms_by Role.Initiator settings) result) (goes-unrefused (terms_by Role.Initiator settings) cause result (used.state link).log unrefused ended);
+  waits = on (ReadsOnlyGoing (terms_by Role.Initiator settings)) waits;
+}
+  where
+    on : (P : List Entry → Type 0) → WhereTold P (used.state link).log → WhereTold P (after.state before.counts.given).log
+    on P p = subst (λ (n : ℕ). WhereTold P (after.state n).log) is (subst (λ (l : Link). WhereTold P l.log) (sym shut) p)
+
+-- what a listener kept by the end of its session it kept by the end of the run
+pub has_listened : (settings : Settings) (cause result : Ended) (before used after : Seen) (link : ℕ) → link ≡ before.counts.given → after.state link ≡ record (used.state link) { is_open = false }
+    → WhereTold (KeepsAboveOn (listener_plan settings)) (used.state link).log
+    → WhereTold (GoesUnrefused (terms_by Role.Listener settings) cause) (used.state link).log → WhereTold (ReadsOnlyGoing (terms_by Role.Listener settings)) (used.state link).log → (result ≡ cause) ⊎ (result ≡ Ended.NoMemory) → HasListened settings result before after
+has_listened settings cause result before used after link is shut above unrefused waits ended = record {
+  above = on (KeepsAboveOn (listener_plan settings)) above;
+  unrefused = on (GoesUnrefused (terms_by Role.Listener settings) result) (goes-unrefused (terms_by Role.Listener settings) cause result (used.state link).log unrefused ended);
+  waits = on (ReadsOnlyGoing (terms_by Role.Listener settings)) waits;
 }
   where
     on : (P : List Entry → Type 0) → WhereTold P (used.state link).log → WhereTold P (after.state before.counts.given).log

@@ -11,9 +11,11 @@ use Rattle.beep_settings.specs.declared.settings.Settings.{Settings}
 use Rattle.beep_link.specs.declared.ended.Ended.{Ended}
 use Rattle.beep_link.specs.Causes.{IsCaused, Seen, WhereTold}
 use Rattle.beep_steps.specs.Ends.{reads_of}
-use Rattle.beep_steps.specs.Logs.{IsLawfulOn, Shows, terms_by}
-use Rattle.beep_steps.specs.Scripting.{KeepsScriptOn}
+use Rattle.beep_steps.specs.Logs.{IsLawfulOn, ReadsOnlyGoing, Shows, terms_by}
+use Rattle.beep_steps.specs.Refusing.{GoesUnrefused}
+use Rattle.beep_steps.specs.Scripting.{KeepsAboveOn, KeepsScriptOn}
 use Rattle.beep_steps.specs.Sending.{sender_plan, SendsAll}
+use Rattle.beep_ends.specs.Listening.{listener_plan}
 use Rattle.beep_recorder.specs.Kept.{RecordsLink}
 
 -- what is known of links
@@ -38,13 +40,29 @@ pub record Ran (role : Role) (settings : Settings) (cause : Ended) (before after
   pub others : SameBeside before.counts.given before.state after.state
 
 -- the log of the link that was given shows that all lines were sent, where the session was
--- released, and that above channel zero its script was kept and nothing but it asked on channel
--- zero, whatever ended it
+-- released, that above channel zero its script was kept and nothing but it asked on channel zero,
+-- whatever ended it, that the peer refused nothing where that didn't end it, and that wherever it
+-- read the session went on
 pub record SentAll (settings : Settings) (lines : List (List ℕ)) (cause : Ended)
     (before after : Seen) : Type 0 where
   pub all : cause ≡ Ended.Released
       → WhereTold (SendsAll (sender_plan settings lines)) (after.state before.counts.given).log
   pub above : WhereTold (KeepsScriptOn (sender_plan settings lines))
+      (after.state before.counts.given).log
+  pub unrefused : WhereTold (GoesUnrefused (terms_by Role.Initiator settings) cause)
+      (after.state before.counts.given).log
+  pub waits : WhereTold (ReadsOnlyGoing (terms_by Role.Initiator settings))
+      (after.state before.counts.given).log
+
+-- the log of the link that was given shows that above channel zero the script of a listener was
+-- kept, that the peer refused nothing where that didn't end it, and that wherever it read the
+-- session went on
+pub record HasListened (settings : Settings) (cause : Ended) (before after : Seen) : Type 0 where
+  pub above : WhereTold (KeepsAboveOn (listener_plan settings))
+      (after.state before.counts.given).log
+  pub unrefused : WhereTold (GoesUnrefused (terms_by Role.Listener settings) cause)
+      (after.state before.counts.given).log
+  pub waits : WhereTold (ReadsOnlyGoing (terms_by Role.Listener settings))
       (after.state before.counts.given).log
 
 -- no link was given, for this reason, where the count of such faults was that and is this

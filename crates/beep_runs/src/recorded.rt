@@ -5,7 +5,7 @@ ghost use Rattle.beep_link.specs.declared.ended.Ended.{Ended as EndedValue};
 ghost use Rattle.beep_wires.specs.Links.{accept, dial};
 ghost use Rattle.beep_steps.specs.Ends.{AreFit};
 ghost use Rattle.beep_recorder.specs.Kept.{Recording, RecordsKnown};
-ghost use Rattle.beep_runs.specs.Runs.{AsksThis, IsRecorded, NotGiven, Ran, seen_of, SentAll};
+ghost use Rattle.beep_runs.specs.Runs.{AsksThis, HasListened, IsRecorded, NotGiven, Ran, seen_of, SentAll};
 
 use beep_ends::{Ended, listen_end, send_end};
 use beep_octets::{NoMemory, Octets};
@@ -18,7 +18,7 @@ use std::alloc::Global;
 use std::marker::Brand;
 
 /// Dials, and sends lines over the link, whose record `out` gains. It answers what ended the
-/// session, which is want of memory where the record found no room; else why no link was given.
+/// session, and that memory ran out where the record found no room; else why no link was given.
 pub fn send_recorded<W: Wires>(
     alloc: Global,
     settings: &Settings,
@@ -177,6 +177,11 @@ pub fn listen_recorded<W: Wires>(
         (W.asked wires.old) (W.lent wires.old))
         (seen_of (W.state wires.new) (W.counts wires.new)
         (W.asked wires.new) (W.lent wires.new))) }
+    ensures listened { IfOk result (λ ended. HasListened settings.now ended
+        (seen_of (W.state wires.old) (W.counts wires.old)
+        (W.asked wires.old) (W.lent wires.old))
+        (seen_of (W.state wires.new) (W.counts wires.new)
+        (W.asked wires.new) (W.lent wires.new))) }
     ensures recorded { IfOk result (λ ended. IsRecorded RoleValue.Listener ended
         (seen_of (W.state wires.old) (W.counts wires.old)
         (W.asked wires.old) (W.lent wires.old))
@@ -210,6 +215,11 @@ fn listen_over<W: Wires, K: Known>(
     requires known { K.known
         ≡ Some (record { first = (W.counts wires.old).given; role = RoleValue.Listener }) }
     ensures ran { IfOk result (λ ended. Ran RoleValue.Listener settings.now ended
+        (seen_of (W.state wires.old) (W.counts wires.old)
+        (W.asked wires.old) (W.lent wires.old))
+        (seen_of (W.state wires.new) (W.counts wires.new)
+        (W.asked wires.new) (W.lent wires.new))) }
+    ensures listened { IfOk result (λ ended. HasListened settings.now ended
         (seen_of (W.state wires.old) (W.counts wires.old)
         (W.asked wires.old) (W.lent wires.old))
         (seen_of (W.state wires.new) (W.counts wires.new)
@@ -254,6 +264,11 @@ fn listen_through<W: Wires, K: Known>(
         }) }
     ensures same_reference { recorder.new.wires.ghost_name ≡ recorder.old.wires.ghost_name }
     ensures ran { IfOk result (λ ended. Ran RoleValue.Listener settings.now ended
+        (seen_of (W.state recorder.old.wires.now) (W.counts recorder.old.wires.now)
+        (W.asked recorder.old.wires.now) (W.lent recorder.old.wires.now))
+        (seen_of (W.state recorder.new.wires.now) (W.counts recorder.new.wires.now)
+        (W.asked recorder.new.wires.now) (W.lent recorder.new.wires.now))) }
+    ensures listened { IfOk result (λ ended. HasListened settings.now ended
         (seen_of (W.state recorder.old.wires.now) (W.counts recorder.old.wires.now)
         (W.asked recorder.old.wires.now) (W.lent recorder.old.wires.now))
         (seen_of (W.state recorder.new.wires.now) (W.counts recorder.new.wires.now)

@@ -7,7 +7,7 @@ use Rattle.std.specs.List.{range_with_len}
 use Rattle.beep_schedule.specs.declared.event.End.{End}
 use Rattle.beep_schedule.specs.declared.event.Act.{Act}
 use Rattle.beep_schedule.specs.declared.event.PairEvent.{PairEvent}
-use Rattle.beep_schedule.specs.declared.limits.TheConstants.{MAX_COUNT, REQUESTS, CHANNELS}
+use Rattle.beep_schedule.specs.declared.limits.TheConstants.{MAX_COUNT, MAX_FRAME, REQUESTS, CHANNELS, LENGTHS, LENGTH_STEP, REPLY_LEN, A_PIECE, A_STEP, B_PIECE, B_STEP}
 
 -- the channel of request i: one after another of the first odd numbers
 abbrev pub channel_of : ℕ → ℕ
@@ -15,27 +15,27 @@ channel_of i = 2 * (i % CHANNELS) + 1
 
 -- the length of request i, from 0 to 2,997 octets
 abbrev pub len_of : ℕ → ℕ → ℕ
-len_of seed i = 3 * ((seed + 617 * i) % 1000)
+len_of seed i = 3 * ((seed + LENGTH_STEP * i) % LENGTHS)
 
 abbrev pub fill_of : ℕ → ℕ
 fill_of i = i % 256
 
 -- one drain
 abbrev pub drain : PairEvent
-drain = PairEvent.Drain 4096 4096
+drain = PairEvent.Drain MAX_FRAME B_PIECE
 
 -- the reply to request i, of 16 octets
 abbrev pub reply_to : ℕ → PairEvent
-reply_to i = PairEvent.Do End.B Act.Reply (channel_of i) 16 (fill_of i)
+reply_to i = PairEvent.Do End.B Act.Reply (channel_of i) REPLY_LEN (fill_of i)
 
 -- request i, two frames, two pieces, and what is taken and replied
 abbrev pub request_events : ℕ → ℕ → List PairEvent
 request_events seed i =
     PairEvent.Do End.A Act.Ask (channel_of i) (len_of seed i) (fill_of i)
-    ∷ PairEvent.Send End.A 4096
-    ∷ PairEvent.Send End.B 4096
-    ∷ PairEvent.Get End.B (1 + (seed + 811 * i) % 4096)
-    ∷ PairEvent.Get End.A (1 + (seed + 409 * i) % 512)
+    ∷ PairEvent.Send End.A MAX_FRAME
+    ∷ PairEvent.Send End.B MAX_FRAME
+    ∷ PairEvent.Get End.B (1 + (seed + B_STEP * i) % B_PIECE)
+    ∷ PairEvent.Get End.A (1 + (seed + A_STEP * i) % A_PIECE)
     ∷ PairEvent.Take End.B (channel_of i) MAX_COUNT
     ∷ reply_to i
     ∷ PairEvent.Take End.A (channel_of i) MAX_COUNT

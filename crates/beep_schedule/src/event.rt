@@ -5,7 +5,7 @@
 pub enum End {
     /// The end that opened the link.
     A,
-    /// The other one.
+    /// The end that accepted it.
     B,
 }
 
@@ -35,11 +35,11 @@ pub enum Act {
 pub enum PairEvent {
     /// An end does something.
     Do {
-        /// The end.
+        /// Which end.
         at: End,
         /// What it does.
         act: Act,
-        /// The channel.
+        /// The number of the channel, 0 where the act is one on the session.
         channel: u32,
         /// How many octets its message has.
         len: u32,
@@ -48,23 +48,23 @@ pub enum PairEvent {
     },
     /// An end sends one frame.
     Send {
-        /// The end.
+        /// Which end sends.
         at: End,
         /// The most octets of its payload.
         max: u32,
     },
     /// An end reads the next octets that the other sent.
     Get {
-        /// The end.
+        /// Which end reads.
         at: End,
         /// How many, or all where there are fewer.
         count: u32,
     },
     /// An end takes what arrived on a channel.
     Take {
-        /// The end.
+        /// Which end takes.
         at: End,
-        /// The channel.
+        /// The number of the channel.
         channel: u32,
         /// How many octets, at most.
         count: u32,

@@ -1,21 +1,24 @@
 //! The schedule that a number makes.
 ghost use Rattle.std.specs.Prelude.{◌≡◌, ◌<◌, ◌+◌, ◌*◌, ◌%◌, ◌++◌, ◌∷◌, [], map, flat_map, OnOk, IfOk};
 ghost use Rattle.std.specs.List.{range_with_len};
-ghost use Rattle.beep_schedule.specs.declared.limits.TheConstants.{REQUESTS, CHANNELS, MAX_COUNT};
+ghost use Rattle.beep_schedule.specs.declared.limits.TheConstants.{REQUESTS, CHANNELS, MAX_COUNT, MAX_FRAME, A_PIECE, A_STEP, B_PIECE, B_STEP};
 ghost use Rattle.beep_schedule.specs.declared.event.End.{End as EndValue};
 ghost use Rattle.beep_schedule.specs.declared.event.PairEvent.{PairEvent as EventValue};
 ghost use Rattle.beep_schedule.specs.Events.{AreEvents};
 ghost use Rattle.beep_schedule.specs.Generated.{generated_events, request_events, reply_to as reply_event, bare_of, channel_of as channel_number, drain as drain_event};
 
 use crate::event::{Act, End, PairEvent};
-use crate::limits::{CHANNELS, MAX_COUNT, REQUESTS};
+use crate::limits::{
+    A_PIECE, A_STEP, B_PIECE, B_STEP, CHANNELS, LENGTH_STEP, LENGTHS, MAX_COUNT, MAX_FRAME,
+    REPLY_LEN, REQUESTS,
+};
 use crate::schedule::Schedule;
 use beep_octets::NoMemory;
 use std::alloc::Global;
 
 const DRAIN: PairEvent = PairEvent::Drain {
-    max: 4096,
-    piece: 4096,
+    max: MAX_FRAME,
+    piece: B_PIECE,
 };
 
 /// The schedule that a number makes: eight channels start, a thousand requests and their replies
@@ -88,7 +91,7 @@ fn push_request(schedule: &mut Schedule, seed: u32, i: u32) -> Result<(), NoMemo
         at: End::A,
         act: Act::Ask,
         channel,
-        len: 3 * spread(seed, 617, i, 1000),
+        len: 3 * spread(seed, LENGTH_STEP, i, LENGTHS),
         fill: (i % 256) as u8,
     })?;
     push_sent(schedule)?;
@@ -101,15 +104,15 @@ fn push_request(schedule: &mut Schedule, seed: u32, i: u32) -> Result<(), NoMemo
 
 fn push_sent(schedule: &mut Schedule) -> Result<(), NoMemory>
     ensures { OnOk result (schedule.new ≡ schedule.old
-        ++ EventValue.Send EndValue.A 4096 ∷ EventValue.Send EndValue.B 4096 ∷ []) }
+        ++ EventValue.Send EndValue.A MAX_FRAME ∷ EventValue.Send EndValue.B MAX_FRAME ∷ []) }
 {
     schedule.push(PairEvent::Send {
         at: End::A,
-        max: 4096,
+        max: MAX_FRAME,
     })?;
     schedule.push(PairEvent::Send {
         at: End::B,
-        max: 4096,
+        max: MAX_FRAME,
     })?;
     Ok(())
 }
@@ -117,16 +120,16 @@ fn push_sent(schedule: &mut Schedule) -> Result<(), NoMemory>
 fn push_gets(schedule: &mut Schedule, seed: u32, i: u32) -> Result<(), NoMemory>
     requires few { i < REQUESTS }
     ensures { OnOk result (schedule.new ≡ schedule.old
-        ++ EventValue.Get EndValue.B (1 + (seed + 811 * i) % 4096)
-        ∷ EventValue.Get EndValue.A (1 + (seed + 409 * i) % 512) ∷ []) }
+        ++ EventValue.Get EndValue.B (1 + (seed + B_STEP * i) % B_PIECE)
+        ∷ EventValue.Get EndValue.A (1 + (seed + A_STEP * i) % A_PIECE) ∷ []) }
 {
     schedule.push(PairEvent::Get {
         at: End::B,
-        count: 1 + spread(seed, 811, i, 4096),
+        count: 1 + spread(seed, B_STEP, i, B_PIECE),
     })?;
     schedule.push(PairEvent::Get {
         at: End::A,
-        count: 1 + spread(seed, 409, i, 512),
+        count: 1 + spread(seed, A_STEP, i, A_PIECE),
     })?;
     Ok(())
 }
@@ -155,7 +158,7 @@ fn reply_to(i: u32) -> PairEvent
         at: End::B,
         act: Act::Reply,
         channel: channel_of(i),
-        len: 16,
+        len: REPLY_LEN,
         fill: (i % 256) as u8,
     }
 }

@@ -12,13 +12,9 @@ mod desks;
 pub mod laws;
 mod lines_heard;
 mod refusals;
-#[cfg(test)]
-mod sample;
 mod scripts;
 mod settled;
 mod standing_now;
-#[cfg(test)]
-mod story;
 
 pub use desks::desk;
 pub use lines_heard::{entries, lines};

@@ -138,6 +138,3 @@ pub fn lines(alloc: Global, plan: &Plan, journal: &[JournalItem]) -> Result<Octe
     put_lines(&list, 0, &mut out)?;
     Ok(out)
 }
-
-#[cfg(test)]
-mod tests;

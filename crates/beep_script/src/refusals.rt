@@ -132,6 +132,3 @@ pub fn refusal(
         },
     }
 }
-
-#[cfg(test)]
-mod tests;

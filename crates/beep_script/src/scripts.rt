@@ -97,6 +97,3 @@ pub(crate) fn unsent_may_go(
     let messages = script(alloc, plan, number, count, journal)?;
     Ok(may_go(&messages, mark_count(Side::Sent, &past), open_octets))
 }
-
-#[cfg(test)]
-mod tests;

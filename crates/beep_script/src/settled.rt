@@ -69,6 +69,3 @@ pub fn is_settled(alloc: Global, plan: &Plan, journal: &[JournalItem]) -> Result
     let numbers = live_numbers(alloc, journal)?;
     Ok(is_settled_at(alloc, plan, journal, 0)? && are_settled(alloc, plan, journal, &numbers)?)
 }
-
-#[cfg(test)]
-mod tests;

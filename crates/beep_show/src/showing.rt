@@ -6,7 +6,7 @@ ghost use Rattle.beep_show.specs.Listing.{Reads};
 ghost use Rattle.beep_show.specs.Passing.{Passes, Goes};
 ghost use Rattle.beep_show.specs.Show.{Shown, run_of};
 ghost use Rattle.beep_words.specs.declared.command.ShowSettings.{ShowSettings as settings_type};
-ghost use Rattle.beep_words.specs.declared.options.TheConstants.{MAX_NUMBER};
+ghost use Rattle.beep_words.specs.declared.options.TheConstants.{MAX_SETTING};
 
 use crate::ending::{Ending, append_last};
 use crate::listing::{Listed, Lister, PIECE};
@@ -41,7 +41,7 @@ pub fn show<I: Source, O: Sink>(
 /// Writes the last line of an ending, and answers the status.
 fn finish<O: Sink>(lister: &mut Lister, ending: Ending, output: &mut O) -> u8
     ensures finishes { (settings : settings_type) (from to : SourceState) (before : SinkState)
-        → settings.octets ≤ MAX_NUMBER → before.faults ≤ (O.state output.old).faults
+        → settings.octets ≤ MAX_SETTING → before.faults ≤ (O.state output.old).faults
         → Goes ending settings lister.old from to before (O.state output.old)
         → Shown settings result (run_of from to before (O.state output.new)) }
     ensures answers { result ≡ 7 → ending ≡ Ending.NoMemory }

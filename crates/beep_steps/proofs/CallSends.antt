@@ -29,6 +29,7 @@ use Rattle.beep_hearing.specs.Hears.{Hears}
 use Rattle.beep_giving.specs.Giving.{next_message}
 use Rattle.beep_peer.specs.declared.peer.Peer.{Peer}
 use Rattle.beep_peer.specs.Acts.{IsUnchanged}
+use Rattle.beep_peer.proofs.LetLemmas.{left-words}
 use Rattle.beep_peer.specs.Calls.{GivesFirst, words_of}
 use Rattle.beep_peer.specs.Peering.{IsPeer}
 use Rattle.beep_peer.specs.Waiting.{AreGiven}
@@ -113,7 +114,7 @@ first-none given now answers peer none whole g =
     ap (requests_from []) g.given_is ∙ after-whole (given 0) (marks_of g.messages) whole
     ∙ ap (λ (ts : List (List ℕ)). requests_from [] (given 0) ++ ts)
     (no-requests g.messages (messages-none g.messages g.gone g.are
-    (front-none g.gone peer.management.answers (ap (list_any (λ a. is_msg a.kind)) (sym g.split) ∙ kinds-none g.now answers g.same ∙ none))))
+    (front-none g.gone peer.management.answers (ap (list_any (λ a. is_msg a.kind)) (sym g.split) ∙ kinds-none g.now answers (left-words peer.lives answers g.now g.left) ∙ none))))
     ∙ append-nil (requests_from [] (given 0))
 
 -- where a channel is live some life has begun

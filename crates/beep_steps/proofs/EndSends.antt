@@ -192,15 +192,15 @@ module _ (plan : PlainPlan) (p : Progress) (count : ℕ) (bytes : List ℕ) (old
 
 -- what stops it within a read
 pub tells-stop : (plan : PlainPlan) (p : Progress) (session : Held) (log : List Entry) (octets : List ℕ) (stop : Stop) → plan.terms ≡ terms_of session → SendsOn plan p session (moments log)
-    → StopsSending plan stop (got_all octets (moments log)) → RefusesOn (terms_of session) stop (got_all octets (moments log)) → TellsSent plan (ended_by stop) (read octets ∷ log)
-tells-stop plan p session log octets stop same s h r = of stop h r
+    → ShowsNoRefusal (terms_of session) (moments log) → StopsSending plan stop (got_all octets (moments log)) → RefusesOn (terms_of session) stop (got_all octets (moments log)) → TellsSent plan (ended_by stop) (read octets ∷ log)
+tells-stop plan p session log octets stop same s none h r = of stop h r
   where
     shown : (stop : Stop) → StopsOn (terms_of session) stop (got_all octets (moments log)) → RefusesOn (terms_of session) stop (got_all octets (moments log))
         → Shows plan.terms (ended_by stop) (read octets ∷ log)
     shown stop k r = subst (λ (t : Terms). Shows t (ended_by stop) (read octets ∷ log)) (sym same) (stopped-on session log s.on octets stop k r)
 
     goes : (stop : Stop) → RefusesOn (terms_of session) stop (got_all octets (moments log)) → GoesUnrefused plan.terms (ended_by stop) (read octets ∷ log)
-    goes stop r = subst (λ (t : Terms). GoesUnrefused t (ended_by stop) (read octets ∷ log)) (sym same) (stop-refuses (terms_of session) stop log octets r)
+    goes stop r = subst (λ (t : Terms). GoesUnrefused t (ended_by stop) (read octets ∷ log)) (sym same) (stop-refuses (terms_of session) stop log octets none r)
 
     of : (stop : Stop) → StopsSending plan stop (got_all octets (moments log)) → RefusesOn (terms_of session) stop (got_all octets (moments log)) → TellsSent plan (ended_by stop) (read octets ∷ log)
     of Stop.Released h r = let sent = h (subst (λ (t : Terms). ShowsNoRefusal t (got_all octets (moments log))) (sym same) r) in record {
@@ -211,8 +211,8 @@ tells-stop plan p session log octets stop same s h r = of stop h r
     of (Stop.Broken rule place) h r = record {
       shows = shown (Stop.Broken rule place) (subst (λ (t : Terms). ShowsFault t rule place (got_all octets (moments log))) same h) tt;
       sent = λ is. absurd (cc is);
-      unrefused = tt;
+      unrefused = goes (Stop.Broken rule place) tt;
     }
-    of Stop.WriteFault h r = record { shows = shown Stop.WriteFault tt tt; sent = λ is. absurd (cc is); unrefused = tt }
+    of Stop.WriteFault h r = record { shows = shown Stop.WriteFault tt tt; sent = λ is. absurd (cc is); unrefused = goes Stop.WriteFault tt }
     of Stop.NoMemory h r = record { shows = shown Stop.NoMemory tt tt; sent = λ is. absurd (cc is); unrefused = tt }
-    of (Stop.Refused code) h r = record { shows = shown (Stop.Refused code) tt r; sent = λ is. absurd (cc is); unrefused = tt }
+    of (Stop.Refused code) h r = record { shows = shown (Stop.Refused code) tt r; sent = λ is. absurd (cc is); unrefused = goes (Stop.Refused code) r }

@@ -43,7 +43,7 @@ stays-where : (b : Bool) (octet : ℕ) (past : Past) → b ≡ false → TakesWh
 stays-where true octet past e = absurd (let h : true ≡ false = e in cc)
 stays-where false octet past e = refl
 
--- octets that are read behind it change nothing
+-- octets that are read after it change nothing
 stuck-gots : (past : Past) (f : Fault) → past.fault ≡ Some f → (octets : List ℕ) (log : List Moment) → Shows none_tunes log past → Shows none_tunes (got_all octets log) past
 stuck-gots past f e [] log s = s
 stuck-gots past f e (octet ∷ octets) log s =

@@ -69,7 +69,7 @@ module _ (session : Held) (log : List Moment) (s : StandsOn session log) where
     released = ap is_released s.logged.shown.journal_is ∙ e;
   }
 
-  -- octets that come behind the release
+  -- octets that come after the release
   pub release-goes-on : (octets : List ℕ) → is_released s.journal ≡ true → ShowsRelease (terms_of session) (got_all octets log)
   release-goes-on octets e =
       let l = released-gots (terms_of session) s.rest octets s.journal log e s.logged in
@@ -108,7 +108,7 @@ got-more at n bytes log =
 pub got-last : (at : ℕ) (bytes : List ℕ) (log : List Moment) → got_all (take (length bytes - at) (drop at bytes)) (got_all (take at bytes) log) ≡ got_all bytes log
 got-last at bytes log = ap (λ (x : List ℕ). got_all x (got_all (take at bytes) log)) (take_rest bytes at) ∙ got-rest at bytes log
 
--- what is read behind a stop changes nothing of it
+-- what is read after a stop changes nothing of it
 pub fault-goes-on : (terms : Terms) (rule : Rule) (place : ℕ) (octets : List ℕ) (log : List Moment) → ShowsFault terms rule place log → ShowsFault terms rule place (got_all octets log)
 fault-goes-on terms rule place octets log f = record { octet = f.octet; place_is = f.place_is; broken = broken-gots terms rule f.octet octets log f.broken }
 

@@ -288,10 +288,10 @@ module _ (bytes : List ℕ) (old : Held) (log : List Moment) (s : StandsOn old l
 -- ---- what stops it
 
 -- a stop in a read
-pub stop-refuses : (terms : Terms) (stop : Stop) (log : List Entry) (octets : List ℕ) → RefusesOn terms stop (got_all octets (moments log))
+pub stop-refuses : (terms : Terms) (stop : Stop) (log : List Entry) (octets : List ℕ) → ShowsNoRefusal terms (moments log) → RefusesOn terms stop (got_all octets (moments log))
     → GoesUnrefused terms (ended_by stop) (read octets ∷ log)
-stop-refuses terms Stop.Released log octets r = r
-stop-refuses terms (Stop.Broken rule place) log octets r = tt
-stop-refuses terms Stop.WriteFault log octets r = tt
-stop-refuses terms Stop.NoMemory log octets r = tt
-stop-refuses terms (Stop.Refused code) log octets r = tt
+stop-refuses terms Stop.Released log octets none r = r
+stop-refuses terms (Stop.Broken rule place) log octets none r = none
+stop-refuses terms Stop.WriteFault log octets none r = none
+stop-refuses terms Stop.NoMemory log octets none r = tt
+stop-refuses terms (Stop.Refused code) log octets none r = none

@@ -42,6 +42,7 @@ use Rattle.beep_management.specs.Manages.{Manages}
 use Rattle.beep_management.specs.declared.wait.Wait.{Wait}
 use Rattle.beep_management.specs.Managed.{Prepared}
 use Rattle.beep_peer.specs.declared.peer.Peer.{Peer}
+use Rattle.beep_peer.proofs.LetLemmas.{left-words}
 use Rattle.beep_peer.specs.Calls.{Begins, GivesFirst, words_of}
 use Rattle.beep_peer.specs.Waiting.{AreGiven}
 use Rattle.beep_session.specs.Session.{Held}
@@ -130,7 +131,7 @@ module _ (uri : List ℕ) where
       all : (list_any (λ answer. chooses_other uri answer.octets) g.gone || list_any (λ answer. chooses_other uri answer.octets) peer.management.answers) ≡ false
       all =
           sym (list_any-append (λ answer. chooses_other uri answer.octets) g.gone peer.management.answers)
-          ∙ ap (list_any (λ answer. chooses_other uri answer.octets)) (sym g.split) ∙ words-other g.now answers g.same ∙ s.none_later
+          ∙ ap (list_any (λ answer. chooses_other uri answer.octets)) (sym g.split) ∙ words-other g.now answers (left-words peer.lives answers g.now g.left) ∙ s.none_later
 
   -- one more answer, which says no other profile
   pub more-serves : (given : List Mark) (answers : List Prepared) (answer : Prepared) → chooses_other uri answer.octets ≡ false → Serves uri given answers

@@ -33,7 +33,7 @@ use Rattle.beep_talk.specs.Talk.{ready, refusal, reply_of}
 use Rattle.beep_script.specs.Script.{message_marks}
 use Rattle.beep_replies.specs.Replies.{first_said, replies}
 use Rattle.beep_replies.proofs.SaidLemmas.{next-reply}
-use Rattle.beep_steps.specs.Speaking.{Notes, asked_now, told_marks, IsBorn, IsSaid, SpeaksSo, AreNoted, SpeaksOn, KeepsSpeaking}
+use Rattle.beep_steps.specs.Speaking.{Notes, asked_now, modulo_marks, IsBorn, IsSaid, SpeaksSo, AreNoted, SpeaksOn, KeepsSpeaking}
 use Rattle.beep_steps.proofs.CallLemmas.{on-so}
 use Rattle.beep_steps.proofs.SpeakCalls.{peer-speaking, same-speaking}
 use Rattle.beep_steps.proofs.SpeakLives.{no-answers, one-reply, said-ends}
@@ -45,10 +45,10 @@ told-octets tag [] ms = refl
 told-octets tag (o ∷ os) ms = ap (λ (rest : List Mark). octet (modulo_2_64 tag) o ∷ rest) (told-octets tag os ms)
 
 -- one message as calls tell it
-pub one-told : (m : Message) → told_marks (m ∷ []) ≡ given_marks (record { tag = modulo_2_64 m.tag; octets = m.content })
+pub one-told : (m : Message) → modulo_marks (m ∷ []) ≡ given_marks (record { tag = modulo_2_64 m.tag; octets = m.content })
 one-told m = ap (map mark_modulo_2_64) (append-nil (message_marks m)) ∙ told-octets m.tag m.content (end m.tag ∷ [])
 
-told-append : (xs ys : List Message) → told_marks (xs ++ ys) ≡ told_marks xs ++ told_marks ys
+told-append : (xs ys : List Message) → modulo_marks (xs ++ ys) ≡ modulo_marks xs ++ modulo_marks ys
 told-append xs ys = ap (map mark_modulo_2_64) (flat_map-append message_marks xs ys) ∙ map-append mark_modulo_2_64 (flat_map message_marks xs) (flat_map message_marks ys)
 
 -- ---- a refusal
@@ -65,9 +65,9 @@ module _ (plan : PlainPlan) (listens : plan.command ≡ Command.Listen) where
     given_is =
         ap (λ (k : ℕ). given ++ given_marks (record { tag = refusal-as (count_modulo k) 0; octets = message_text (fault 550 (note_of 550)) })) count-is
         ∙ ap (λ (ms : List Mark). ms ++ given_marks (record { tag = refusal-as (count_modulo s.count) 0; octets = message_text (fault 550 (note_of 550)) })) s.given_is
-        ∙ ap (λ (ms : List Mark). told_marks (first ++ replies plan 0 s.count) ++ ms) (sym (one-told (refusal s.count)))
+        ∙ ap (λ (ms : List Mark). modulo_marks (first ++ replies plan 0 s.count) ++ ms) (sym (one-told (refusal s.count)))
         ∙ sym (told-append (first ++ replies plan 0 s.count) (refusal s.count ∷ []))
-        ∙ ap told_marks (append_assoc first (replies plan 0 s.count) (refusal s.count ∷ []) ∙ ap (λ (ms : List Message). first ++ ms) (sym next));
+        ∙ ap modulo_marks (append_assoc first (replies plan 0 s.count) (refusal s.count ∷ []) ∙ ap (λ (ms : List Message). first ++ ms) (sym next));
   }
     where
       first : List Message

@@ -20,7 +20,7 @@ use Rattle.beep_exchange.specs.Given.{ends_reply}
 use Rattle.beep_inbox.specs.Runs.{marks_of as untaken_marks}
 use Rattle.beep_outbox.specs.Queue.{marks_of as unsent_marks}
 use Rattle.beep_channel.specs.Held.{Live}
-use Rattle.beep_channel.specs.Stands.{Stands, ends_of, answers_after, answers_told, answers_with}
+use Rattle.beep_channel.specs.Stands.{Stands, ends_of, answers_after, answer_number, answers_with}
 use Rattle.beep_channel.proofs.CountedLemmas.{ends-append}
 use Rattle.beep_lives.specs.Lives.{live_at}
 use Rattle.beep_standing.specs.Standing.{Marks, AreLiveBy}
@@ -34,7 +34,7 @@ use Rattle.beep_served.specs.Served.{HaveProfile}
 use Rattle.beep_replies.specs.Replies.{first_said, replies, requests_passed, ends_msg}
 use Rattle.beep_replies.proofs.SaidLemmas.{next-reply, said}
 use Rattle.beep_replies.proofs.StayLemmas.{script-is}
-use Rattle.beep_steps.specs.Speaking.{IsSaid, told_marks}
+use Rattle.beep_steps.specs.Speaking.{IsSaid, modulo_marks}
 use Rattle.beep_steps.proofs.SpeakSteps.{ToldAt, live-life}
 
 -- ---- ends among marks
@@ -112,7 +112,7 @@ module _ (plan : PlainPlan) (listens : plan.command ≡ Command.Listen) where
       omega (arith, split, one, others)
 
   -- so many replies were given
-  pub said-ends : (n c count : ℕ) (journal : List Item) → ends_of ends_reply (told_marks (first_said plan n c journal ++ replies plan 0 count)) ≡ count
+  pub said-ends : (n c count : ℕ) (journal : List Item) → ends_of ends_reply (modulo_marks (first_said plan n c journal ++ replies plan 0 count)) ≡ count
   said-ends n c count journal =
       let front = first_said plan n c journal in
       let split = ends-modulo ends_reply (flat_map message_marks (front ++ replies plan 0 count)) ∙ ap (ends_of ends_reply) (flat_map-append message_marks front (replies plan 0 count))
@@ -187,10 +187,10 @@ module _ (plan : PlainPlan) (listens : plan.command ≡ Command.Listen) (size : 
 
   pub given-told : HaveProfile plan.raw_uri journal → IsSaid plan (first_said plan n k journal) (given n) → ToldAt plan n k journal
   given-told have s = record {
-    rest = unsent_marks channel-at.0.held.queue ++ told_marks more.rest;
-    whole_is = ap (map mark_modulo_2_64) (script-is plan n k journal above) ∙ ap told_marks talk-is ∙ split
-        ∙ ap (λ (ms : List Mark). ms ++ told_marks more.rest) (sym s.given_is ∙ all-given)
-        ∙ append_assoc (map mark_modulo_2_64 (marks Side.Sent (life n k journal))) (unsent_marks channel-at.0.held.queue) (told_marks more.rest);
+    rest = unsent_marks channel-at.0.held.queue ++ modulo_marks more.rest;
+    whole_is = ap (map mark_modulo_2_64) (script-is plan n k journal above) ∙ ap modulo_marks talk-is ∙ split
+        ∙ ap (λ (ms : List Mark). ms ++ modulo_marks more.rest) (sym s.given_is ∙ all-given)
+        ∙ append_assoc (map mark_modulo_2_64 (marks Side.Sent (life n k journal))) (unsent_marks channel-at.0.held.queue) (modulo_marks more.rest);
   }
     where
       first : List Message
@@ -208,7 +208,7 @@ module _ (plan : PlainPlan) (listens : plan.command ≡ Command.Listen) (size : 
           (have n k (live-life n journal above there).first (live-life n journal above there).begun)
           ∙ ap (λ (ms : List Message). first ++ ms) more.whole_is ∙ sym (append_assoc first (replies plan 0 s.count) more.rest)
 
-      split : told_marks ((first ++ replies plan 0 s.count) ++ more.rest) ≡ told_marks (first ++ replies plan 0 s.count) ++ told_marks more.rest
+      split : modulo_marks ((first ++ replies plan 0 s.count) ++ more.rest) ≡ modulo_marks (first ++ replies plan 0 s.count) ++ modulo_marks more.rest
       split =
           ap (map mark_modulo_2_64) (flat_map-append message_marks (first ++ replies plan 0 s.count) more.rest)
           ∙ map-append mark_modulo_2_64 (flat_map message_marks (first ++ replies plan 0 s.count)) (flat_map message_marks more.rest)
@@ -289,4 +289,4 @@ module _ (plan : PlainPlan) (listens : plan.command ≡ Command.Listen) where
     where
       of : (o : Option Live) → live_at n channels ≡ o → answers_of o ≡ None
       of None at = refl
-      of (Some channel) at = (counted-above size n journal given taken channels channel above live at).answers ∙ ap answers_told (said-plain n c journal (given n) s)
+      of (Some channel) at = (counted-above size n journal given taken channels channel above live at).answers ∙ ap answer_number (said-plain n c journal (given n) s)

@@ -26,6 +26,7 @@ use Rattle.beep_talk.specs.declared.plan.Command.{Command}
 use Rattle.beep_script.specs.Refused.{refusal}
 use Rattle.beep_settings.specs.declared.settings.Settings.{Settings}
 use Rattle.beep_wires.specs.Log.{Entry, read, wrote, quiet, ended}
+use Rattle.beep_link.specs.Causes.{ReadsWhere}
 use Rattle.beep_link.specs.declared.ended.Ended.{Ended}
 use Rattle.beep_link.specs.declared.ended.Stop.{Stop}
 use Rattle.beep_steps.specs.declared.hearing.Came.{Came}
@@ -76,6 +77,11 @@ ShowsRefused terms code log = (past : Past) → ShowsPast none_tunes log past
 pub record ShowsGoing (terms : Terms) (log : List Moment) : Type 0 where
   pub sound : IsSound terms log
   pub unreleased : is_released sound.past.journal ≡ false
+
+-- wherever the log of a link shows a read, the session that it shows up to there went on: no rule
+-- was broken, and it wasn't released
+abbrev pub ReadsOnlyGoing : Terms → List Entry → Type 0
+ReadsOnlyGoing terms log = ReadsWhere (λ before. ShowsGoing terms (moments before)) log
 
 -- the same, and so many octets modulo 2^64 of a frame that isn't whole
 pub record ShowsCut (terms : Terms) (left : ℕ) (log : List Moment) : Type 0 where

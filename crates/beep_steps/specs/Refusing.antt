@@ -1,7 +1,7 @@
 -- What shows that the peer refused an end: the first refusal of the journal, by what is settled
 -- (RFC 3080, sections 2.3.1.1 to 2.3.1.3).
 -- The code keeps neither a journal nor a refusal: it ends at the first.
-use Rattle.std.specs.Prelude.{◌≡◌, ℕ, ◌==◌, nat_le, Bool, not, ◌&&◌, ◌||◌, if◌then◌else◌, List, Option, None, Some}
+use Rattle.std.specs.Prelude.{◌≡◌, ℕ, ◌==◌, nat_le, Bool, not, ◌&&◌, ◌||◌, if◌then◌else◌, List, [], ◌∷◌, Option, None, Some}
 use Rattle.beep_frame.specs.Frame.{is_msg}
 use Rattle.beep_history.specs.Journal.{Item}
 use Rattle.beep_journal.specs.Broken.{none_tunes}
@@ -107,15 +107,21 @@ abbrev pub ShowsNoRefusal : Terms → List Moment → Type 0
 ShowsNoRefusal terms log = (past : Past) → ShowsPast none_tunes log past
     → refusal (command_of terms.role) past.journal ≡ None
 
+-- before its latest entry the log of a link shows that the peer refused nothing
+abbrev pub UnrefusedBefore : Terms → List Entry → Type 0
+UnrefusedBefore terms [] = Unit {0}
+UnrefusedBefore terms (entry ∷ log) = ShowsNoRefusal terms (moments log)
+
 -- where an end was released, its link came to its end, or the settings ended it, the peer refused
--- nothing
+-- nothing; where a rule was broken, it was refused or a write of its output failed, nothing before
+-- the latest read
 abbrev pub GoesUnrefused : Terms → Ended → List Entry → Type 0
 GoesUnrefused terms Ended.Released log = ShowsNoRefusal terms (moments log)
-GoesUnrefused terms (Ended.Broken rule place) log = Unit {0}
-GoesUnrefused terms Ended.WriteFault log = Unit {0}
+GoesUnrefused terms (Ended.Broken rule place) log = UnrefusedBefore terms log
+GoesUnrefused terms Ended.WriteFault log = UnrefusedBefore terms log
 GoesUnrefused terms Ended.WireFault log = Unit {0}
 GoesUnrefused terms Ended.NoMemory log = Unit {0}
-GoesUnrefused terms (Ended.Refused code) log = Unit {0}
+GoesUnrefused terms (Ended.Refused code) log = UnrefusedBefore terms log
 GoesUnrefused terms (Ended.Cut left) log = ShowsNoRefusal terms (moments log)
 GoesUnrefused terms (Ended.Idle count) log = ShowsNoRefusal terms (moments log)
 GoesUnrefused terms (Ended.Spent count) log = ShowsNoRefusal terms (moments log)

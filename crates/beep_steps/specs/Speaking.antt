@@ -68,13 +68,13 @@ noted_by settled notes = record notes { leaving = closes_all settled || notes.le
 -- ---- what was given in a life
 
 -- the marks of messages, as calls tell them
-abbrev pub told_marks : List Message → List Mark
-told_marks messages = map mark_modulo_2_64 (flat_map message_marks messages)
+abbrev pub modulo_marks : List Message → List Mark
+modulo_marks messages = map mark_modulo_2_64 (flat_map message_marks messages)
 
 -- it is what is asked first, and then the replies to so many requests
 pub record IsSaid (plan : PlainPlan) (first : List Message) (given : List Mark) : Type 0 where
   pub count : ℕ
-  pub given_is : given ≡ told_marks (first ++ replies plan 0 count)
+  pub given_is : given ≡ modulo_marks (first ++ replies plan 0 count)
 
 -- what passed in each life above channel zero is the beginning of its script, as calls tell marks
 abbrev pub KeepsTold : PlainPlan → List Item → Type 0

@@ -4,6 +4,7 @@
 use Rattle.std.specs.Prelude.{◌≡◌, ℕ, ◌==◌, Bool, false, ◌&&◌, if◌then◌else◌, List, [], ◌∷◌, ◌++◌, length, map, ◌≤◌, ◌<◌, Some}
 use Rattle.std.specs.List.{list_any}
 use Rattle.beep_frame.specs.declared.head.Head.{Head}
+use Rattle.beep_frame.specs.declared.head.TheConstants.{MAX_NUMBER}
 use Rattle.beep_history.specs.declared.journal.Side.{Side}
 use Rattle.beep_history.specs.Journal.{Item, began, passed, told, same_side}
 use Rattle.beep_history.specs.Marks.{Mark, frame_marks, mark_modulo_2_64, tag_of}
@@ -94,7 +95,7 @@ pub record CameFrame (number : ℕ) (old new : Held) (journal : List Item) (afte
   pub came : Came gained journal before
   pub channel : head.channel ≡ number
   pub above : (head.channel == 0) ≡ false
-  pub framed : length payload ≤ 2147483647
+  pub framed : length payload ≤ MAX_NUMBER
   pub untaken : AreTaken old
       → IsUntaken head.channel (map mark_modulo_2_64 (arrived_marks head payload before)) new
 

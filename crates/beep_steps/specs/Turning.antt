@@ -109,18 +109,42 @@ spends_on session log (Ended.Cut left) is going s = absurd is
 spends_on session log (Ended.Idle count) is going s = going_on session log going s
 spends_on session log (Ended.Spent count) is going s = going_on session log going s
 
+-- it isn't that of a stop within a read
+abbrev pub IsCalm : Ended → Type 0
+IsCalm Ended.Released = Unit {0}
+IsCalm (Ended.Broken rule place) = ⊥
+IsCalm Ended.WriteFault = ⊥
+IsCalm Ended.WireFault = Unit {0}
+IsCalm Ended.NoMemory = Unit {0}
+IsCalm (Ended.Refused code) = ⊥
+IsCalm (Ended.Cut left) = Unit {0}
+IsCalm (Ended.Idle count) = Unit {0}
+IsCalm (Ended.Spent count) = Unit {0}
+
+pub calm_reads : (cause : Ended) → IsOfReads cause → IsCalm cause
+calm_reads Ended.Released is = absurd is
+calm_reads (Ended.Broken rule place) is = absurd is
+calm_reads Ended.WriteFault is = absurd is
+calm_reads Ended.WireFault is = absurd is
+calm_reads Ended.NoMemory is = absurd is
+calm_reads (Ended.Refused code) is = absurd is
+calm_reads (Ended.Cut left) is = absurd is
+calm_reads (Ended.Idle count) is = tt
+calm_reads (Ended.Spent count) is = tt
+
 -- each cause says what it does of an end that the peer refused nothing
 pub none_refused : (terms : Terms) (closing : Bool) (cause : Ended) (log : List Entry)
-    → IsUnrefused (command_of terms.role) closing (moments log) → GoesUnrefused terms cause log
-none_refused terms closing Ended.Released log u = λ past shows. (u past shows).none
-none_refused terms closing (Ended.Broken rule place) log u = tt
-none_refused terms closing Ended.WriteFault log u = tt
-none_refused terms closing Ended.WireFault log u = tt
-none_refused terms closing Ended.NoMemory log u = tt
-none_refused terms closing (Ended.Refused code) log u = tt
-none_refused terms closing (Ended.Cut left) log u = λ past shows. (u past shows).none
-none_refused terms closing (Ended.Idle count) log u = λ past shows. (u past shows).none
-none_refused terms closing (Ended.Spent count) log u = λ past shows. (u past shows).none
+    → IsCalm cause → IsUnrefused (command_of terms.role) closing (moments log)
+    → GoesUnrefused terms cause log
+none_refused terms closing Ended.Released log calm u = λ past shows. (u past shows).none
+none_refused terms closing (Ended.Broken rule place) log calm u = absurd calm
+none_refused terms closing Ended.WriteFault log calm u = absurd calm
+none_refused terms closing Ended.WireFault log calm u = tt
+none_refused terms closing Ended.NoMemory log calm u = tt
+none_refused terms closing (Ended.Refused code) log calm u = absurd calm
+none_refused terms closing (Ended.Cut left) log calm u = λ past shows. (u past shows).none
+none_refused terms closing (Ended.Idle count) log calm u = λ past shows. (u past shows).none
+none_refused terms closing (Ended.Spent count) log calm u = λ past shows. (u past shows).none
 
 -- a fault of the link says nothing of it
 pub faults_refused : (terms : Terms) (cause : Ended) (log : List Entry) → IsOfFaults cause
@@ -139,9 +163,9 @@ faults_refused terms (Ended.Spent count) log is = absurd is
 
 module _ (plan : PlainPlan) (progress : Progress) (session : Held) where
   -- an initiator was told to send
-  as_told : session.role ≡ Role.Initiator → (closing : Bool) (log : List Moment)
+  as_shown : session.role ≡ Role.Initiator → (closing : Bool) (log : List Moment)
       → IsUnrefused Command.Send closing log → IsUnrefused (command_of session.role) closing log
-  as_told role closing log u =
+  as_shown role closing log u =
       subst (λ (c : Command). IsUnrefused c closing log) (sym (ap command_of role)) u
 
   pub writes_sending : (log : List Entry) (front octets : List ℕ)
@@ -188,8 +212,8 @@ module _ (plan : PlainPlan) (progress : Progress) (session : Held) where
         (spends_on session log cause is going s.on);
     sent = λ released. absurd (subst IsOfReads released is);
     unrefused = subst (λ (t : Terms). GoesUnrefused t cause log) same
-        (none_refused (terms_of session) closing cause log
-        (as_told s.sender.role closing (moments log) u));
+        (none_refused (terms_of session) closing cause log (calm_reads cause is)
+        (as_shown s.sender.role closing (moments log) u));
   }
 
 -- ---- a listener

@@ -11,7 +11,7 @@ use beep_octets::{NoMemory, Octets};
 pub struct Message {
     /// What each octet and the end are marked with.
     pub tag: Tag,
-    /// The octets.
+    /// Its octets, without those of frames.
     pub content: Octets,
 }
 

@@ -116,14 +116,14 @@ impl Words {
         Words::new(alloc, Mgmt::Chosen { profile })
     }
 
-    /// The value.
+    /// What the message says.
     pub fn form(&self) -> &Mgmt
         ensures { form_of result.now ≡ self.now }
     {
         &self.form
     }
 
-    /// The octets.
+    /// The octets of the message that says it.
     pub fn text(&self) -> &[u8]
         ensures { result.now ≡ message_text self.now }
     {

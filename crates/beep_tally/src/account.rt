@@ -7,9 +7,9 @@ use beep_schedule::End;
 /// Octets and ends of messages, modulo 2^64.
 #[derive(Clone, Copy, Debug, PartialEq, Eq)]
 pub struct Count {
-    /// The octets.
+    /// The octets of messages.
     pub octets: u64,
-    /// The ends.
+    /// The messages that have ended.
     pub ends: u64,
 }
 

@@ -70,9 +70,9 @@ pub enum Mode {
     Slash,
     /// In the name of an attribute.
     Attr,
-    /// Behind the name of an attribute and white space.
+    /// After the name of an attribute and white space.
     Equals,
-    /// Behind the `=` of an attribute.
+    /// After the `=` of an attribute.
     Quote,
     /// In a value between two of this quote.
     Value(u8, Part),
@@ -84,7 +84,7 @@ pub enum Mode {
     Section(u8, Part),
     /// After `</` and so many octets of the name.
     Closing(usize),
-    /// Behind the name of an end tag and white space.
+    /// After the name of an end tag and white space.
     Closed,
     /// After the outermost element.
     Trail,

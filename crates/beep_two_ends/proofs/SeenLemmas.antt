@@ -52,7 +52,7 @@ or-right-true : (a b : Bool) → b ≡ true → (a || b) ≡ true
 or-right-true true b e = refl
 or-right-true false b e = e
 
--- a request at or behind a place is among the newest
+-- a request at or after a place is among the newest
 has-found : (n oldest : ℕ) (rs : List Request) (r : Request) → IsNumbered rs → find (λ x. x.number == n) rs ≡ Some r → oldest ≤ r.position
     → has n (take (length rs - oldest) (map (λ (x : Request). x.number) rs)) ≡ true
 has-found n oldest [] r numbered found least = cc
@@ -80,7 +80,7 @@ other-number n m (x ∷ ns) none some = other-number-by (other-number n m ns) (x
     other-number-by later false e true f none' some' = grind (arith, nat_tests)
     other-number-by later false e false f none' some' = later none' some'
 
--- what is found at or behind a place stays found behind newer requests, where the numbers from that place on are apart
+-- what is found at or after a place stays found after newer requests, where the numbers from that place on are apart
 pub find-behind : (n oldest : ℕ) (newer rs : List Request) (r : Request) → IsNumbered (newer ++ rs) → IsNumbered rs
     → find (λ x. x.number == n) rs ≡ Some r → oldest ≤ r.position
     → IsApartFirst (length (newer ++ rs) - oldest) (map (λ (x : Request). x.number) (newer ++ rs))

@@ -39,11 +39,11 @@ acknowledged (passed by head payload ∷ past) = acknowledged past
 acknowledged (told by seq ∷ past) = if same_side by Side.Sent then passed_octets Side.Received past else acknowledged past
 
 -- the window that this end told last
-abbrev pub window_told : List Item → ℕ
-window_told [] = INITIAL_WINDOW
-window_told (began by head ∷ past) = window_told past
-window_told (passed by head payload ∷ past) = window_told past
-window_told (told by seq ∷ past) = if same_side by Side.Sent then seq.window else window_told past
+abbrev pub window_advertised : List Item → ℕ
+window_advertised [] = INITIAL_WINDOW
+window_advertised (began by head ∷ past) = window_advertised past
+window_advertised (passed by head payload ∷ past) = window_advertised past
+window_advertised (told by seq ∷ past) = if same_side by Side.Sent then seq.window else window_advertised past
 
 -- the octets of the frame under way
 abbrev pub going : List Item → ℕ
@@ -51,10 +51,10 @@ going past = option_map_or (λ (head : Head). head.size) (under_way Side.Receive
 
 -- the edge is that of the last SEQ, and what arrived or is under way stays within it
 pub record Windows (past : List Item) : Type 0 where
-  pub edge : greatest_edge Side.Received past ≡ acknowledged past + window_told past
+  pub edge : greatest_edge Side.Received past ≡ acknowledged past + window_advertised past
   pub reached : acknowledged past ≤ passed_octets Side.Received past
   pub within : passed_octets Side.Received past + going past ≤ greatest_edge Side.Received past
-  pub narrow : window_told past < 2 ^ 31
+  pub narrow : window_advertised past < 2 ^ 31
 
 pub windows : (past : List Item) → IsLawful past → NeverBroke past → Windows past
 windows [] l w = record { edge = refl; reached = omega arith; within = omega arith; narrow = omega arith }
@@ -110,7 +110,7 @@ window-arrived (passed Side.Sent head payload ∷ past) = window-arrived past
 window-arrived (told Side.Received seq ∷ past) = refl
 window-arrived (told Side.Sent seq ∷ past) = window-arrived past
 
-pub window-sent : (past : List Item) → last_window Side.Sent (sent past) ≡ window_told past
+pub window-sent : (past : List Item) → last_window Side.Sent (sent past) ≡ window_advertised past
 window-sent [] = refl
 window-sent (began Side.Received head ∷ past) = window-sent past
 window-sent (began Side.Sent head ∷ past) = window-sent past

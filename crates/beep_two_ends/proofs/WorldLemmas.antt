@@ -15,7 +15,7 @@ use Rattle.beep_two_ends.proofs.KeptLemmas.{AllKept}
 use Rattle.beep_two_ends.proofs.WaysLemmas.{frames-arrived, frames-sent, under_way-arrived, under_way-sent}
 use Rattle.beep_two_ends.proofs.SeenLemmas.{agrees}
 use Rattle.beep_two_ends.proofs.RowsLemmas.{all_rows_at}
-use Rattle.beep_two_ends.proofs.WindowLemmas.{kept_of, unbroken, acknowledged, window_told, windows, acked-arrived, window-arrived, window-sent, acked-sent, seq_counted}
+use Rattle.beep_two_ends.proofs.WindowLemmas.{kept_of, unbroken, acknowledged, window_advertised, windows, acked-arrived, window-arrived, window-sent, acked-sent, seq_counted}
 use Rattle.beep_two_ends.proofs.SplitLemmas.{SentAt, sent_at, when, lawful-earlier, whole-earlier, arrived-append, edge-earlier, octets-earlier}
 
 -- the edge that a sender goes by was told by the other end
@@ -27,7 +27,7 @@ edge_told mine theirs l w s =
     let w' : NeverBroke m.earlier = whole-earlier m.later m.earlier (subst (λ (xs : List Item). NeverBroke xs) m.is w) in
     let v = windows m.earlier l' w' in
     let a : acked_octets Side.Sent mine ≡ acknowledged m.earlier = sym (acked-arrived mine) ∙ ap (acked_octets Side.Sent) (sym m.at) ∙ acked-sent m.earlier l' w' in
-    let b : last_window Side.Sent mine ≡ window_told m.earlier = sym (window-arrived mine) ∙ ap (last_window Side.Sent) (sym m.at) ∙ window-sent m.earlier in
+    let b : last_window Side.Sent mine ≡ window_advertised m.earlier = sym (window-arrived mine) ∙ ap (last_window Side.Sent) (sym m.at) ∙ window-sent m.earlier in
     let grown : greatest_edge Side.Received m.earlier ≤ greatest_edge Side.Received theirs =
     subst (λ (xs : List Item). greatest_edge Side.Received m.earlier ≤ greatest_edge Side.Received xs) (sym m.is) (edge-earlier m.later m.earlier) in
     omega (arith, v.edge, a, b, grown)

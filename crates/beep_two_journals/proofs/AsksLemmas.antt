@@ -93,7 +93,7 @@ zero-start (Some (close m code note)) = refl
 zero-start (Some okay) = refl
 zero-start (Some (fault code note)) = refl
 
--- a request behind the replies so far isn't answered
+-- a request after the replies so far isn't answered
 pub not-answered : (past : List Item) (es : List Entry) (p : ℕ) → KeepsExchangeRules (zero_history past) → Bridged (zero_history past) es → length (replied Side.Received es) ≤ p
     → is_answered Side.Sent (p + 1) (zero_history past) ≡ false
 not-answered past es p u b h =

@@ -159,7 +159,7 @@ pub frame_keeps : (terms : Terms) (past : List Item) (head : Head) (payload : Li
     → KeepsFrame terms past head payload
 frame_keeps terms past head payload l = frame-tests terms past head payload (lawful-first terms (passed Side.Sent head payload) past l)
 
--- ---- a frame stands right behind its header
+-- ---- a frame stands right after its header
 
 number : (a b : ℕ) → (a == b) ≡ true → a ≡ b
 number a b e = grind (arith, nat_tests)

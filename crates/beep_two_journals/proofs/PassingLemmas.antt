@@ -225,7 +225,7 @@ grants-close by r number past es a at b = (
     itself : (n : ℕ) → (n == n) ≡ true
     itself n = grind (arith, nat_tests)
 
--- a whole positive reply to a request behind the implied one
+-- a whole positive reply to a request after the implied one
 pub grants : (by : Side) (r : ℕ) (form : Option Form) (past : List Item) (es : List Entry) → answers_to by es ≡ says_of form → length (replied by es) ≡ r
     → Bridged past es → Grants by (r + 1) form past es
 grants by r None past es a at b = grants-none by (r + 1) None past es refl a b

@@ -33,11 +33,11 @@ use Rattle.beep_two_sessions.proofs.FollowLemmas.{Begins, begins-then, Follows, 
 
 -- ---- marks as calls tell them
 
-abbrev pub as_told : List Mark → List Mark
-as_told ms = map mark_modulo_2_64 ms
+abbrev pub modulo_marks : List Mark → List Mark
+modulo_marks ms = map mark_modulo_2_64 ms
 
-pub told-begins : (xs ys : List Mark) → Begins xs ys → Begins (as_told xs) (as_told ys)
-told-begins xs ys b = record { later = as_told b.later; is = ap as_told b.is ∙ map-append mark_modulo_2_64 xs b.later }
+pub told-begins : (xs ys : List Mark) → Begins xs ys → Begins (modulo_marks xs) (modulo_marks ys)
+told-begins xs ys b = record { later = modulo_marks b.later; is = ap modulo_marks b.is ∙ map-append mark_modulo_2_64 xs b.later }
 
 -- ---- the books of an end
 
@@ -49,14 +49,14 @@ pub record Booked (journal : List Item) (given taken : Marks) (gave took : Book)
   pub fresh_gave : (n k : ℕ) → (n == 0) ≡ false → lives n (events journal) < k → gave n k ≡ []
   pub fresh_took : (n k : ℕ) → (n == 0) ≡ false → lives n (events journal) < k → took n k ≡ []
   -- what was sent was given, and what was taken arrived
-  pub sent : (n k : ℕ) → (n == 0) ≡ false → 0 < k → Begins (as_told (marks Side.Sent (life n k journal))) (gave n k)
-  pub got : (n k : ℕ) → (n == 0) ≡ false → 0 < k → Begins (took n k) (as_told (marks Side.Received (life n k journal)))
+  pub sent : (n k : ℕ) → (n == 0) ≡ false → 0 < k → Begins (modulo_marks (marks Side.Sent (life n k journal))) (gave n k)
+  pub got : (n k : ℕ) → (n == 0) ≡ false → 0 < k → Begins (took n k) (modulo_marks (marks Side.Received (life n k journal)))
 
 -- ---- a live life
 
 record LiveMarks (n : ℕ) (journal : List Item) (given taken : Marks) : Type 0 where
-  pub sent : Begins (as_told (marks Side.Sent (life n (life_now n journal) journal))) (given n)
-  pub got : Begins (taken n) (as_told (marks Side.Received (life n (life_now n journal) journal)))
+  pub sent : Begins (modulo_marks (marks Side.Sent (life n (life_now n journal) journal))) (given n)
+  pub got : Begins (taken n) (modulo_marks (marks Side.Received (life n (life_now n journal) journal)))
 
 live-marks : (size : ℕ) (journal : List Item) (given taken : Marks) (channels : List Live) → AreLiveBy size journal given taken channels → (n : ℕ) → (n == 0) ≡ false
     → is_there n journal ≡ true → LiveMarks n journal given taken
@@ -70,8 +70,8 @@ live-marks size journal given taken channels s n above there = of (live_at n cha
     of (Some c) e =
         let h = s.above n c above e in
         record {
-          sent = record { later = unsent_marks c.held.queue; is = h.all_given ∙ ap (λ (past : List Item). as_told (marks Side.Sent past) ++ unsent_marks c.held.queue) here };
-          got = record { later = untaken_marks c.held.inbox; is = ap (λ (past : List Item). as_told (marks Side.Received past)) (sym here) ∙ h.all_arrived };
+          sent = record { later = unsent_marks c.held.queue; is = h.all_given ∙ ap (λ (past : List Item). modulo_marks (marks Side.Sent past) ++ unsent_marks c.held.queue) here };
+          got = record { later = untaken_marks c.held.inbox; is = ap (λ (past : List Item). modulo_marks (marks Side.Received past)) (sym here) ∙ h.all_arrived };
         }
 
 -- ---- a journal that goes on
@@ -111,20 +111,20 @@ module _ (journal next : List Item) (given given_now taken taken_now : Marks) (g
   }
     where
       sent-by : (n k : ℕ) → (n == 0) ≡ false → 0 < k → (w : Bool) → (is_there n next && life_now n next == k) ≡ w
-          → Begins (as_told (marks Side.Sent (life n k next))) (gave n k)
+          → Begins (modulo_marks (marks Side.Sent (life n k next))) (gave n k)
       sent-by n k above pos true e =
           let there : is_there n next ≡ true = and-one (is_there n next) (life_now n next == k) e in
           let now : life_now n next ≡ k = equal-number (life_now n next) k (and-two (is_there n next) (life_now n next == k) e) in
-          subst (λ (m : ℕ). Begins (as_told (marks Side.Sent (life n m next))) (gave n m)) now
-          (subst (λ (ms : List Mark). Begins (as_told (marks Side.Sent (life n (life_now n next) next))) ms) (sym (next-gave n above there))
+          subst (λ (m : ℕ). Begins (modulo_marks (marks Side.Sent (life n m next))) (gave n m)) now
+          (subst (λ (ms : List Mark). Begins (modulo_marks (marks Side.Sent (life n (life_now n next) next))) ms) (sym (next-gave n above there))
           (live-marks size next given_now taken_now channels s n above there).sent)
       sent-by n k above pos false e =
-          subst (λ (ms : List Mark). Begins (as_told ms) (gave n k)) (sym (f.sent n k above pos e)) (b.sent n k above pos)
+          subst (λ (ms : List Mark). Begins (modulo_marks ms) (gave n k)) (sym (f.sent n k above pos e)) (b.sent n k above pos)
 
       got-by : (n k : ℕ) → (n == 0) ≡ false → 0 < k → (w : Bool) → (is_there n next && life_now n next == k) ≡ w
-          → Begins (took n k) (as_told (marks Side.Received (life n k next)))
+          → Begins (took n k) (modulo_marks (marks Side.Received (life n k next)))
       got-by n k above pos w e =
-          begins-then (took n k) (as_told (marks Side.Received (life n k journal))) (as_told (marks Side.Received (life n k next))) (b.got n k above pos)
+          begins-then (took n k) (modulo_marks (marks Side.Received (life n k journal))) (modulo_marks (marks Side.Received (life n k next))) (b.got n k above pos)
           (told-begins (marks Side.Received (life n k journal)) (marks Side.Received (life n k next)) (f.got n k))
 
 -- ---- what a program gives and takes
@@ -213,7 +213,7 @@ book-given number ones journal given taken gave took b = record {
   live_took = b.live_took;
   fresh_gave = fresh-more number ones journal given gave b.fresh_gave;
   fresh_took = b.fresh_took;
-  sent = λ n k above pos. more-begins number (life_now number journal) ones gave (as_told (marks Side.Sent (life n k journal))) n k (b.sent n k above pos);
+  sent = λ n k above pos. more-begins number (life_now number journal) ones gave (modulo_marks (marks Side.Sent (life n k journal))) n k (b.sent n k above pos);
   got = b.got;
 }
 
@@ -240,15 +240,15 @@ book-taken number ones size journal given given_now taken gave took channels sam
     other n k e false w = rw w refl
 
     got-by : (n k : ℕ) → (n == 0) ≡ false → 0 < k → (w : Bool) → (life_now n journal == k) ≡ w
-        → Begins (with_more number (life_now number journal) ones took n k) (as_told (marks Side.Received (life n k journal)))
+        → Begins (with_more number (life_now number journal) ones took n k) (modulo_marks (marks Side.Received (life n k journal)))
     got-by n k above pos true e =
         let there : is_there n journal ≡ true = now-there n k journal pos e in
-        subst (λ (m : ℕ). Begins (with_more number (life_now number journal) ones took n m) (as_told (marks Side.Received (life n m journal))))
+        subst (λ (m : ℕ). Begins (with_more number (life_now number journal) ones took n m) (modulo_marks (marks Side.Received (life n m journal))))
         (equal-number (life_now n journal) k e)
-        (subst (λ (ms : List Mark). Begins ms (as_told (marks Side.Received (life n (life_now n journal) journal)))) (sym (live n above there))
+        (subst (λ (ms : List Mark). Begins ms (modulo_marks (marks Side.Received (life n (life_now n journal) journal)))) (sym (live n above there))
         (live-marks size journal given_now (with_marks number (taken number ++ ones) taken) channels s n above there).got)
     got-by n k above pos false e =
-        subst (λ (ms : List Mark). Begins ms (as_told (marks Side.Received (life n k journal))))
+        subst (λ (ms : List Mark). Begins ms (modulo_marks (marks Side.Received (life n k journal))))
         (sym (more-beside number (life_now number journal) ones took n k (other n k e (number == n) refl))) (b.got n k above pos)
 
 -- channel zero alone was given more

@@ -40,7 +40,7 @@ use Rattle.beep_two_sessions.specs.Acts.{Act, gives, asks, takes, settles, stops
 use Rattle.beep_two_sessions.specs.World.{World, Move, a_does, b_does, IsReached}
 use Rattle.beep_two_sessions.proofs.FollowLemmas.{stage, passed-ends, sent-ends}
 use Rattle.beep_two_sessions.proofs.EndLemmas.{leave-waits, oldest-leaves, release-last, release-rpy, is-last, is-rpy, oldest-closes, one-closes, close-waits}
-use Rattle.beep_two_sessions.proofs.BookLemmas.{as_told, Booked, BookedEnd, more-beside, now-there, books}
+use Rattle.beep_two_sessions.proofs.BookLemmas.{modulo_marks, Booked, BookedEnd, more-beside, now-there, books}
 use Rattle.beep_two_sessions.proofs.MoveLemmas.{Joined, reached, stands-a, stands-b}
 use Rattle.beep_two_ends.proofs.WindowLemmas.{unbroken}
 use Rattle.beep_two_journals.proofs.NeverBreakLemmas.{run_all}
@@ -194,12 +194,12 @@ sent-kinds size most journal given taken channels head payload s x z last reply 
     let past = zero_history journal in
     let tag = tag_of Side.Sent (began Side.Sent head ∷ past) head in
     let after = unsent_marks x.new.queue in
-    let all : given 0 ≡ as_told (marks Side.Sent (passed Side.Sent head payload ∷ began Side.Sent head ∷ past)) ++ after =
-    subst (λ (c : ℕ). given c ≡ as_told (marks Side.Sent (passed Side.Sent head payload ∷ began Side.Sent head ∷ history c journal)) ++ after) zero x.next.stands.all_given in
+    let all : given 0 ≡ modulo_marks (marks Side.Sent (passed Side.Sent head payload ∷ began Side.Sent head ∷ past)) ++ after =
+    subst (λ (c : ℕ). given c ≡ modulo_marks (marks Side.Sent (passed Side.Sent head payload ∷ began Side.Sent head ∷ history c journal)) ++ after) zero x.next.stands.all_given in
     let whole : marks Side.Sent (passed Side.Sent head payload ∷ began Side.Sent head ∷ past) ≡ marks Side.Sent past ++ (map (octet tag) payload ++ end tag ∷ []) =
     rw (z, reply, last) refl in
     let kinds : kinds_of (given 0) ≡ kinds_of (marks Side.Sent past) ++ (head.kind ∷ kinds_of after) =
-    ap kinds_of all ∙ kinds-append (as_told (marks Side.Sent (passed Side.Sent head payload ∷ began Side.Sent head ∷ past))) after
+    ap kinds_of all ∙ kinds-append (modulo_marks (marks Side.Sent (passed Side.Sent head payload ∷ began Side.Sent head ∷ past))) after
     ∙ ap (λ (ks : List Kind). ks ++ kinds_of after)
     (kinds-modulo (marks Side.Sent (passed Side.Sent head payload ∷ began Side.Sent head ∷ past)) ∙ ap kinds_of whole
     ∙ kinds-append (marks Side.Sent past) (map (octet tag) payload ++ end tag ∷ []))

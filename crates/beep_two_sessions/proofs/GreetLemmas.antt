@@ -35,7 +35,7 @@ use Rattle.beep_session.specs.declared.event.Event.{Event}
 use Rattle.beep_two_ends.specs.Seen.{arrived, sent}
 use Rattle.beep_two_ends.specs.OneLife as one
 use Rattle.beep_two_ends.proofs.WaysLemmas.{frames-arrived, frames-sent}
-use Rattle.beep_two_ends.proofs.WindowLemmas.{unbroken, acknowledged, window_told, windows, acked-arrived, window-arrived, window-sent, acked-sent}
+use Rattle.beep_two_ends.proofs.WindowLemmas.{unbroken, acknowledged, window_advertised, windows, acked-arrived, window-arrived, window-sent, acked-sent}
 use Rattle.beep_two_journals.proofs.NeverBreakLemmas.{All, run_all}
 use Rattle.beep_two_journals.proofs.ZeroLemmas.{zeros, zero-arrived, zero-sent}
 use Rattle.beep_two_sessions.specs.End.{End, Doing, goes, StandsAs, StandsSo, NothingIsDue}
@@ -45,7 +45,7 @@ use Rattle.beep_two_sessions.specs.Kept.{IsPrefix}
 use Rattle.beep_two_sessions.specs.Still.{GreetsShortly}
 use Rattle.beep_two_sessions.proofs.WireLemmas.{Wired, wired-flips}
 use Rattle.beep_two_sessions.proofs.MoveLemmas.{Linked, linked-flips, Joined, reached}
-use Rattle.beep_two_sessions.proofs.BookLemmas.{as_told}
+use Rattle.beep_two_sessions.proofs.BookLemmas.{modulo_marks}
 use Rattle.beep_two_sessions.proofs.StillLemmas.{all-arrived}
 use Rattle.beep_two_sessions.proofs.ZeroMarkLemmas.{counted-zero}
 
@@ -168,7 +168,7 @@ is-wide : (mine theirs : List Item) → one.IsLawful theirs → one.NeverBroke t
 is-wide mine theirs l w back =
     let v = windows theirs l w in
     let a : acked_octets Side.Sent mine ≡ acknowledged theirs = sym (acked-arrived mine) ∙ ap (acked_octets Side.Sent) back ∙ acked-sent theirs l w in
-    let b : last_window Side.Sent mine ≡ window_told theirs = sym (window-arrived mine) ∙ ap (last_window Side.Sent) back ∙ window-sent theirs in
+    let b : last_window Side.Sent mine ≡ window_advertised theirs = sym (window-arrived mine) ∙ ap (last_window Side.Sent) back ∙ window-sent theirs in
     omega (arith, a, b, v.edge, edge-least theirs)
 
 -- marks in which no reply ends, before an octet, are fewer than those of a reply
@@ -198,16 +198,16 @@ shorter (end t ∷ xs) (end tag ∷ whole) ys later m is e none some = by (ends_
         others (ap (λ (b : Bool). if b then ends_of ends_reply xs + 1 else ends_of ends_reply xs) (sym r) ∙ none)
         (subst (λ (n : ℕ). 0 < n) (ap (λ (b : Bool). if b then ends_of ends_reply whole + 1 else ends_of ends_reply whole) (ap (λ (x : Tag). ends_reply x.kind) (sym same) ∙ r)) some)
 
-drop-front : (xs ys : List Mark) → drop (length xs) (as_told xs ++ ys) ≡ ys
+drop-front : (xs ys : List Mark) → drop (length xs) (modulo_marks xs ++ ys) ≡ ys
 drop-front [] ys = refl
 drop-front (x ∷ xs) ys = drop-front xs ys
 
-told-octets : (xs : List Mark) → octets_among (as_told xs) ≡ octets_among xs
+told-octets : (xs : List Mark) → octets_among (modulo_marks xs) ≡ octets_among xs
 told-octets [] = refl
 told-octets (octet tag value ∷ xs) = let h = told-octets xs in omega (arith, h)
 told-octets (end tag ∷ xs) = told-octets xs
 
-told-ends : (xs : List Mark) → ends_of ends_reply (as_told xs) ≡ ends_of ends_reply xs
+told-ends : (xs : List Mark) → ends_of ends_reply (modulo_marks xs) ≡ ends_of ends_reply xs
 told-ends [] = refl
 told-ends (octet tag value ∷ xs) = told-ends xs
 told-ends (end tag ∷ xs) = ap (λ (n : ℕ). if ends_reply tag.kind then n + 1 else n) (told-ends xs)
@@ -215,19 +215,19 @@ told-ends (end tag ∷ xs) = ap (λ (n : ℕ). if ends_reply tag.kind then n + 1
 -- ---- the greeting has gone
 
 module _ (greeting given sent_marks unsent later : List Mark) (room : ℕ) (some : 0 < ends_of ends_reply greeting) (short : octets_among greeting ≤ INITIAL_WINDOW)
-    (given_is : given ≡ greeting ++ later) (all_given : given ≡ as_told sent_marks ++ unsent) (none : ends_of ends_reply sent_marks ≡ 0)
+    (given_is : given ≡ greeting ++ later) (all_given : given ≡ modulo_marks sent_marks ++ unsent) (none : ends_of ends_reply sent_marks ≡ 0)
     (wide : INITIAL_WINDOW ≤ octets_among sent_marks + room) where
-  none-told : ends_of ends_reply (as_told sent_marks) ≡ 0
+  none-told : ends_of ends_reply (modulo_marks sent_marks) ≡ 0
   none-told = told-ends sent_marks ∙ none
 
   pub may-go-on : (ms : List Mark) → unsent ≡ ms → may_go room ms ≡ true
   may-go-on [] e =
-      let all : as_told sent_marks ≡ greeting ++ later = sym (append-nil (as_told sent_marks)) ∙ ap (λ (ms : List Mark). as_told sent_marks ++ ms) (sym e) ∙ sym all_given ∙ given_is in
+      let all : modulo_marks sent_marks ≡ greeting ++ later = sym (append-nil (modulo_marks sent_marks)) ∙ ap (λ (ms : List Mark). modulo_marks sent_marks ++ ms) (sym e) ∙ sym all_given ∙ given_is in
       let count = ap (ends_of ends_reply) all ∙ ends-append ends_reply greeting later in
       absurd (omega (arith, count, none-told, some))
   may-go-on (octet tag value ∷ ms) e =
-      let whole : as_told sent_marks ++ octet tag value ∷ ms ≡ greeting ++ later = ap (λ (xs : List Mark). as_told sent_marks ++ xs) (sym e) ∙ sym all_given ∙ given_is in
-      let few = shorter (as_told sent_marks) greeting ms later (octet tag value) refl whole none-told some in
+      let whole : modulo_marks sent_marks ++ octet tag value ∷ ms ≡ greeting ++ later = ap (λ (xs : List Mark). modulo_marks sent_marks ++ xs) (sym e) ∙ sym all_given ∙ given_is in
+      let few = shorter (modulo_marks sent_marks) greeting ms later (octet tag value) refl whole none-told some in
       lt-ltb 0 room (omega (arith, few, told-octets sent_marks, short, wide))
   may-go-on (end tag ∷ ms) e = refl
 

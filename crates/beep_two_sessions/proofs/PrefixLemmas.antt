@@ -11,7 +11,7 @@ use Rattle.beep_two_sessions.specs.World.{World, Move, IsReached}
 use Rattle.beep_two_sessions.specs.Kept.{IsPrefix, IsTakenInOrder}
 use Rattle.beep_two_sessions.proofs.FollowLemmas.{begins-then}
 use Rattle.beep_two_sessions.proofs.MoveLemmas.{Linked, linked-flips, reached}
-use Rattle.beep_two_sessions.proofs.BookLemmas.{as_told, told-begins, BookedEnd, books}
+use Rattle.beep_two_sessions.proofs.BookLemmas.{modulo_marks, told-begins, BookedEnd, books}
 
 pub apart : (n : ℕ) → 0 < n → (n == 0) ≡ false
 apart n above = above-zero n (positive n above)
@@ -21,8 +21,8 @@ module _ (of_a of_b : Terms) (a b : End) (to_a to_b : List ℕ) (l : Linked of_a
   took-prefix =
       let w = l.wired in
       let p = prefix_at_b of_a of_b w.steps a.journal b.journal w.items_a w.items_b w.ends w.run n k above pos in
-      let m = begins-then (b.took n k) (as_told (marks Side.Received (life n k b.journal))) (a.gave n k) (y.got n k (apart n above) pos)
-      (begins-then (as_told (marks Side.Received (life n k b.journal))) (as_told (marks Side.Sent (life n k a.journal))) (a.gave n k)
+      let m = begins-then (b.took n k) (modulo_marks (marks Side.Received (life n k b.journal))) (a.gave n k) (y.got n k (apart n above) pos)
+      (begins-then (modulo_marks (marks Side.Received (life n k b.journal))) (modulo_marks (marks Side.Sent (life n k a.journal))) (a.gave n k)
       (told-begins (marks Side.Received (life n k b.journal)) (marks Side.Sent (life n k a.journal)) (record { later = p.0; is = p.1 }))
       (x.sent n k (apart n above) pos)) in
       (m.later, m.is)

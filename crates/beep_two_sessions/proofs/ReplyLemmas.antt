@@ -13,7 +13,7 @@ use Rattle.beep_exchange.specs.Given.{ends_reply}
 use Rattle.beep_inbox.specs.Laws.{part_marks}
 use Rattle.beep_outbox.specs.Queue.{Message, message_marks}
 use Rattle.beep_channel.specs.Fits.{as_number}
-use Rattle.beep_channel.specs.Stands.{ends_of, answers_with, answers_after, answers_told, IsCounted}
+use Rattle.beep_channel.specs.Stands.{ends_of, answers_with, answers_after, answer_number, IsCounted}
 use Rattle.beep_channel.proofs.CountedLemmas.{ends-append}
 use Rattle.beep_lives.proofs.ListLemmas.{live-number}
 use Rattle.beep_standing.specs.Standing.{Marks, with_marks}
@@ -96,10 +96,10 @@ module _ (kept : Given) (given taken : List Mark) (m : Message) (c : IsCounted f
   more-answers : is_ans m.tag.kind ≡ true → is_some kept.answers ≡ true
   more-answers e =
       ap (λ (o : Option ℕ). is_some o) c.answers
-      ∙ ap (λ (n : ℕ). is_some (answers_told n)) (answers-append 0 given (message_marks m) ∙ answers-message (answers_after 0 given) m ∙ rw e refl)
+      ∙ ap (λ (n : ℕ). is_some (answer_number n)) (answers-append 0 given (message_marks m) ∙ answers-message (answers_after 0 given) m ∙ rw e refl)
       ∙ some (answers_after 0 given)
     where
-      some : (n : ℕ) → is_some (answers_told (n + 1)) ≡ true
+      some : (n : ℕ) → is_some (answer_number (n + 1)) ≡ true
       some n = let e : nat_lt 0 (n + 1) ≡ true = grind (arith, nat_tests) in rw e refl
 
   answers-one : is_ans m.tag.kind ≡ true → ends_of ends_reply given < ends_of is_msg taken

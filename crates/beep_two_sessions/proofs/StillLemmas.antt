@@ -31,7 +31,7 @@ use Rattle.beep_giving.specs.Looks.{inbox_of}
 use Rattle.beep_two_ends.specs.Seen.{arrived, sent}
 use Rattle.beep_two_ends.specs.OneLife as one
 use Rattle.beep_two_ends.proofs.WaysLemmas.{frames-arrived, frames-sent}
-use Rattle.beep_two_ends.proofs.WindowLemmas.{unbroken, acknowledged, window_told, windows, acked-arrived, window-arrived, window-sent, acked-sent}
+use Rattle.beep_two_ends.proofs.WindowLemmas.{unbroken, acknowledged, window_advertised, windows, acked-arrived, window-arrived, window-sent, acked-sent}
 use Rattle.beep_two_journals.specs.Session.{IsRun}
 use Rattle.beep_two_journals.proofs.Entries.{entries, came, went, life, ended}
 use Rattle.beep_two_journals.proofs.WalkLemmas.{same_life}
@@ -48,7 +48,7 @@ use Rattle.beep_two_sessions.proofs.WireLemmas.{Wired, wired-flips}
 use Rattle.beep_two_sessions.proofs.BreakLemmas.{in-rest}
 use Rattle.beep_two_sessions.proofs.MoveLemmas.{Linked, reached}
 use Rattle.beep_two_sessions.proofs.FollowLemmas.{stage}
-use Rattle.beep_two_sessions.proofs.BookLemmas.{as_told, BookedEnd}
+use Rattle.beep_two_sessions.proofs.BookLemmas.{modulo_marks, BookedEnd}
 
 -- ---- what an end has read of all that the other sent
 
@@ -105,7 +105,7 @@ is-open : (mine theirs : List Item) (size : ℕ) → 0 < size → one.IsLawful m
 is-open mine theirs size pos l w l' w' there back e =
     let v = windows theirs l' w' in
     let a : acked_octets Side.Sent mine ≡ acknowledged theirs = sym (acked-arrived mine) ∙ ap (acked_octets Side.Sent) back ∙ acked-sent theirs l' w' in
-    let b : last_window Side.Sent mine ≡ window_told theirs = sym (window-arrived mine) ∙ ap (last_window Side.Sent) back ∙ window-sent theirs in
+    let b : last_window Side.Sent mine ≡ window_advertised theirs = sym (window-arrived mine) ∙ ap (last_window Side.Sent) back ∙ window-sent theirs in
     let c : passed_octets Side.Received theirs ≡ passed_octets Side.Sent mine =
     ap octets_of (sym (frames-arrived theirs) ∙ ap (frames Side.Received) there ∙ frames-sent mine) in
     let d : passed_octets Side.Received theirs < greatest_edge Side.Received theirs = edge-ahead size _ _ pos e in
@@ -115,12 +115,12 @@ drop-all : (xs : List Mark) → drop (length xs) xs ≡ []
 drop-all [] = refl
 drop-all (x ∷ xs) = drop-all xs
 
-drop-front : (xs ys : List Mark) → drop (length xs) (as_told xs ++ ys) ≡ ys
+drop-front : (xs ys : List Mark) → drop (length xs) (modulo_marks xs ++ ys) ≡ ys
 drop-front [] ys = refl
 drop-front (x ∷ xs) ys = drop-front xs ys
 
 -- the octets that were taken are all that arrived
-all-taken : (taken : List Mark) (past : List Item) → as_told (marks Side.Received past) ≡ taken → octets_taken taken past ≡ passed_octets Side.Received past
+all-taken : (taken : List Mark) (past : List Item) → modulo_marks (marks Side.Received past) ≡ taken → octets_taken taken past ≡ passed_octets Side.Received past
 all-taken taken past e =
     let none : octets_among (drop (length taken) (marks Side.Received past)) ≡ 0 =
     ap (λ (n : ℕ). octets_among (drop n (marks Side.Received past))) (ap length (sym e) ∙ length-map (marks Side.Received past) mark_modulo_2_64)
@@ -149,21 +149,21 @@ at-end size journal given taken channels s n above there = of (live_at n channel
 
 -- all that arrived was taken
 took-all : (size : ℕ) (journal : List Item) (given taken : Marks) (channels : List Live) (n : ℕ) → AtEnd n size journal given taken channels
-    → inbox_of (live_at n channels) ≡ [] → as_told (marks Side.Received (history n journal)) ≡ taken n
+    → inbox_of (live_at n channels) ≡ [] → modulo_marks (marks Side.Received (history n journal)) ≡ taken n
 took-all size journal given taken channels n c empty =
     let none : c.channel.held.inbox ≡ [] = sym (ap inbox_of c.at) ∙ empty in
     c.stands.all_arrived ∙ ap (λ (runs : List Run). taken n ++ untaken_marks runs) none ∙ append-nil (taken n)
 
 -- all that was given was sent
 gave-all : (size : ℕ) (journal : List Item) (given taken : Marks) (channels : List Live) (n : ℕ) → AtEnd n size journal given taken channels
-    → 0 < open_now Side.Sent (history n journal) → has_ready (given n) (history n journal) ≡ false → given n ≡ as_told (marks Side.Sent (history n journal))
+    → 0 < open_now Side.Sent (history n journal) → has_ready (given n) (history n journal) ≡ false → given n ≡ modulo_marks (marks Side.Sent (history n journal))
 gave-all size journal given taken channels n c width ready =
     let past = history n journal in
     let unsent = unsent_marks c.channel.held.queue in
     let none : unsent ≡ [] =
     nothing-unsent (open_now Side.Sent past) unsent width
     (ap (may_go (open_now Side.Sent past)) (sym (ap (drop (length (marks Side.Sent past))) c.stands.all_given ∙ drop-front (marks Side.Sent past) unsent)) ∙ ready) in
-    c.stands.all_given ∙ ap (λ (ms : List Mark). as_told (marks Side.Sent past) ++ ms) none ∙ append-nil (as_told (marks Side.Sent past))
+    c.stands.all_given ∙ ap (λ (ms : List Mark). modulo_marks (marks Side.Sent past) ++ ms) none ∙ append-nil (modulo_marks (marks Side.Sent past))
 
 -- ---- nothing stalls
 
@@ -217,7 +217,7 @@ module _ (of_a of_b : Terms) (a b : End) (l : Linked of_a of_b a b [] []) (wide 
       let past-b : history n b.journal ≡ of_journal.life n k b.journal = rw not-zero (ap (λ (m : ℕ). of_journal.life n m b.journal) now-b) in
       let at-a = at-end a.session.limits.window a.journal a.given a.taken a.session.peer.lives stands-a.stands.holds.live n not-zero there-a in
       let at-b = at-end b.session.limits.window b.journal b.given b.taken b.session.peer.lives stands-b.stands.holds.live n not-zero there-b in
-      let took : as_told (marks Side.Received (history n b.journal)) ≡ b.taken n =
+      let took : modulo_marks (marks Side.Received (history n b.journal)) ≡ b.taken n =
       took-all b.session.limits.window b.journal b.given b.taken b.session.peer.lives n at-b (sb.taken n not-zero) in
       let due : is_seq_due b.session.limits.window (passed_octets Side.Received (history n b.journal)) (greatest_edge Side.Received (history n b.journal)) ≡ false =
       ap (λ (m : ℕ). is_seq_due b.session.limits.window m (greatest_edge Side.Received (history n b.journal))) (sym (all-taken (b.taken n) (history n b.journal) took))
@@ -230,14 +230,14 @@ module _ (of_a of_b : Terms) (a b : End) (l : Linked of_a of_b a b [] []) (wide 
       (whole_at_b of_a of_b w.steps a.journal b.journal w.items_a w.items_b w.ends w.run n k above pos)
       (there fb) (back fa)
       (subst (λ (past : List Item). is_seq_due b.session.limits.window (passed_octets Side.Received past) (greatest_edge Side.Received past) ≡ false) past-b due) in
-      let gave : a.given n ≡ as_told (marks Side.Sent (history n a.journal)) =
+      let gave : a.given n ≡ modulo_marks (marks Side.Sent (history n a.journal)) =
       gave-all a.session.limits.window a.journal a.given a.taken a.session.peer.lives n at-a
       (subst (λ (past : List Item). 0 < open_now Side.Sent past) (sym past-a) width) (no_frame.no_frame n there-a) in
       let lost : marks Side.Sent (of_journal.life n k a.journal) ≡ marks Side.Received (of_journal.life n k b.journal) =
       none_lost_at_b of_a of_b w.steps a.journal b.journal w.items_a w.ends n k above pos
       (subst (λ (xs : List Item). IsRun of_a of_b w.steps a.journal b.journal w.items_a xs) to-b-is w.run) in
-      ap (b.took n) (sym now-b) ∙ y.live_took n not-zero there-b ∙ sym took ∙ ap (λ (past : List Item). as_told (marks Side.Received past)) past-b
-      ∙ ap as_told (sym lost) ∙ ap (λ (past : List Item). as_told (marks Side.Sent past)) (sym past-a) ∙ sym gave ∙ sym (x.live_gave n not-zero there-a) ∙ ap (a.gave n) now-a
+      ap (b.took n) (sym now-b) ∙ y.live_took n not-zero there-b ∙ sym took ∙ ap (λ (past : List Item). modulo_marks (marks Side.Received past)) past-b
+      ∙ ap modulo_marks (sym lost) ∙ ap (λ (past : List Item). modulo_marks (marks Side.Sent past)) (sym past-a) ∙ sym gave ∙ sym (x.live_gave n not-zero there-a) ∙ ap (a.gave n) now-a
     where
       or-two : (p q : Bool) → q ≡ true → (p || q) ≡ true
       or-two true q e = refl

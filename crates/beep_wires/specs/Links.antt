@@ -51,7 +51,7 @@ abbrev pub LeavesLinks : Result ℕ WireError → (ℕ → Link) → (ℕ → Li
 LeavesLinks (Ok link) old new = SameBeside link old new
 LeavesLinks (Err e) old new = (link : ℕ) → new link ≡ old link
 
--- what a call that asked for a link adds to the list of these: nothing for want of memory
+-- what a call that asked for a link adds to the list of these: nothing because memory ran out
 abbrev pub asked_by : Ask → Result ℕ WireError → List Asked
 asked_by ask (Ok link) = record { ask = ask; link = Some link } ∷ []
 asked_by ask (Err WireError.Failed) = record { ask = ask; link = None } ∷ []

@@ -1,7 +1,7 @@
 //! What BEEP reads from and writes to: the traits of a source, of a sink and of links, and forms of
 //! the first two in memory whose failures are planned, for tests and for the plain programs.
 //!
-//! A source, a sink or a link fails only where its count of faults rises. What stands behind it, a
+//! A source, a sink or a link fails only where its count of faults rises. What it leads to, a
 //! file or a wire, is shown where it is known, and nothing is claimed of it elsewhere.
 #![tactic(auto)]
 

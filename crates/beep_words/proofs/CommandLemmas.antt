@@ -13,7 +13,7 @@ use Rattle.beep_words.specs.declared.form.Form.{Form}
 use Rattle.beep_words.specs.declared.command.ShowSettings.{ShowSettings}
 use Rattle.beep_words.specs.declared.command.PairSettings.{PairSettings}
 use Rattle.beep_words.specs.declared.command.Command.{Command}
-use Rattle.beep_words.specs.declared.options.TheConstants.{MAX_HOST, MAX_URI, MIN_WINDOW, MAX_PORT, MAX_WINDOW, MAX_PIECE, MAX_IDLE, MAX_NUMBER, MAX_SESSIONS}
+use Rattle.beep_words.specs.declared.options.TheConstants.{MAX_HOST, MAX_URI, MIN_WINDOW, MAX_PORT, MAX_WINDOW, MAX_PIECE, MAX_IDLE, MAX_SETTING, MAX_SESSIONS}
 use Rattle.beep_words.specs.CommandSet.{Value, choice, number, text, OptionRow, Chosen, words_of, number_set, form_in, IsOf, IsOfSome, IsTaken, value_in, AreWords, show_options, send_options, listen_options, pair_options, IsShow, IsReplay, IsTextOf, IsEnd, IsListen, IsPair, IsCommand, IsOfEnd}
 use Rattle.beep_words.specs.Choosing.{are_options, is_lone, are_listen_options, show_of, settings_of, pair_of, number_at, number_set_at, choice_at, command_in, command_at, makes_end}
 use Rattle.beep_words.proofs.ValueLemmas.{and_left, and_right, and_both, IsReadable, IsReadableSome}
@@ -62,8 +62,8 @@ readable_show = readable show_options (tt, (omega arith, tt))
 elements_taken : Takes show_options (codes "--elements") IsChoice
 elements_taken value i = choice_taken value i
 
-show_octets_taken : Takes show_options (codes "--octets") (IsNumberTo MAX_NUMBER)
-show_octets_taken value i = number_taken 1 MAX_NUMBER value i
+show_octets_taken : Takes show_options (codes "--octets") (IsNumberTo MAX_SETTING)
+show_octets_taken value i = number_taken 1 MAX_SETTING value i
 
 pub show_is : (words : List (List ℕ)) → are_options show_options words ≡ true → IsShow (show_of words) (codes "show" ∷ words)
 show_is words e =
@@ -74,7 +74,7 @@ show_is words e =
       elements = subst (λ (ws : List (List ℕ)). choice (choice_at (codes "--elements") false ws) ≡ value_in (codes "--elements") (choice false) c.chosen) (sym c.words_are)
           (choice_is show_options (codes "--elements") false elements_taken c.chosen c.each);
       octets = subst (λ (ws : List (List ℕ)). number (number_at (codes "--octets") OCTETS ws) ≡ value_in (codes "--octets") (number OCTETS) c.chosen) (sym c.words_are)
-          (number_is show_options (codes "--octets") OCTETS MAX_NUMBER (omega arith) show_octets_taken c.chosen c.each);
+          (number_is show_options (codes "--octets") OCTETS MAX_SETTING (omega arith) show_octets_taken c.chosen c.each);
     }
 
 number_same : (a b : ℕ) (v : Value) → number a ≡ v → number b ≡ v → a ≡ b
@@ -101,7 +101,7 @@ is_show settings name words s =
     let elements = choice_same settings.elements (choice_at (codes "--elements") false (flat_map words_of s.chosen)) _ s.elements
     (choice_is show_options (codes "--elements") false elements_taken s.chosen s.are_words.each) in
     let octets = number_same settings.octets (number_at (codes "--octets") OCTETS (flat_map words_of s.chosen)) _ s.octets
-    (number_is show_options (codes "--octets") OCTETS MAX_NUMBER (omega arith) show_octets_taken s.chosen s.are_words.each) in
+    (number_is show_options (codes "--octets") OCTETS MAX_SETTING (omega arith) show_octets_taken s.chosen s.are_words.each) in
     (ap₂ (λ (a : Bool) (b : ℕ). record { elements = a; octets = b }) elements octets ∙ ap show_of (sym w), options_are (codes "show") show_options readable_show s.chosen name words s.are_words)
 
 -- ---- pair
@@ -115,8 +115,8 @@ pair_window_taken value i = number_taken MIN_WINDOW MAX_WINDOW value i
 pair_piece_taken : Takes pair_options (codes "--piece") (IsNumberTo MAX_PIECE)
 pair_piece_taken value i = number_taken 1 MAX_PIECE value i
 
-pair_seed_taken : Takes pair_options (codes "--seed") (IsNumberTo MAX_NUMBER)
-pair_seed_taken value i = number_taken 0 MAX_NUMBER value i
+pair_seed_taken : Takes pair_options (codes "--seed") (IsNumberTo MAX_SETTING)
+pair_seed_taken value i = number_taken 0 MAX_SETTING value i
 
 pair_is : (words : List (List ℕ)) → are_options pair_options words ≡ true → IsPair (pair_of words) (codes "pair" ∷ words)
 pair_is words e =
@@ -129,7 +129,7 @@ pair_is words e =
       piece = subst (λ (ws : List (List ℕ)). number (number_at (codes "--piece") PIECE ws) ≡ value_in (codes "--piece") (number PIECE) c.chosen) (sym c.words_are)
           (number_is pair_options (codes "--piece") PIECE MAX_PIECE (omega arith) pair_piece_taken c.chosen c.each);
       seed = subst (λ (ws : List (List ℕ)). number_set_at (codes "--seed") ws ≡ number_set (codes "--seed") c.chosen) (sym c.words_are)
-          (number_set_is pair_options (codes "--seed") MAX_NUMBER (omega arith) pair_seed_taken c.chosen c.each);
+          (number_set_is pair_options (codes "--seed") MAX_SETTING (omega arith) pair_seed_taken c.chosen c.each);
     }
 
 is_pair : (settings : PairSettings) (name : List ℕ) (words : List (List ℕ)) → IsPair settings (name ∷ words) → (settings ≡ pair_of words) × ((bytes_eq name (codes "pair") && are_options pair_options words) ≡ true)
@@ -140,7 +140,7 @@ is_pair settings name words s =
     let piece = number_same settings.piece (number_at (codes "--piece") PIECE (flat_map words_of s.chosen)) _ s.piece
     (number_is pair_options (codes "--piece") PIECE MAX_PIECE (omega arith) pair_piece_taken s.chosen s.are_words.each) in
     let seed : settings.seed ≡ number_set_at (codes "--seed") (flat_map words_of s.chosen) = s.seed
-    ∙ sym (number_set_is pair_options (codes "--seed") MAX_NUMBER (omega arith) pair_seed_taken s.chosen s.are_words.each) in
+    ∙ sym (number_set_is pair_options (codes "--seed") MAX_SETTING (omega arith) pair_seed_taken s.chosen s.are_words.each) in
     let same : settings ≡ pair_of (flat_map words_of s.chosen) =
     ap₂ (λ (a : ℕ) (b : ℕ). record { window = a; piece = b; seed = settings.seed }) window piece
     ∙ ap (λ (n : Option ℕ). record { window = number_at (codes "--window") WINDOW (flat_map words_of s.chosen); piece = number_at (codes "--piece") PIECE (flat_map words_of s.chosen); seed = n }) seed in
@@ -187,7 +187,7 @@ record TakesSettings (rows : List OptionRow) : Type 0 where
   pub window : Takes rows (codes "--window") (IsNumberTo MAX_WINDOW)
   pub piece : Takes rows (codes "--piece") (IsNumberTo MAX_PIECE)
   pub idle : Takes rows (codes "--idle") (IsNumberTo MAX_IDLE)
-  pub octets : Takes rows (codes "--octets") (IsNumberTo MAX_NUMBER)
+  pub octets : Takes rows (codes "--octets") (IsNumberTo MAX_SETTING)
   pub sessions : Takes rows (codes "--sessions") (IsNumberTo MAX_SESSIONS)
   pub recording : Takes rows (codes "--record") IsChoice
 
@@ -208,7 +208,7 @@ module _ (command : List ℕ) (rows : List OptionRow) (takes : TakesSettings row
         window = number_is rows (codes "--window") WINDOW MAX_WINDOW (omega arith) takes.window chosen each;
         piece = number_is rows (codes "--piece") PIECE MAX_PIECE (omega arith) takes.piece chosen each;
         idle = number_is rows (codes "--idle") IDLE MAX_IDLE (omega arith) takes.idle chosen each;
-        octets = number_is rows (codes "--octets") OCTETS MAX_NUMBER (omega arith) takes.octets chosen each;
+        octets = number_is rows (codes "--octets") OCTETS MAX_SETTING (omega arith) takes.octets chosen each;
         sessions = number_is rows (codes "--sessions") SESSIONS MAX_SESSIONS (omega arith) takes.sessions chosen each;
         recording = choice_is rows (codes "--record") false takes.recording chosen each;
       })
@@ -233,7 +233,7 @@ module _ (command : List ℕ) (rows : List OptionRow) (takes : TakesSettings row
       let window : settings.window ≡ (settings_of ws).window = number_same settings.window (settings_of ws).window (value_in (codes "--window") (number WINDOW) s.chosen) s.window (number_is rows (codes "--window") WINDOW MAX_WINDOW (omega arith) takes.window s.chosen each) in
       let piece : settings.piece ≡ (settings_of ws).piece = number_same settings.piece (settings_of ws).piece (value_in (codes "--piece") (number PIECE) s.chosen) s.piece (number_is rows (codes "--piece") PIECE MAX_PIECE (omega arith) takes.piece s.chosen each) in
       let idle : settings.idle ≡ (settings_of ws).idle = number_same settings.idle (settings_of ws).idle (value_in (codes "--idle") (number IDLE) s.chosen) s.idle (number_is rows (codes "--idle") IDLE MAX_IDLE (omega arith) takes.idle s.chosen each) in
-      let octets : settings.octets ≡ (settings_of ws).octets = number_same settings.octets (settings_of ws).octets (value_in (codes "--octets") (number OCTETS) s.chosen) s.octets (number_is rows (codes "--octets") OCTETS MAX_NUMBER (omega arith) takes.octets s.chosen each) in
+      let octets : settings.octets ≡ (settings_of ws).octets = number_same settings.octets (settings_of ws).octets (value_in (codes "--octets") (number OCTETS) s.chosen) s.octets (number_is rows (codes "--octets") OCTETS MAX_SETTING (omega arith) takes.octets s.chosen each) in
       let sessions : settings.sessions ≡ (settings_of ws).sessions = number_same settings.sessions (settings_of ws).sessions (value_in (codes "--sessions") (number SESSIONS) s.chosen) s.sessions (number_is rows (codes "--sessions") SESSIONS MAX_SESSIONS (omega arith) takes.sessions s.chosen each) in
       let recording : settings.recording ≡ (settings_of ws).recording = choice_same settings.recording (settings_of ws).recording (value_in (codes "--record") (choice false) s.chosen) s.recording (choice_is rows (codes "--record") false takes.recording s.chosen each) in
       let same = same_settings settings (settings_of ws) host port raw_uri window piece idle octets sessions recording in
@@ -248,7 +248,7 @@ takes_send = record {
   window = λ value i. number_taken MIN_WINDOW MAX_WINDOW value i;
   piece = λ value i. number_taken 1 MAX_PIECE value i;
   idle = λ value i. number_taken 1 MAX_IDLE value i;
-  octets = λ value i. number_taken 1 MAX_NUMBER value i;
+  octets = λ value i. number_taken 1 MAX_SETTING value i;
   sessions = λ value i. absurd i;
   recording = λ value i. choice_taken value i;
 }
@@ -262,7 +262,7 @@ takes_listen = record {
   window = λ value i. number_taken MIN_WINDOW MAX_WINDOW value i;
   piece = λ value i. number_taken 1 MAX_PIECE value i;
   idle = λ value i. number_taken 1 MAX_IDLE value i;
-  octets = λ value i. number_taken 1 MAX_NUMBER value i;
+  octets = λ value i. number_taken 1 MAX_SETTING value i;
   sessions = λ value i. number_taken 1 MAX_SESSIONS value i;
   recording = λ value i. choice_taken value i;
 }

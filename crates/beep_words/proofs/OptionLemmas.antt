@@ -4,7 +4,7 @@ use Rattle.std.specs.List.{flat_map, AllByRecursion}
 use Rattle.std.specs.Fmt.{decimal}
 use Rattle.std.specs.Str.{bytes_eq}
 use Rattle.std.proofs.lemmas.Slice.Eq.{bytes_eq-Decides}
-use Rattle.beep_words.specs.declared.options.TheConstants.{MAX_NUMBER}
+use Rattle.beep_words.specs.declared.options.TheConstants.{MAX_SETTING}
 use Rattle.beep_words.specs.CommandSet.{Value, choice, number, text, word_of, OptionRow, Chosen, words_of, form_in, IsOfSome, IsTaken, IsSet, AreDistinct, value_in, number_of, number_set, IsTextOf}
 use Rattle.beep_words.specs.Choosing.{is_among, are_options, is_of_some, word_in, some_or, number_or, number_at, number_where, number_set_at, choice_or, choice_at, text_at}
 use Rattle.beep_words.proofs.ValueLemmas.{and_left, and_right, and_both, not_true, word_number, taken_value, value_taken, IsReadableSome}
@@ -92,12 +92,12 @@ IsTextual (text octets) = Unit {0}
 abbrev pub Takes : List OptionRow → List ℕ → (Value → Type 0) → Type 0
 Takes rows name P = (value : Value) → IsOfSome (form_in rows name) value → P value
 
-set_number : (default most : ℕ) (value : Value) → most ≤ MAX_NUMBER → IsNumberTo most value → number (number_or default (Some (word_of value))) ≡ value
+set_number : (default most : ℕ) (value : Value) → most ≤ MAX_SETTING → IsNumberTo most value → number (number_or default (Some (word_of value))) ≡ value
 set_number default most (choice b) m i = absurd i
 set_number default most (number n) m i = ap (λ (o : Option ℕ). number (some_or default o)) (word_number n (omega (arith, m, i)))
 set_number default most (text octets) m i = absurd i
 
-set_where : (most : ℕ) (value : Value) → most ≤ MAX_NUMBER → IsNumberTo most value → number_where (Some (word_of value)) ≡ number_of value
+set_where : (most : ℕ) (value : Value) → most ≤ MAX_SETTING → IsNumberTo most value → number_where (Some (word_of value)) ≡ number_of value
 set_where most (choice b) m i = absurd i
 set_where most (number n) m i = word_number n (omega (arith, m, i))
 set_where most (text octets) m i = absurd i
@@ -117,7 +117,7 @@ module _ (rows : List OptionRow) (name : List ℕ) where
   taken_as : (P : Value → Type 0) → Takes rows name P → (c : Chosen) → IsTaken rows c → bytes_eq c.name name ≡ true → P c.value
   taken_as P takes c t f = takes c.value (subst (λ (n : List ℕ). IsOfSome (form_in rows n) c.value) ((bytes_eq-Decides c.name name).0 f) t)
 
-  pub number_is : (default most : ℕ) → most ≤ MAX_NUMBER → Takes rows name (IsNumberTo most) → (chosen : List Chosen) → AllByRecursion (IsTaken rows) chosen → number (number_at name default (flat_map words_of chosen)) ≡ value_in name (number default) chosen
+  pub number_is : (default most : ℕ) → most ≤ MAX_SETTING → Takes rows name (IsNumberTo most) → (chosen : List Chosen) → AllByRecursion (IsTaken rows) chosen → number (number_at name default (flat_map words_of chosen)) ≡ value_in name (number default) chosen
   number_is default most m takes [] each = refl
   number_is default most m takes (c ∷ chosen) each = by_test (bytes_eq c.name name) refl (number_is default most m takes chosen each.1)
     where
@@ -130,7 +130,7 @@ module _ (rows : List OptionRow) (name : List ℕ) where
           ap (λ (b : Bool). number (number_or default (cond b (Some (word_of c.value)) (word_in name (flat_map words_of chosen))))) f
           ∙ rest ∙ sym (ap (λ (b : Bool). cond b c.value (value_in name (number default) chosen)) f)
 
-  pub number_set_is : (most : ℕ) → most ≤ MAX_NUMBER → Takes rows name (IsNumberTo most) → (chosen : List Chosen) → AllByRecursion (IsTaken rows) chosen → number_set_at name (flat_map words_of chosen) ≡ number_set name chosen
+  pub number_set_is : (most : ℕ) → most ≤ MAX_SETTING → Takes rows name (IsNumberTo most) → (chosen : List Chosen) → AllByRecursion (IsTaken rows) chosen → number_set_at name (flat_map words_of chosen) ≡ number_set name chosen
   number_set_is most m takes [] each = refl
   number_set_is most m takes (c ∷ chosen) each = by_test (bytes_eq c.name name) refl (number_set_is most m takes chosen each.1)
     where

@@ -9,7 +9,7 @@ use Rattle.beep_chars.specs.Characters.{is_allowed}
 use Rattle.beep_settings.specs.declared.settings.Settings.{Settings}
 use Rattle.beep_settings.specs.declared.settings.TheConstants.{RAW_URI, PORT, WINDOW, PIECE, IDLE, OCTETS, SESSIONS}
 use Rattle.beep_words.specs.declared.form.Form.{Form}
-use Rattle.beep_words.specs.declared.options.TheConstants.{MAX_URI, MAX_PORT, MIN_WINDOW, MAX_WINDOW, MAX_PIECE, MAX_IDLE, MAX_NUMBER, MAX_SESSIONS}
+use Rattle.beep_words.specs.declared.options.TheConstants.{MAX_URI, MAX_PORT, MIN_WINDOW, MAX_WINDOW, MAX_PIECE, MAX_IDLE, MAX_SETTING, MAX_SESSIONS}
 use Rattle.beep_words.specs.CommandSet.{Value, choice, number, text, is_printable, OptionRow, Chosen, form_in, IsText, IsOf, IsOfSome, IsTaken, value_in, IsTextOf, IsEnd, IsSend, IsListen, IsPair, send_options, listen_options, pair_options}
 use Rattle.beep_words.specs.declared.command.PairSettings.{PairSettings}
 use Rattle.beep_words.specs.Usable.{IsUsable, IsPairUsable}
@@ -79,7 +79,7 @@ pub record TakesEnd (rows : List OptionRow) : Type 0 where
   pub window : Takes rows (codes "--window") (IsOf (Form.Number MIN_WINDOW MAX_WINDOW))
   pub piece : Takes rows (codes "--piece") (IsOf (Form.Number 1 MAX_PIECE))
   pub idle : Takes rows (codes "--idle") (IsOf (Form.Number 1 MAX_IDLE))
-  pub octets : Takes rows (codes "--octets") (IsOf (Form.Number 1 MAX_NUMBER))
+  pub octets : Takes rows (codes "--octets") (IsOf (Form.Number 1 MAX_SETTING))
   pub sessions : Takes rows (codes "--sessions") (IsOf (Form.Number 1 MAX_SESSIONS))
 
 send_takes : TakesEnd send_options
@@ -120,7 +120,7 @@ usable command rows t settings words s =
         window = number_of MIN_WINDOW MAX_WINDOW settings.window _ s.window (of_form rows (codes "--window") (Form.Number MIN_WINDOW MAX_WINDOW) t.window (number WINDOW) (omega arith, omega arith) s.chosen each);
         piece = number_of 1 MAX_PIECE settings.piece _ s.piece (of_form rows (codes "--piece") (Form.Number 1 MAX_PIECE) t.piece (number PIECE) (omega arith, omega arith) s.chosen each);
         idle = number_of 1 MAX_IDLE settings.idle _ s.idle (of_form rows (codes "--idle") (Form.Number 1 MAX_IDLE) t.idle (number IDLE) (omega arith, omega arith) s.chosen each);
-        octets = number_of 1 MAX_NUMBER settings.octets _ s.octets (of_form rows (codes "--octets") (Form.Number 1 MAX_NUMBER) t.octets (number OCTETS) (omega arith, omega arith) s.chosen each);
+        octets = number_of 1 MAX_SETTING settings.octets _ s.octets (of_form rows (codes "--octets") (Form.Number 1 MAX_SETTING) t.octets (number OCTETS) (omega arith, omega arith) s.chosen each);
         sessions = number_of 1 MAX_SESSIONS settings.sessions _ s.sessions (of_form rows (codes "--sessions") (Form.Number 1 MAX_SESSIONS) t.sessions (number SESSIONS) (omega arith, omega arith) s.chosen each);
       };
       some = uri.some;

@@ -10,7 +10,7 @@ use Rattle.std.proofs.lemmas.Fmt.{parse-decimal, decimal_is_IsNumeral}
 use Rattle.std.proofs.lemmas.Slice.Eq.{bytes_eq-Decides}
 use Rattle.std.proofs.lemmas.Bool.Decides.{nat_tests}
 use Rattle.beep_words.specs.declared.form.Form.{Form}
-use Rattle.beep_words.specs.declared.options.TheConstants.{MAX_NUMBER}
+use Rattle.beep_words.specs.declared.options.TheConstants.{MAX_SETTING}
 use Rattle.beep_words.specs.CommandSet.{Value, choice, number, text, word_of, begins_with_dash, is_printable, IsText, IsOf, IsOfSome}
 use Rattle.beep_words.specs.Choosing.{number_in, within, is_text, value_of_word, is_of_some}
 
@@ -36,13 +36,13 @@ not_true false e = refl
 
 -- the test of a number
 abbrev test : List ℕ → Bool
-test word = bytes_eq word (decimal (digits_value 10 word)) && nat_le (digits_value 10 word) MAX_NUMBER
+test word = bytes_eq word (decimal (digits_value 10 word)) && nat_le (digits_value 10 word) MAX_SETTING
 
 -- what the test says
-said : (word : List ℕ) → test word ≡ true → (word ≡ decimal (digits_value 10 word)) × (digits_value 10 word ≤ MAX_NUMBER)
+said : (word : List ℕ) → test word ≡ true → (word ≡ decimal (digits_value 10 word)) × (digits_value 10 word ≤ MAX_SETTING)
 said word e =
     let same : bytes_eq word (decimal (digits_value 10 word)) ≡ true = and_left _ _ e in
-    let most : digits_value 10 word ≤ MAX_NUMBER = grind (arith, nat_tests) in
+    let most : digits_value 10 word ≤ MAX_SETTING = grind (arith, nat_tests) in
     ((bytes_eq-Decides word (decimal (digits_value 10 word))).0 same, most)
 
 -- a text that isn't read, or that isn't written as it was read, is no number
@@ -55,17 +55,17 @@ none_in word r p never = by_test (test word) refl
         absurd (never (digits_value 10 word) is.0 (parse-decimal 32 (digits_value 10 word) word r (omega (arith, is.1)) (omega (arith, is.1)) is.0 p))
     by_test false e = ap (λ (b : Bool). cond b (Some (digits_value 10 word)) None) e
 
-pub some_in : (word : List ℕ) (n : ℕ) → n ≤ MAX_NUMBER → word ≡ decimal n → number_in word ≡ Some n
+pub some_in : (word : List ℕ) (n : ℕ) → n ≤ MAX_SETTING → word ≡ decimal n → number_in word ≡ Some n
 some_in word n most e =
     let v : digits_value 10 word ≡ n = ap (digits_value 10) e ∙ (decimal_is_IsNumeral n (omega (arith, most))).1 in
     let same : bytes_eq word (decimal (digits_value 10 word)) ≡ true = (bytes_eq-Decides word (decimal (digits_value 10 word))).1 (e ∙ ap decimal (sym v)) in
     let all : test word ≡ true = grind (arith, nat_tests) in
     ap (λ (b : Bool). cond b (Some (digits_value 10 word)) None) all ∙ ap (λ k. Some k) v
 
-pub number_word : (word : List ℕ) (n : ℕ) → number_in word ≡ Some n → (word ≡ decimal n) × (n ≤ MAX_NUMBER)
+pub number_word : (word : List ℕ) (n : ℕ) → number_in word ≡ Some n → (word ≡ decimal n) × (n ≤ MAX_SETTING)
 number_word word n e = by_test (test word) refl
   where
-    by_test : (b : Bool) → test word ≡ b → (word ≡ decimal n) × (n ≤ MAX_NUMBER)
+    by_test : (b : Bool) → test word ≡ b → (word ≡ decimal n) × (n ≤ MAX_SETTING)
     by_test true f =
         let is = said word f in
         let some : Some (digits_value 10 word) ≡ Some n = ap (λ (b : Bool). cond b (Some (digits_value 10 word)) None) (sym f) ∙ e in
@@ -75,7 +75,7 @@ number_word word n e = by_test (test word) refl
         let none : None ≡ Some n = ap (λ (b : Bool). cond b (Some (digits_value 10 word)) None) (sym f) ∙ e in
         cc
 
-pub word_number : (n : ℕ) → n ≤ MAX_NUMBER → number_in (decimal n) ≡ Some n
+pub word_number : (n : ℕ) → n ≤ MAX_SETTING → number_in (decimal n) ≡ Some n
 word_number n most = some_in (decimal n) n most refl
 
 -- ---- texts
@@ -140,7 +140,7 @@ value_said Form.Raw word value e =
 -- numbers of this form have 32 bits
 abbrev pub IsReadable : Form → Type 0
 IsReadable Form.Choice = Unit {0}
-IsReadable (Form.Number least most) = most ≤ MAX_NUMBER
+IsReadable (Form.Number least most) = most ≤ MAX_SETTING
 IsReadable (Form.Octets most) = Unit {0}
 IsReadable (Form.Printable most) = Unit {0}
 IsReadable Form.Raw = Unit {0}

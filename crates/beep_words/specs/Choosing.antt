@@ -10,7 +10,7 @@ use Rattle.beep_words.specs.declared.form.Form.{Form}
 use Rattle.beep_words.specs.declared.command.ShowSettings.{ShowSettings}
 use Rattle.beep_words.specs.declared.command.PairSettings.{PairSettings}
 use Rattle.beep_words.specs.declared.command.Command.{Command}
-use Rattle.beep_words.specs.declared.options.TheConstants.{MAX_NUMBER, MAX_PORT}
+use Rattle.beep_words.specs.declared.options.TheConstants.{MAX_SETTING, MAX_PORT}
 use Rattle.beep_words.specs.CommandSet.{Value, choice, number, text, begins_with_dash, is_printable, OptionRow, form_in, show_options, send_options, listen_options, pair_options}
 
 -- ---- values
@@ -19,7 +19,7 @@ use Rattle.beep_words.specs.CommandSet.{Value, choice, number, text, begins_with
 abbrev pub number_in : List ℕ → Option ℕ
 number_in word =
     let n = digits_value 10 word in
-    if bytes_eq word (decimal n) && nat_le n MAX_NUMBER then Some n else None
+    if bytes_eq word (decimal n) && nat_le n MAX_SETTING then Some n else None
 
 -- the number is in this range
 abbrev pub within : ℕ → ℕ → Option ℕ → Option Value

@@ -10,7 +10,7 @@ use Rattle.beep_words.specs.declared.form.Form.{Form}
 use Rattle.beep_words.specs.declared.command.Command.{Command}
 use Rattle.beep_words.specs.declared.command.ShowSettings.{ShowSettings}
 use Rattle.beep_words.specs.declared.command.PairSettings.{PairSettings}
-use Rattle.beep_words.specs.declared.options.TheConstants.{MAX_HOST, MAX_URI, MAX_PORT, MIN_WINDOW, MAX_WINDOW, MAX_PIECE, MAX_IDLE, MAX_NUMBER, MAX_SESSIONS}
+use Rattle.beep_words.specs.declared.options.TheConstants.{MAX_HOST, MAX_URI, MAX_PORT, MIN_WINDOW, MAX_WINDOW, MAX_PIECE, MAX_IDLE, MAX_SETTING, MAX_SESSIONS}
 
 -- ---- values
 
@@ -134,7 +134,7 @@ option name form = record { name = name; form = form }
 
 abbrev pub show_options : List OptionRow
 show_options = option (codes "--elements") Form.Choice
-    ∷ option (codes "--octets") (Form.Number 1 MAX_NUMBER)
+    ∷ option (codes "--octets") (Form.Number 1 MAX_SETTING)
     ∷ []
 
 -- what `send` and `listen` have both
@@ -144,7 +144,7 @@ end_options = option (codes "--port") (Form.Number 1 MAX_PORT)
     ∷ option (codes "--window") (Form.Number MIN_WINDOW MAX_WINDOW)
     ∷ option (codes "--piece") (Form.Number 1 MAX_PIECE)
     ∷ option (codes "--idle") (Form.Number 1 MAX_IDLE)
-    ∷ option (codes "--octets") (Form.Number 1 MAX_NUMBER)
+    ∷ option (codes "--octets") (Form.Number 1 MAX_SETTING)
     ∷ option (codes "--record") Form.Choice
     ∷ []
 
@@ -161,7 +161,7 @@ listen_options = option (codes "--offer") Form.Raw
 abbrev pub pair_options : List OptionRow
 pair_options = option (codes "--window") (Form.Number MIN_WINDOW MAX_WINDOW)
     ∷ option (codes "--piece") (Form.Number 1 MAX_PIECE)
-    ∷ option (codes "--seed") (Form.Number 0 MAX_NUMBER)
+    ∷ option (codes "--seed") (Form.Number 0 MAX_SETTING)
     ∷ []
 
 -- ---- commands

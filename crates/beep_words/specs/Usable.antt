@@ -5,7 +5,7 @@ use Rattle.std.specs.List.{list_all}
 use Rattle.beep_chars.specs.Characters.{is_allowed}
 use Rattle.beep_settings.specs.declared.settings.Settings.{Settings}
 use Rattle.beep_words.specs.declared.command.PairSettings.{PairSettings}
-use Rattle.beep_words.specs.declared.options.TheConstants.{MAX_URI, MAX_PORT, MIN_WINDOW, MAX_WINDOW, MAX_PIECE, MAX_IDLE, MAX_NUMBER, MAX_SESSIONS}
+use Rattle.beep_words.specs.declared.options.TheConstants.{MAX_URI, MAX_PORT, MIN_WINDOW, MAX_WINDOW, MAX_PIECE, MAX_IDLE, MAX_SETTING, MAX_SESSIONS}
 
 -- each number is in its range
 pub record AreRanged (settings : Settings) : Type 0 where
@@ -13,7 +13,7 @@ pub record AreRanged (settings : Settings) : Type 0 where
   pub window : (MIN_WINDOW ≤ settings.window) × (settings.window ≤ MAX_WINDOW)
   pub piece : (1 ≤ settings.piece) × (settings.piece ≤ MAX_PIECE)
   pub idle : (1 ≤ settings.idle) × (settings.idle ≤ MAX_IDLE)
-  pub octets : (1 ≤ settings.octets) × (settings.octets ≤ MAX_NUMBER)
+  pub octets : (1 ≤ settings.octets) × (settings.octets ≤ MAX_SETTING)
   pub sessions : (1 ≤ settings.sessions) × (settings.sessions ≤ MAX_SESSIONS)
 
 -- each number is in its range, and the URI has some allowed characters, and not too many

@@ -10,7 +10,7 @@ pub const MAX_HOST: usize = 253;
 /// The most characters of a URI.
 pub const MAX_URI: usize = 255;
 
-/// The greatest port.
+/// The greatest number of a port.
 pub const MAX_PORT: u32 = 65535;
 
 /// The least own window: that with which a channel begins.
@@ -26,7 +26,7 @@ pub const MAX_PIECE: u32 = 4096;
 pub const MAX_IDLE: u32 = 1000000;
 
 /// The greatest number of 32 bits.
-pub const MAX_NUMBER: u32 = 4294967295;
+pub const MAX_SETTING: u32 = 4294967295;
 
 /// The most links that are accepted.
 pub const MAX_SESSIONS: u32 = 65535;
@@ -68,7 +68,7 @@ fn show_form(name: &str) -> Option<Form>
 {
     match name {
         "--elements" => Some(Form::Choice),
-        "--octets" => Some(Form::Number(1, MAX_NUMBER)),
+        "--octets" => Some(Form::Number(1, MAX_SETTING)),
         _ => None,
     }
 }
@@ -102,7 +102,7 @@ fn end_form(name: &str) -> Option<Form>
         "--window" => Some(Form::Number(MIN_WINDOW, MAX_WINDOW)),
         "--piece" => Some(Form::Number(1, MAX_PIECE)),
         "--idle" => Some(Form::Number(1, MAX_IDLE)),
-        "--octets" => Some(Form::Number(1, MAX_NUMBER)),
+        "--octets" => Some(Form::Number(1, MAX_SETTING)),
         "--record" => Some(Form::Choice),
         _ => None,
     }
@@ -114,7 +114,7 @@ fn pair_form(name: &str) -> Option<Form>
     match name {
         "--window" => Some(Form::Number(MIN_WINDOW, MAX_WINDOW)),
         "--piece" => Some(Form::Number(1, MAX_PIECE)),
-        "--seed" => Some(Form::Number(0, MAX_NUMBER)),
+        "--seed" => Some(Form::Number(0, MAX_SETTING)),
         _ => None,
     }
 }

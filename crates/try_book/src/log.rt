@@ -1,5 +1,5 @@
 //! The journal of an end, read from the octets that it emitted and was fed, and the plain programs
-//! over it.
+//! over each item as it comes.
 
 use crate::stop::{Fault, Stop};
 use beep_frame::{Decoder, MAX_PAYLOAD, Step};
@@ -9,10 +9,10 @@ use beep_lawful::{Terms, unlawful_item};
 use beep_octets::Octets;
 use std::alloc::Global;
 
-/// The most items of a journal over which the plain programs run: they are slow.
+/// The most items of a journal that are kept and judged: the plain programs are slow.
 const MOST_JUDGED: usize = 60;
 
-/// The journal of an end, the latest item last.
+/// The journal of an end, the latest item first.
 #[derive(Drop)]
 pub struct Log {
     alloc: Global,
@@ -31,8 +31,9 @@ impl Log {
         })
     }
 
-    /// These octets were sent or received.
-    pub fn add(&mut self, side: Side, octets: &[u8]) -> Result<(), Stop> {
+    /// These octets were sent or received, by an end of these terms: each item that they complete
+    /// is judged.
+    pub fn add(&mut self, terms: &Terms, side: Side, octets: &[u8]) -> Result<(), Stop> {
         let mut rest = octets;
         for _ in 0..=octets.len() {
             let (used, item) = match side {
@@ -42,9 +43,7 @@ impl Log {
             let Some(item) = item else {
                 return Ok(());
             };
-            let Ok(()) = self.items.push(item) else {
-                return Err(Stop::NoMemory);
-            };
+            self.judge(terms, item)?;
             rest = match rest.get(used..) {
                 Some(rest) => rest,
                 None => return Err(Stop::Found(Fault::NoStream)),
@@ -53,20 +52,26 @@ impl Log {
         Ok(())
     }
 
-    /// Runs the plain programs over its first items, once, and answers over how many: no item that
-    /// arrived breaks a rule, and none that was sent breaks what `is_lawful` asks of it.
-    pub fn judge(&mut self, terms: &Terms) -> Result<usize, Stop> {
-        self.items.truncate(MOST_JUDGED);
-        self.items.reverse();
-        let journal = self.items.as_slice();
-        for i in 0..journal.len() {
-            let (past, item) = (&journal[i + 1..], &journal[i]);
-            judge_item(self.alloc, past, item)?;
-            if let Some(breach) = unlawful_item(self.alloc, terms, &[], past, item)? {
-                return Err(Stop::Found(Fault::Unlawful(breach)));
-            }
+    /// Runs the plain programs over the next item, while few are kept: one that arrived breaks no
+    /// rule, and one that was sent nothing that `is_lawful` asks of it.
+    fn judge(&mut self, terms: &Terms, item: JournalItem) -> Result<(), Stop> {
+        if MOST_JUDGED <= self.items.len() {
+            return Ok(());
         }
-        Ok(journal.len())
+        let past = self.items.as_slice();
+        judge_item(self.alloc, past, &item)?;
+        if let Some(breach) = unlawful_item(self.alloc, terms, &[], past, &item)? {
+            return Err(Stop::Found(Fault::Unlawful(breach)));
+        }
+        match self.items.insert(0, item) {
+            Ok(()) => Ok(()),
+            Err(_) => Err(Stop::NoMemory),
+        }
+    }
+
+    /// How many items were judged.
+    pub fn judged(&self) -> usize {
+        self.items.len()
     }
 }
 

@@ -8,7 +8,7 @@ use try_book::{Counts, Fault, Stop};
 #[derive(Clone, Copy, Debug)]
 pub(crate) struct Place {
     pub(crate) schedule: u64,
-    /// The act after which it stopped, from 1: the last one where a drain or a judgement did.
+    /// The act after which it stopped, from 1: the last one where a drain did.
     pub(crate) step: u64,
     pub(crate) stop: Stop,
 }
@@ -49,7 +49,7 @@ fn play(world: &mut World, step: &mut u64) -> Result<(), Stop> {
     finish(world)
 }
 
-/// Drains a schedule, first without replies and then with them, and judges it.
+/// Drains a schedule, first without replies and then with them, and counts what was judged.
 pub(crate) fn finish(world: &mut World) -> Result<(), Stop> {
     world.drain(false)?;
     if !world.book.is_all_taken() {
@@ -57,5 +57,6 @@ pub(crate) fn finish(world: &mut World) -> Result<(), Stop> {
     }
     world.drain(true)?;
     world.rests()?;
-    world.judge()
+    world.count_judged();
+    Ok(())
 }

@@ -101,7 +101,7 @@ impl End {
             return Err(Stop::Found(Fault::MayEmit));
         }
         if let (Some(log), Some(octets)) = (&mut self.log, self.wire.as_slice().get(before..)) {
-            log.add(Side::Sent, octets)?;
+            log.add(&self.terms, Side::Sent, octets)?;
         }
         self.watch(book)?;
         Ok(went)
@@ -115,7 +115,7 @@ impl End {
             return Err(Stop::Found(Fault::Unused));
         };
         if let Some(log) = &mut self.log {
-            log.add(Side::Received, heard)?;
+            log.add(&self.terms, Side::Received, heard)?;
         }
         match event {
             Event::Zero => self.settle(octets, book)?,
@@ -367,11 +367,11 @@ impl End {
         Ok(())
     }
 
-    /// Runs the plain programs over the journal, where it is kept, and answers over how many items.
-    pub(crate) fn judge(&mut self) -> Result<usize, Stop> {
-        match &mut self.log {
-            Some(log) => log.judge(&self.terms),
-            None => Ok(0),
+    /// How many items of the journal the plain programs judged, where it is kept.
+    pub(crate) fn judged(&self) -> usize {
+        match &self.log {
+            Some(log) => log.judged(),
+            None => 0,
         }
     }
 }

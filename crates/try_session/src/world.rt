@@ -122,12 +122,10 @@ impl World {
         Ok(())
     }
 
-    /// Runs the plain programs over the journals, where they are kept.
-    pub(crate) fn judge(&mut self) -> Result<(), Stop> {
-        let a = self.a.judge()?;
-        let b = self.b.judge()?;
-        self.book.counts.items = a.saturating_add(b) as u64;
-        Ok(())
+    /// Counts the items of the journals that were judged, where they are kept.
+    pub(crate) fn count_judged(&mut self) {
+        let judged = self.a.judged().saturating_add(self.b.judged());
+        self.book.counts.items = judged as u64;
     }
 }
 

@@ -309,10 +309,10 @@ fn a_message_above_65536_octets_is_too_long(rt: HostRuntime) -> Result<(), Fail>
 // the status.
 #[test]
 fn a_fault_ends_the_run(rt: HostRuntime) -> Result<(), Fail> {
-    let behind_line = "RPY 0 0 . 0 52\n! read fault\n";
+    let after_line = "RPY 0 0 . 0 52\n! read fault\n";
     let rows = [
         ("show", 4096, 4096, Some(0), None, "! read fault\n", 4),
-        ("show", 4096, 4096, Some(1), None, behind_line, 4),
+        ("show", 4096, 4096, Some(1), None, after_line, 4),
         ("show", 1, 4096, Some(72), None, "! read fault\n", 4),
         ("show", 4096, 4096, None, Some(0), "", 5),
         ("show", 4096, 4096, None, Some(1), "RPY 0 0 . 0 52\n", 5),

@@ -206,7 +206,7 @@ static BAD_TRAILERS: [(&str, u64); 8] = [
 ];
 
 // Octets that die after whole frames, those frames, the octets after them, and where it dies.
-static BEHIND: [(&str, &str, u64, Rule, u64); 3] = [
+static AFTER: [(&str, &str, u64, Rule, u64); 3] = [
     ("SEQ 1 2 3\r\nEND", "SEQ 1 2 3\n", 1, Rule::Header, 12),
     (
         "RPY 0 1 . 307 0\r\nEND\r\nMSG 01",
@@ -268,7 +268,7 @@ fn a_trailer_dies_at_its_first_bad_octet(rt: HostRuntime) -> Result<(), NoMemory
 
 #[test]
 fn what_dies_keeps_the_frames_before(rt: HostRuntime) -> Result<(), NoMemory> {
-    for (input, frames, rest, rule, place) in &BEHIND {
+    for (input, frames, rest, rule, place) in &AFTER {
         let dead = Some((*rule, *place));
         let is = is_outline(rt.alloc(), input, frames, *rest, dead)?;
         assert!(rt; is, "at {input:?}");

@@ -7,7 +7,7 @@ use std::alloc::Global;
 /// Parts, each with how often it stands.
 pub(crate) type Parts = &'static [(&'static [u8], usize)];
 
-/// The text.
+/// The parts one after another, each as often as it stands.
 pub(crate) fn text(alloc: Global, parts: Parts) -> Result<Octets, NoMemory> {
     let mut out = Octets::new(alloc);
     for (part, times) in parts.iter() {

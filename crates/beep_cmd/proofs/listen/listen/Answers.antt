@@ -6,7 +6,7 @@ use Rattle.beep_cmd.specs.Ends.{seen_of, session}
 use Rattle.beep_cmd.specs.Recording.{record_starved}
 use Rattle.beep_cmd.proofs.EndsLemmas.{listened}
 use Rattle.beep_cmd.proofs.ListenLemmas.{last_line, none_written}
-use Rattle.beep_cmd.proofs.RecordedLemmas.{listened_recorded}
+use Rattle.beep_cmd.proofs.RecordedLemmas.{listened_recorded, unlinked_keeps}
 use Rattle.beep_cmd.proofs.listen.listen.Goals as goal
 
 pub returns-clause-listened : goal.returns-clause-listened
@@ -32,4 +32,7 @@ pub returns-in_default-clause-lines : goal.returns-in_default-clause-lines
 returns-in_default-clause-lines g c = λ recording told. none_written c.args.settings.now _ (g.O.Sink.state c.args.output.now)
 
 pub returns-in_default-clause-recorded : goal.returns-in_default-clause-recorded
-returns-in_default-clause-recorded g c = λ recording. record_starved Ended.NoMemory (session tt (λ e. absurd cc)) refl (Appends-nil (g.O.Sink.state c.args.output.now).written)
+returns-in_default-clause-recorded g c =
+    let W = g.W.Wires in
+    let seen : Seen = seen_of (W.state c.args.wires.now) (W.counts c.args.wires.now) (W.asked c.args.wires.now) (W.lent c.args.wires.now) in
+    λ recording. record_starved Ended.NoMemory (session tt (λ e. absurd cc), unlinked_keeps c.args.settings.now Ended.NoMemory seen seen refl) refl (Appends-nil (g.O.Sink.state c.args.output.now).written)

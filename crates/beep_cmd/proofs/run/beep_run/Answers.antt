@@ -25,6 +25,7 @@ use Rattle.beep_cmd.proofs.EndsLemmas.{starved_at_once}
 use Rattle.beep_cmd.proofs.JudgeLemmas.{lawful}
 use Rattle.beep_cmd.proofs.ListenLemmas.{none_written}
 use Rattle.beep_cmd.proofs.PairLemmas.{runnable_complete, usable_limits}
+use Rattle.beep_cmd.proofs.RecordedLemmas.{unlinked_keeps}
 use Rattle.beep_cmd.proofs.ServingLemmas.{asks_none, each_none}
 use Rattle.beep_cmd.proofs.StatusLemmas.{listened_not, paired_not, replayed_not, sent_not, shown_not}
 use Rattle.beep_cmd.proofs.run.beep_run.Goals as goal
@@ -322,7 +323,7 @@ returns-in-Err g c =
       replay_complete = λ octets w left is_lawful no_fault. absurd (of.not_replay w);
       sent = λ settings w. starved_at_once settings _ _ _;
       listened = λ settings w. listen_starved refl;
-      listen_recorded = λ settings w recording. record_starved Ended.NoMemory (session tt (λ e. absurd cc)) refl (Appends-nil (g.O.Sink.state c.args.output.now).written);
+      listen_recorded = λ settings w recording. record_starved Ended.NoMemory (session tt (λ e. absurd cc), unlinked_keeps settings Ended.NoMemory seen seen refl) refl (Appends-nil (g.O.Sink.state c.args.output.now).written);
       listen_lines = λ settings w recording told. none_written settings seen (g.O.Sink.state c.args.output.now);
       paired = λ settings w. absurd (of.not_pair settings w);
       pair_complete = λ settings w is_runnable no_fault. absurd (of.not_pair settings w);

@@ -1,11 +1,11 @@
 -- The log of the link shows what ended the session, and what was written then.
 use Rattle.std.proofs.Common.{[], false, subst, refl}
 use Rattle.beep_journal.specs.declared.role.Role.{Role}
-use Rattle.beep_link.proofs.StandLemmas.{text-map, text-none, told-map}
+use Rattle.beep_link.proofs.StandLemmas.{reads-map, text-map, text-none, told-map}
 use Rattle.beep_link.specs.Causes.{IsBounded, WhereTold, WithText}
 use Rattle.beep_link.specs.declared.ended.Ended.{Ended}
 use Rattle.beep_talk.specs.Plan.{PlainPlan}
-use Rattle.beep_steps.specs.Logs.{moments, Shows, terms_by}
+use Rattle.beep_steps.specs.Logs.{moments, ReadsOnlyGoing, Shows, ShowsGoing, terms_by}
 use Rattle.beep_steps.proofs.OnLemmas.{none-shown, none-told, told-lawful}
 use Rattle.beep_steps.specs.Ends.{reads_of}
 use Rattle.beep_steps.specs.Refusing.{GoesUnrefused}
@@ -96,3 +96,14 @@ returns-clause-scripted g c =
     (subst (λ (p : PlainPlan). WhereTold (λ known. ShowsTold p (moments known)) log) c.in-Ok.ensures.plan
     (told-map _ (λ known. ShowsTold (plan_of c.in-Ok.listener.session) (moments known)) (λ l t. t.2.1) log (c.run_turns.ensures.told c.in-Ok.ensures.stands)))
     (returns-clause-lawful g c) c.run_turns.ensures.bounded
+
+pub returns-in_default-clause-waits : goal.returns-in_default-clause-waits
+returns-in_default-clause-waits g c =
+    none-told (ReadsOnlyGoing (terms_by Role.Listener c.args.settings.now)) (g.W.Wires.state c.args.wires.now c.args.link).log tt c.requires.unused.unread
+
+pub returns-clause-waits : goal.returns-clause-waits
+returns-clause-waits g c =
+    let log = (g.W.Wires.state c.run_turns.new.wires c.args.link).log in
+    let plan = plan_of c.in-Ok.listener.session in
+    subst (λ (x : PlainPlan). WhereTold (ReadsOnlyGoing x.terms) log) c.in-Ok.ensures.plan
+    (told-map _ (ReadsOnlyGoing plan.terms) (λ l r. reads-map _ (λ before. ShowsGoing plan.terms (moments before)) (λ before t. t.1.0.0.shows) l r) log (c.run_turns.ensures.waits c.in-Ok.ensures.stands))

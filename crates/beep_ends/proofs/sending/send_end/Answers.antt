@@ -1,11 +1,12 @@
 -- The log of the link shows what ended the session.
 use Rattle.std.proofs.Common.{subst}
 use Rattle.beep_journal.specs.declared.role.Role.{Role}
-use Rattle.beep_link.proofs.StandLemmas.{told-map}
+use Rattle.beep_link.proofs.StandLemmas.{reads-map, told-map}
 use Rattle.beep_talk.specs.Plan.{PlainPlan}
-use Rattle.beep_link.specs.Causes.{WhereTold}
+use Rattle.beep_link.specs.Causes.{IsBounded, WhereTold}
 use Rattle.beep_link.specs.declared.ended.Ended.{Ended}
-use Rattle.beep_steps.specs.Logs.{Shows, terms_by}
+use Rattle.beep_steps.specs.Ends.{reads_of}
+use Rattle.beep_steps.specs.Logs.{moments, ReadsOnlyGoing, Shows, ShowsGoing, terms_by}
 use Rattle.beep_steps.specs.Refusing.{GoesUnrefused}
 use Rattle.beep_steps.specs.Scripting.{KeepsScriptOn}
 use Rattle.beep_steps.specs.Sending.{SendsAll, sender_plan}
@@ -13,6 +14,7 @@ use Rattle.beep_steps.proofs.EndScripts.{none-script}
 use Rattle.beep_steps.proofs.EndSends.{sends-all}
 use Rattle.beep_steps.proofs.OnLemmas.{none-shown, none-told, told-lawful}
 use Rattle.beep_ends.specs.Sender.{plan_of}
+use Rattle.beep_ends.proofs.ServingLemmas.{unread-bounded}
 use Rattle.beep_ends.proofs.sending.send_end.Goals as goal
 
 pub returns-in_default-clause-told : goal.returns-in_default-clause-told
@@ -75,3 +77,20 @@ returns-clause-unrefused g c =
     let plan = plan_of c.in-Ok.sender in
     subst (λ (x : PlainPlan). WhereTold (GoesUnrefused x.terms c.run_turns.result) log) c.in-Ok.ensures.plan
     (told-map _ (GoesUnrefused plan.terms c.run_turns.result) (λ l t. t.2.tells.unrefused) log (c.run_turns.ensures.told c.in-Ok.ensures.stands))
+
+pub returns-in_default-clause-bounded : goal.returns-in_default-clause-bounded
+returns-in_default-clause-bounded g c = unread-bounded (reads_of c.args.settings.now) (g.W.Wires.state c.args.wires.now c.args.link).log c.requires.unused.unread
+
+pub returns-clause-bounded : goal.returns-clause-bounded
+returns-clause-bounded g c = subst (λ r. IsBounded r (g.W.Wires.state c.run_turns.new.wires c.args.link).log) c.reads_of.ensures c.run_turns.ensures.bounded
+
+pub returns-in_default-clause-waits : goal.returns-in_default-clause-waits
+returns-in_default-clause-waits g c =
+    none-told (ReadsOnlyGoing (terms_by Role.Initiator c.args.settings.now)) (g.W.Wires.state c.args.wires.now c.args.link).log tt c.requires.unused.unread
+
+pub returns-clause-waits : goal.returns-clause-waits
+returns-clause-waits g c =
+    let log = (g.W.Wires.state c.run_turns.new.wires c.args.link).log in
+    let plan = plan_of c.in-Ok.sender in
+    subst (λ (x : PlainPlan). WhereTold (ReadsOnlyGoing x.terms) log) c.in-Ok.ensures.plan
+    (told-map _ (ReadsOnlyGoing plan.terms) (λ l r. reads-map _ (λ before. ShowsGoing plan.terms (moments before)) (λ before t. t.1.tells.shows) l r) log (c.run_turns.ensures.waits c.in-Ok.ensures.stands))

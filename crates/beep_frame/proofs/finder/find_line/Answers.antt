@@ -1,23 +1,11 @@
 use Rattle.std.proofs.Common.{sym, ◌∙◌}
 use Rattle.beep_frame.proofs.HeaderLemmas.{at_once}
-use Rattle.beep_frame.proofs.FindLemmas.{line_more, line_head, line_seq, line_bad}
+use Rattle.beep_frame.proofs.FindLemmas.{line_finds}
 use Rattle.beep_frame.proofs.finder.find_line.Goals as goal
 
-pub returns-in-Inside-clause-found : goal.returns-in-Inside-clause-found
-returns-in-Inside-clause-found c =
-    λ rest known at. line_more c.args.line.now rest c.args.bytes.now known c.read_line-count.result.0 at c.read_line-count.new.line (rw c.in-Inside.is at c.read_line-count.ensures.turn) (rw c.in-Inside.is at c.read_line-count.ensures.used)
-
-pub returns-in-Data-clause-found : goal.returns-in-Data-clause-found
-returns-in-Data-clause-found c =
-    λ rest known at. line_head c.args.line.now rest c.args.bytes.now known c.read_line-count.result.0 at c.in-Data.head (rw c.in-Data.is at c.read_line-count.ensures.turn)
-
-pub returns-in-Seq-clause-found : goal.returns-in-Seq-clause-found
-returns-in-Seq-clause-found c =
-    λ rest known at. line_seq c.args.line.now rest c.args.bytes.now known c.read_line-count.result.0 at c.in-Seq.seq (rw c.in-Seq.is at c.read_line-count.ensures.turn)
-
-pub returns-in-Dead-clause-found : goal.returns-in-Dead-clause-found
-returns-in-Dead-clause-found c =
-    λ rest known at. line_bad c.args.line.now rest c.args.bytes.now known c.read_line-count.result.0 at (rw c.in-Dead.is at c.read_line-count.ensures.turn) c.read_line-count.ensures.within (rw c.in-Dead.is at c.read_line-count.ensures.used)
+pub returns-clause-found : goal.returns-clause-found
+returns-clause-found c =
+    λ rest known at. line_finds c.args.line.now rest c.args.bytes.now known c.read_line.result.0 at c.read_line.result.1 c.read_line.new.line c.read_line.ensures.turn c.read_line.ensures.within c.read_line.ensures.used
 
 pub returns-in-Some-clause-found : goal.returns-in-Some-clause-found
 returns-in-Some-clause-found c =

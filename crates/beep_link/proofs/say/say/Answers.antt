@@ -3,7 +3,7 @@ use Rattle.std.proofs.Common.{◌∙◌, sym, subst}
 use Rattle.beep_link.specs.declared.ended.Ended.{Ended}
 use Rattle.beep_link.proofs.KeepLemmas.{SameReads-wrote, SameReads-trans, Keeps-wrote}
 use Rattle.beep_link.specs.Causes.{WithText}
-use Rattle.beep_link.proofs.StandLemmas.{wrote-stands, front-tells, told-map, text-map}
+use Rattle.beep_link.proofs.StandLemmas.{wrote-stands, front-tells, grew-more, told-map, text-map}
 use Rattle.beep_link.proofs.say.say.Goals as goal
 
 pub returns-in_default-clause-stopped : goal.returns-in_default-clause-stopped
@@ -73,6 +73,16 @@ returns-then-not-is_more-clause-same_reads g c =
     SameReads-trans _ now next c.loop.invariant.same_reads
     (SameReads-wrote c.args.link now next (W.story c.loop.wires) (W.story c.write_link-written.new.wires) c.as_slice.result.now w.wrote w.end w.counted)
 
+pub returns-in-Err-clause-writes : goal.returns-in-Err-clause-writes
+returns-in-Err-clause-writes g c =
+    let w = c.in-Err.ensures.front.wrote in
+    grew-more _ (g.W.Wires.state c.loop.wires c.args.link).log _ w.more c.in-Err.ensures.front.front c.loop.invariant.writes w.logs w.writes
+
+pub returns-then-not-is_more-clause-writes : goal.returns-then-not-is_more-clause-writes
+returns-then-not-is_more-clause-writes g c =
+    let w = c.in-Ok-written.ensures.wrote in
+    grew-more _ (g.W.Wires.state c.loop.wires c.args.link).log _ w.more c.as_slice.result.now c.loop.invariant.writes w.logs w.writes
+
 pub loop-preserved : goal.loop-preserved
 loop-preserved g c =
     let w = c.in-Ok-written.ensures in
@@ -89,6 +99,7 @@ loop-preserved g c =
           (λ log front rest h. text-map before now _ _ (λ text k. g.met.E.End.writes c.gather_some.new.end log front rest text k) h)
           _ _ w.wrote.more w.wrote.logs w.wrote.writes (c.loop.invariant.stands before now s);
       keeps = Keeps-wrote c.args.link _ _ _ c.loop.invariant.keeps w.still_open w.kept w.others w.same_counts w.same_asked w.same_lent;
+      writes = grew-more _ now.log next.log w.wrote.more c.as_slice.result.now c.loop.invariant.writes w.wrote.logs w.wrote.writes;
       same_counts = w.same_counts ∙ c.loop.invariant.same_counts;
       same_reads = SameReads-trans _ now next c.loop.invariant.same_reads
           (SameReads-wrote c.args.link now next (W.story c.loop.wires) (W.story c.write_link-written.new.wires) c.as_slice.result.now w.wrote w.end w.counted);

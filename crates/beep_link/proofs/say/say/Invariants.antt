@@ -1,6 +1,6 @@
 -- Whatever was written, all else stays, and the end stands for the log.
 use Rattle.std.proofs.Common.{◌≡◌, [], ℕ, List, Option}
-use Rattle.beep_link.specs.Causes.{Keeps, SameReads, WhereTold, WithText}
+use Rattle.beep_link.specs.Causes.{GrewByWrites, Keeps, SameReads, WhereTold, WithText}
 use Rattle.beep_link.proofs.say.say.Given as goal
 
 abbrev pub invariant-loop : goal.invariant-loop
@@ -14,6 +14,7 @@ invariant-loop g l =
           → WhereTold (λ log. WithText before now (E.stands l.end log [])) (W.state l.wires l.link).log;
       keeps : Keeps l.link (record { state = W.state l.initial.wires; counts = W.counts l.initial.wires; asked = W.asked l.initial.wires; lent = W.lent l.initial.wires })
           (record { state = W.state l.wires; counts = W.counts l.wires; asked = W.asked l.wires; lent = W.lent l.wires });
+      writes : GrewByWrites (W.state l.initial.wires l.link).log (W.state l.wires l.link).log;
       same_counts : W.counts l.wires ≡ W.counts l.initial.wires;
       same_reads : SameReads (W.state l.initial.wires l.link) (W.state l.wires l.link);
     }

@@ -1,6 +1,6 @@
 -- The log tells what ended the session.
-use Rattle.std.proofs.Common.{rules, ◌∙◌, [], arith, subst}
-use Rattle.beep_link.specs.Causes.{WhereTold, WithText}
+use Rattle.std.proofs.Common.{rules, ℕ, List, ◌∙◌, [], arith, subst, sym}
+use Rattle.beep_link.specs.Causes.{ReadsWhere, WhereTold, WithText}
 use Rattle.beep_link.specs.declared.ended.Ended.{Ended}
 use Rattle.beep_link.proofs.KeepLemmas.{Keeps-trans}
 use Rattle.beep_link.proofs.StandLemmas.{text-none, told-empty}
@@ -12,6 +12,18 @@ returns-in-Err-clause-told g c begun =
     subst (λ t. WhereTold (λ log. WithText (g.O.Sink.state c.args.output.now).written (g.O.Sink.state c.turn.new.output).written (E.tells t c.in-Err.ended log))
     (g.W.Wires.state c.turn.new.wires c.args.link).log) c.loop-ended.invariant.terms
     (c.in-Err.ensures.stopped (g.O.Sink.state c.args.output.now).written (c.loop-ended.invariant.stands begun))
+
+pub returns-in-Err-clause-waits : goal.returns-in-Err-clause-waits
+returns-in-Err-clause-waits g c begun =
+    let E = g.E.End in
+    subst (λ t. WhereTold (ReadsWhere (λ log. (text : List ℕ) × E.tells t (Ended.Idle 0) log text)) (g.W.Wires.state c.turn.new.wires c.args.link).log) c.loop-ended.invariant.terms
+    (c.turn.ensures.waits (g.O.Sink.state c.args.output.now).written (c.loop-ended.invariant.stands begun)
+    (subst (λ t. WhereTold (ReadsWhere (λ log. (text : List ℕ) × E.tells t (Ended.Idle 0) log text)) (g.W.Wires.state c.loop-ended.wires c.args.link).log) (sym c.loop-ended.invariant.terms) (c.loop-ended.invariant.waits begun)))
+
+pub returns-in_default-clause-waits : goal.returns-in_default-clause-waits
+returns-in_default-clause-waits g c begun =
+    let E = g.E.End in
+    told-empty (ReadsWhere (λ log. (text : List ℕ) × E.tells (E.terms c.args.end.now) (Ended.Idle 0) log text)) (g.W.Wires.state c.args.wires.now c.args.link).log tt c.requires.unused.unread
 
 pub returns-in_default-clause-told : goal.returns-in_default-clause-told
 returns-in_default-clause-told g c begun =
@@ -27,6 +39,11 @@ loop-ended-preserved g c = record {
   empty = c.in-Ok-turn.ensures.empty;
   terms = c.turn.ensures.terms ∙ c.loop-ended.invariant.terms;
   stands = λ begun. c.in-Ok-turn.ensures.stands (g.O.Sink.state c.args.output.now).written (c.loop-ended.invariant.stands begun);
+  waits = λ begun.
+      let E = g.E.End in
+      subst (λ t. WhereTold (ReadsWhere (λ log. (text : List ℕ) × E.tells t (Ended.Idle 0) log text)) (g.W.Wires.state c.turn.new.wires c.args.link).log) c.loop-ended.invariant.terms
+      (c.turn.ensures.waits (g.O.Sink.state c.args.output.now).written (c.loop-ended.invariant.stands begun)
+      (subst (λ t. WhereTold (ReadsWhere (λ log. (text : List ℕ) × E.tells t (Ended.Idle 0) log text)) (g.W.Wires.state c.loop-ended.wires c.args.link).log) (sym c.loop-ended.invariant.terms) (c.loop-ended.invariant.waits begun)));
   going = c.in-Ok-turn.ensures.going;
   buffer = c.turn.ensures.buffer;
   told = c.in-Ok-turn.ensures.told;

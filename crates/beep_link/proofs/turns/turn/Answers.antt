@@ -2,9 +2,9 @@
 use Rattle.std.proofs.Common.{rules, ◌≡◌, ◌∷◌, [], ◌++◌, ℕ, List, take, subst, sym, ◌∙◌}
 use Rattle.beep_wires.specs.Log.{Logs, read, quiet, ended}
 use Rattle.beep_wires.specs.Links.{Counts}
-use Rattle.beep_link.specs.Causes.{CountsQuiet, IsOfReads, WhereTold, WithText, ended_by}
+use Rattle.beep_link.specs.Causes.{CountsQuiet, IsOfReads, ReadsWhere, WhereTold, WithText, ended_by}
 use Rattle.beep_link.specs.declared.ended.Ended.{Ended}
-use Rattle.beep_link.proofs.StandLemmas.{entered, kept, spent-is, take-front, text-map, text-more, told-map}
+use Rattle.beep_link.proofs.StandLemmas.{entered, kept, reads-grown, spent-is, take-front, text-map, text-more, told-map, told-pair}
 use Rattle.beep_link.proofs.turns.turn.Goals as goal
 
 pub returns-in_err-say-clause-stopped : goal.returns-in_err-say-clause-stopped
@@ -104,3 +104,60 @@ returns-in-Err-clause-stopped g c before s =
     (λ text k. subst (λ e. E.tells e Ended.WireFault log text) c.say.ensures.terms (g.met.E.End.stops c.say.new.end log [] text Ended.WireFault tt k)) h)
     (g.W.Wires.state c.say.new.wires c.args.link).log (c.in_ok-say.ensures.said before now s)) in
     search (rules, h)
+
+pub returns-in_err-say-clause-waits : goal.returns-in_err-say-clause-waits
+returns-in_err-say-clause-waits g c before s r = reads-grown _ _ _ c.say.ensures.writes r
+
+pub returns-in-Some-clause-waits : goal.returns-in-Some-clause-waits
+returns-in-Some-clause-waits g c before s r = reads-grown _ _ _ c.say.ensures.writes r
+
+pub returns-in-Some-is_spent-clause-waits : goal.returns-in-Some-is_spent-clause-waits
+returns-in-Some-is_spent-clause-waits g c before s r = reads-grown _ _ _ c.say.ensures.writes r
+
+pub returns-in-Ok-clause-waits : goal.returns-in-Ok-clause-waits
+returns-in-Ok-clause-waits g c before s r =
+    let E = g.E.End in
+    let now = (g.O.Sink.state c.args.output.now).written in
+    let logged : Logs (g.W.Wires.state c.say.new.wires c.args.link).log (g.W.Wires.state c.read_once.new.wires c.args.link).log (read (take c.in-Ok-Bytes.count c.read_once.new.coming) ∷ []) = search rules in
+    entered (λ log. ((text : List ℕ) × E.tells (E.terms c.args.end.now) (Ended.Idle 0) log text) × ReadsWhere (λ log. (text : List ℕ) × E.tells (E.terms c.args.end.now) (Ended.Idle 0) log text) log) (ReadsWhere (λ log. (text : List ℕ) × E.tells (E.terms c.args.end.now) (Ended.Idle 0) log text)) (read (take c.in-Ok-Bytes.count c.read_once.new.coming))
+    (λ log h. h) _ _ logged (told-pair _ _ _
+    (told-map (λ log. WithText before now (E.stands c.say.new.end log [])) (λ log. (text : List ℕ) × E.tells (E.terms c.args.end.now) (Ended.Idle 0) log text)
+    (λ log h. (h.0, subst (λ e. E.tells e (Ended.Idle 0) log h.0) c.say.ensures.terms (g.met.E.End.spends c.say.new.end log h.0 (Ended.Idle 0) tt (search rules) h.2)))
+    (g.W.Wires.state c.say.new.wires c.args.link).log (c.in_ok-say.ensures.said before now s)) (reads-grown _ _ _ c.say.ensures.writes r))
+
+pub returns-in-Err-hear-clause-waits : goal.returns-in-Err-hear-clause-waits
+returns-in-Err-hear-clause-waits g c before s r =
+    let E = g.E.End in
+    let now = (g.O.Sink.state c.args.output.now).written in
+    let logged : Logs (g.W.Wires.state c.say.new.wires c.args.link).log (g.W.Wires.state c.read_once.new.wires c.args.link).log (read (take c.in-Ok-Bytes.count c.read_once.new.coming) ∷ []) = search rules in
+    entered (λ log. ((text : List ℕ) × E.tells (E.terms c.args.end.now) (Ended.Idle 0) log text) × ReadsWhere (λ log. (text : List ℕ) × E.tells (E.terms c.args.end.now) (Ended.Idle 0) log text) log) (ReadsWhere (λ log. (text : List ℕ) × E.tells (E.terms c.args.end.now) (Ended.Idle 0) log text)) (read (take c.in-Ok-Bytes.count c.read_once.new.coming))
+    (λ log h. h) _ _ logged (told-pair _ _ _
+    (told-map (λ log. WithText before now (E.stands c.say.new.end log [])) (λ log. (text : List ℕ) × E.tells (E.terms c.args.end.now) (Ended.Idle 0) log text)
+    (λ log h. (h.0, subst (λ e. E.tells e (Ended.Idle 0) log h.0) c.say.ensures.terms (g.met.E.End.spends c.say.new.end log h.0 (Ended.Idle 0) tt (search rules) h.2)))
+    (g.W.Wires.state c.say.new.wires c.args.link).log (c.in_ok-say.ensures.said before now s)) (reads-grown _ _ _ c.say.ensures.writes r))
+
+pub returns-in-Ok-Quiet-clause-waits : goal.returns-in-Ok-Quiet-clause-waits
+returns-in-Ok-Quiet-clause-waits g c before s r =
+    let E = g.E.End in
+    let now = (g.O.Sink.state c.args.output.now).written in
+    let logged : Logs (g.W.Wires.state c.say.new.wires c.args.link).log (g.W.Wires.state c.read_once.new.wires c.args.link).log (quiet ∷ []) = search rules in
+    entered (λ log. ((text : List ℕ) × E.tells (E.terms c.args.end.now) (Ended.Idle 0) log text) × ReadsWhere (λ log. (text : List ℕ) × E.tells (E.terms c.args.end.now) (Ended.Idle 0) log text) log) (ReadsWhere (λ log. (text : List ℕ) × E.tells (E.terms c.args.end.now) (Ended.Idle 0) log text)) quiet
+    (λ log h. h) _ _ logged (told-pair _ _ _
+    (told-map (λ log. WithText before now (E.stands c.say.new.end log [])) (λ log. (text : List ℕ) × E.tells (E.terms c.args.end.now) (Ended.Idle 0) log text)
+    (λ log h. (h.0, subst (λ e. E.tells e (Ended.Idle 0) log h.0) c.say.ensures.terms (g.met.E.End.spends c.say.new.end log h.0 (Ended.Idle 0) tt (search rules) h.2)))
+    (g.W.Wires.state c.say.new.wires c.args.link).log (c.in_ok-say.ensures.said before now s)) (reads-grown _ _ _ c.say.ensures.writes r))
+
+pub returns-in-Ok-End-clause-waits : goal.returns-in-Ok-End-clause-waits
+returns-in-Ok-End-clause-waits g c before s r =
+    let E = g.E.End in
+    let now = (g.O.Sink.state c.args.output.now).written in
+    let logged : Logs (g.W.Wires.state c.say.new.wires c.args.link).log (g.W.Wires.state c.read_once.new.wires c.args.link).log (ended ∷ []) = search rules in
+    entered (λ log. ((text : List ℕ) × E.tells (E.terms c.args.end.now) (Ended.Idle 0) log text) × ReadsWhere (λ log. (text : List ℕ) × E.tells (E.terms c.args.end.now) (Ended.Idle 0) log text) log) (ReadsWhere (λ log. (text : List ℕ) × E.tells (E.terms c.args.end.now) (Ended.Idle 0) log text)) ended
+    (λ log h. h) _ _ logged (told-pair _ _ _
+    (told-map (λ log. WithText before now (E.stands c.say.new.end log [])) (λ log. (text : List ℕ) × E.tells (E.terms c.args.end.now) (Ended.Idle 0) log text)
+    (λ log h. (h.0, subst (λ e. E.tells e (Ended.Idle 0) log h.0) c.say.ensures.terms (g.met.E.End.spends c.say.new.end log h.0 (Ended.Idle 0) tt (search rules) h.2)))
+    (g.W.Wires.state c.say.new.wires c.args.link).log (c.in_ok-say.ensures.said before now s)) (reads-grown _ _ _ c.say.ensures.writes r))
+
+pub returns-in-Err-clause-waits : goal.returns-in-Err-clause-waits
+returns-in-Err-clause-waits g c before s r =
+    kept _ (g.W.Wires.state c.say.new.wires c.args.link).log (g.W.Wires.state c.read_once.new.wires c.args.link).log (search rules) (reads-grown _ _ _ c.say.ensures.writes r)

@@ -12,7 +12,7 @@ struct Case(u32, u32, &'static str, &'static str);
 const OPENED: &str = "A send RPY 0 0 . 0 103\nB send RPY 0 0 . 0 103\nA start 1 ok\n\
      A send MSG 0 1 . 103 108\nB send RPY 0 1 . 103 82\n";
 
-static CASES: [Case; 4] = [
+static CASES: [Case; 5] = [
     // 9,000 octets in one message through windows of 4,096, in wire pieces of one octet.
     Case(
         4096,
@@ -40,6 +40,28 @@ static CASES: [Case; 4] = [
          A ask 1 ok 0\nA send MSG 1 0 . 0 3\nB get 23\nB take 1 MSG 0 414243 .\n\
          total 1 1 A given 0 0 taken 0 0\ntotal 1 1 B given 0 0 taken 0 0\n\
          total 1 2 A given 3 1 taken 3 1\ntotal 1 2 B given 0 0 taken 0 0\nstill yes\n",
+    ),
+    // An `ok` that waits for another comes after the first message of the new life: the close of 3
+    // waits for the reply there, and the `ok` to the close of 1 after it. The new life stays.
+    Case(
+        4096,
+        4096,
+        "drain 4096 4096\nA start 1\nA start 3\ndrain 4096 4096\nA ask 3 1 0\ndrain 4096 4096\n\
+         B close 3\nB close 1\nA close 1\nA send 4096\nB send 4096\nB send 4096\nA get 4096\n\
+         B get 4096\nB send 4096\nA get 4096\nA start 1\nA send 4096\nB get 4096\nB send 4096\n\
+         A get 4096\nA ask 1 3 65\nA send 4096\nB get 4096\nB take 1 4096\nB reply 3 1 0\n\
+         drain 4096 4096\n",
+        "A send RPY 0 0 . 0 103\nB send RPY 0 0 . 0 103\nA start 1 ok\nA start 3 ok\n\
+         A send MSG 0 1 . 103 108\nB send RPY 0 1 . 103 82\nA send MSG 0 2 . 211 108\n\
+         B send RPY 0 2 . 185 82\nA ask 3 ok 0\nA send MSG 3 0 . 0 1\nB close 3 ok\n\
+         B close 1 ok\nA close 1 ok\nA send MSG 0 3 . 319 71\nB send MSG 0 1 . 267 71\n\
+         B send MSG 0 2 . 338 71\nA get 188\nB get 94\nB send RPY 0 3 . 409 46\nA get 69\n\
+         A start 1 ok\nA send MSG 0 4 . 390 108\nB get 132\nB send RPY 0 4 . 455 82\nA get 105\n\
+         A ask 1 ok 0\nA send MSG 1 0 . 0 3\nB get 23\nB take 1 MSG 0 414243 .\nB reply 3 ok\n\
+         B send RPY 3 0 . 0 1\nA send RPY 0 1 . 498 46\nA send RPY 0 2 . 544 46\n\
+         total 1 1 A given 0 0 taken 0 0\ntotal 1 1 B given 0 0 taken 0 0\n\
+         total 1 2 A given 3 1 taken 3 1\ntotal 1 2 B given 0 0 taken 0 0\n\
+         total 3 1 A given 1 1 taken 1 1\ntotal 3 1 B given 1 1 taken 1 1\nstill yes\n",
     ),
     // A window of 8,192 octets makes a SEQ due at once.
     Case(

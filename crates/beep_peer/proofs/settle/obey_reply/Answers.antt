@@ -12,8 +12,8 @@ use Rattle.beep_hearing.specs.Hears.{Passes}
 use Rattle.beep_hearing.proofs.RoomLemmas.{room-others}
 use Rattle.beep_answering.specs.Decided.{IsSettledAs}
 use Rattle.beep_peer.specs.Peering.{WaitsIn}
-use Rattle.beep_peer.specs.Calls.{IsDone, words_of}
-use Rattle.beep_peer.proofs.LetLemmas.{words-answered}
+use Rattle.beep_peer.specs.Calls.{AreLeft, IsDone}
+use Rattle.beep_peer.proofs.LetLemmas.{left-answered}
 use Rattle.beep_peer.proofs.DoneLemmas.{done-settles}
 use Rattle.beep_peer.proofs.LetGoLemmas.{let-upright}
 use Rattle.beep_peer.proofs.ObeyLemmas.{answered-upright}
@@ -45,10 +45,11 @@ settled_as-settled-requires c =
     }
 
 -- no answer is added or lost
-words-taken : (c : After-take_mine-answered) → words_of c.take_mine-answered.new.self.answers ≡ words_of c.args.peer.now.management.answers
-words-taken c =
-    ap words_of c.take_mine-answered.ensures.answers
-    ∙ words-answered c.is_same-grants.result (kept_of c.take_mine-answered.result.request) c.args.peer.now.management.answers
+answers-left : (c : After-grant_where-released) → AreLeft c.grant_where-released.new.lives c.args.peer.now.management.answers c.take_mine-answered.new.self.answers
+answers-left c =
+    subst (AreLeft c.grant_where-released.new.lives c.args.peer.now.management.answers) (sym c.take_mine-answered.ensures.answers)
+    (left-answered c.grant_where-released.new.lives c.is_same-grants.result (kept_of c.take_mine-answered.result.request) c.args.peer.now.management.answers
+    c.grant_where-released.ensures.leaves)
 
 passes : (c : After-pass_zero) (size : ℕ) (fed : List ℕ) (journal : List Item) (given taken : Marks) (payload : List ℕ)
     → WaitsIn size fed journal given taken c.args.head.now payload c.args.peer.now
@@ -114,7 +115,7 @@ returns-clause-stands c size fed journal given taken payload w =
     record {
       settles = done-settles size fed journal given taken c.args.head.now payload c.args.peer.now w c.grant_where-released.new.lives c.take_mine-answered.new.self
           c.grant_where-released.result d _ (c.pass_zero.ensures.hears size fed journal given taken c.args.head.now payload w.waits) released
-          c.args.peer.now.management.answers (words-taken (goal.at.returns-clause-stands c).After-take_mine-answered)
+          c.args.peer.now.management.answers (answers-left (goal.at.returns-clause-stands c).After-grant_where-released)
           (c.let_go.ensures.holds size (passed Side.Received c.args.head.now payload ∷ journal) d.given_now d.taken_now d.holds)
           c.let_go.ensures.waits c.let_go.ensures.kept;
       joined = refl;

@@ -1,5 +1,5 @@
 -- A whole request of the peer is kept with its answer, passes, and what may go of the answers goes.
-use Rattle.std.proofs.Common.{Bool, false, ◌||◌, Option, Result, Ok, Err, OnErr, List, ℕ, ◌+◌, length, [], ◌∷◌, ◌++◌, option_map, refl, sym, ap, ◌∙◌, subst}
+use Rattle.std.proofs.Common.{Bool, false, ◌||◌, Option, Result, Ok, Err, OnErr, List, ℕ, ◌+◌, length, [], ◌∷◌, ◌++◌, option_map, inl, refl, sym, ap, ◌∙◌, subst}
 use Rattle.std.proofs.Math.Bool.{or-false}
 use Rattle.std.proofs.Math.Logic.{∥∥₁_map}
 use Rattle.beep_mgmt.specs.Form.{Form, form_of}
@@ -118,7 +118,7 @@ settles c fed journal given taken payload w came =
     (c.pass_zero.ensures.passes c.args.window fed journal given taken c.args.head.now payload w.waits) in
     done-settles c.args.window fed journal given taken c.args.head.now payload old w c.pass_zero.new.lives c.came.new.self false d _
     (c.pass_zero.ensures.hears c.args.window fed journal given taken c.args.head.now payload w.waits) (sym (or-false c.args.peer.now.released))
-    c.came.new.self.answers refl
+    c.came.new.self.answers (inl refl)
     (c.let_go.ensures.holds c.args.window (passed Side.Received c.args.head.now payload ∷ journal) d.given_now d.taken_now d.holds)
     c.let_go.ensures.waits c.let_go.ensures.kept
 

@@ -28,7 +28,7 @@ returns-then-ends_zero-clause-sent c = λ size fed rest journal given taken payl
     gone-sent size journal given taken c.args.head.now payload c.args.peer.now s fed rest h r c.went-releases.result c.went-releases.new.lives c.went-releases.new.management _
     (c.went-releases.ensures.done size journal given taken c.args.head.now payload refl (gone-zero size journal given taken c.args.head.now payload c.args.peer.now s ends))
     refl c.either-peer.ensures (λ given_now taken_now holds. c.let_go.ensures.holds size _ given_now taken_now holds)
-    c.went-releases.ensures.words c.let_go.ensures.waits c.let_go.ensures.kept
+    c.went-releases.ensures.left c.let_go.ensures.waits c.let_go.ensures.kept
 
 pub returns-then-ends_zero-clause-falls : goal.returns-then-ends_zero-clause-falls
 returns-then-ends_zero-clause-falls c = omega (arith, c.let_go.ensures.falls, c.went-releases.ensures.falls)

@@ -5,8 +5,8 @@ use Rattle.beep_frame.specs.Frame.{is_msg, same_kind}
 use Rattle.beep_history.specs.declared.journal.Side.{Side}
 use Rattle.beep_history.specs.Journal.{began, passed}
 use Rattle.beep_asked.specs.Request.{kept_of}
-use Rattle.beep_peer.specs.Calls.{IsDone, words_of}
-use Rattle.beep_peer.proofs.LetLemmas.{words-answered}
+use Rattle.beep_peer.specs.Calls.{AreLeft, IsDone}
+use Rattle.beep_peer.proofs.LetLemmas.{left-answered}
 use Rattle.beep_peer.proofs.GoneLemmas.{taken-by, request-gone, refusal-gone, grant-gone, out-act, out-room, out-answer, out-starts, out-joins, out-number, out-above, out-left}
 use Rattle.beep_peer.proofs.WentLemmas.{request-upright, refusal-upright, grant-upright}
 use Rattle.beep_management.specs.Moved.{is_live_in}
@@ -75,10 +75,11 @@ returns-else-grants-clause-done c size journal given taken head payload kind g =
 pub returns-then-is_msg-clause-falls : goal.returns-then-is_msg-clause-falls
 returns-then-is_msg-clause-falls c = request-falls (is_live_in c.args.lives.now) c.args.management.now c.pass_act.new.self c.args.lives.now c.pass_act.ensures
 
-pub returns-then-grants-clause-words : goal.returns-then-grants-clause-words
-returns-then-grants-clause-words c =
-    ap words_of c.take_theirs-answered.ensures.answers
-    ∙ words-answered c.is_same-grants.result (kept_of c.take_theirs-answered.result.request) c.args.management.now.answers
+pub returns-then-grants-clause-left : goal.returns-then-grants-clause-left
+returns-then-grants-clause-left c =
+    subst (AreLeft c.grant.new.lives c.args.management.now.answers) (sym c.take_theirs-answered.ensures.answers)
+    (left-answered c.grant.new.lives c.is_same-grants.result (kept_of c.take_theirs-answered.result.request) c.args.management.now.answers
+    (λ grants. c.grant.ensures.leaves))
 
 pub returns-then-grants-clause-falls : goal.returns-then-grants-clause-falls
 returns-then-grants-clause-falls c =

@@ -2,7 +2,7 @@
 use Rattle.std.proofs.Common.{rules}
 use Rattle.std.specs.Result.{IfOk, IfErr}
 use Rattle.beep_journal.specs.declared.role.Role.{Role}
-use Rattle.beep_runs.specs.Runs.{AsksThis, IsRecorded, NotGiven, Ran, seen_of}
+use Rattle.beep_runs.specs.Runs.{AsksThis, HasListened, IsRecorded, NotGiven, Ran, seen_of}
 use Rattle.beep_wires.specs.Links.{accept}
 use Rattle.beep_runs.proofs.RunLemmas.{moved}
 use Rattle.beep_runs.proofs.recorded.listen_over.Goals as goal
@@ -30,3 +30,9 @@ returns-clause-asks g c =
     let W = g.W.Wires in
     moved (λ a b. AsksThis (accept c.args.settings.now.port) (seen_of (W.state a) (W.counts a) (W.asked a) (W.lent a)) (seen_of (W.state b) (W.counts b) (W.asked b) (W.lent b))) _ _ _ c.listen_through-answer.new.recorder.wires.now
     c.known-recorder.ensures.same (search rules) c.listen_through-answer.ensures.asks
+
+pub returns-clause-listened : goal.returns-clause-listened
+returns-clause-listened g c =
+    let W = g.W.Wires in
+    moved (λ a b. IfOk c.listen_through-answer.result (λ ended. HasListened c.args.settings.now ended (seen_of (W.state a) (W.counts a) (W.asked a) (W.lent a)) (seen_of (W.state b) (W.counts b) (W.asked b) (W.lent b)))) _ _ _ c.listen_through-answer.new.recorder.wires.now
+    c.known-recorder.ensures.same (search rules) c.listen_through-answer.ensures.listened

@@ -2,7 +2,7 @@
 use Rattle.beep_journal.specs.declared.role.Role.{Role}
 use Rattle.beep_link.specs.Causes.{Seen}
 use Rattle.beep_runs.specs.Runs.{seen_of}
-use Rattle.beep_runs.proofs.RunLemmas.{ran, recorded}
+use Rattle.beep_runs.proofs.RunLemmas.{has_listened, ran, recorded}
 use Rattle.beep_runs.proofs.recorded.listen_through.Goals as goal
 
 pub returns-clause-ran : goal.returns-clause-ran
@@ -24,3 +24,11 @@ returns-clause-recorded g c =
     let e = c.listen_end-ended.ensures in
     let s = c.shut.ensures in
     recorded Role.Listener c.args.settings.now c.listen_end-ended.result before _ _ after c.in-Ok.link i.number i.fresh i.others i.given i.quiets e.keeps e.caused e.lawful e.told s.shut s.others s.same_counts g.K.Known.known c.put_record.result c.args.out.now.octets c.put_record.new.out.octets c.requires.known c.put_record.ensures.whole c.put_record.ensures.none
+
+pub returns-clause-listened : goal.returns-clause-listened
+returns-clause-listened g c =
+    let W = g.W.Wires in
+    let before : Seen = seen_of (W.state c.args.recorder.now.wires.now) (W.counts c.args.recorder.now.wires.now) (W.asked c.args.recorder.now.wires.now) (W.lent c.args.recorder.now.wires.now) in
+    let used : Seen = seen_of (W.state c.listen_end-ended.new.wires.wires.now) (W.counts c.listen_end-ended.new.wires.wires.now) (W.asked c.listen_end-ended.new.wires.wires.now) (W.lent c.listen_end-ended.new.wires.wires.now) in
+    let after : Seen = seen_of (W.state c.shut.new.self.wires.now) (W.counts c.shut.new.self.wires.now) (W.asked c.shut.new.self.wires.now) (W.lent c.shut.new.self.wires.now) in
+    has_listened c.args.settings.now c.listen_end-ended.result c.put_record.result before used after c.in-Ok.link c.in-Ok.ensures.number c.shut.ensures.shut c.listen_end-ended.ensures.scripted c.listen_end-ended.ensures.unrefused c.listen_end-ended.ensures.waits c.put_record.ensures.ended

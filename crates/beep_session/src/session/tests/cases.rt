@@ -80,7 +80,7 @@ static CASES: [Case; 12] = [
          A get 4096 <peer refused>\nA send 4096 ERR 0 1 . 353 92\nB get 4096 <not begun>\n\
          B send 4096 RPY 0 3 . 339 46\nA get 4096 <released>\n",
     ),
-    // A close behind this end's own `ok` names no life: the ERR to it is stale.
+    // A close after this end's own `ok` names no life: the ERR to it is stale.
     Case(
         "B close 1\nB send 4096\nA get 4096\nA close 1\nA send 4096\nA send 4096\nB get 4096\n\
          B send 4096\nA get 4096",

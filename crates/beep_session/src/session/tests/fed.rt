@@ -111,7 +111,7 @@ static SCRIPTS: [Script; 23] = [
          say MSG 0 1 . 103 108\nhear ERR 0 1 . 52 60 <error code='550' />\n[not begun]\n\
          start 2\n[ok]\nsay MSG 0 2 . 211 108",
     ),
-    // A start behind an `ok` that waits is decided as it comes: its number is starting.
+    // A start after an `ok` that waits is decided as it comes: its number is starting.
     Script(
         4096,
         "hear RPY 0 0 . 0 52 <greeting />\n[greeted]\nstarts MSG 0 1 . 52 108 1\n[peer starts]\n\

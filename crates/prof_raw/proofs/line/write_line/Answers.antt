@@ -1,4 +1,4 @@
--- The four parts stand one behind another.
+-- The four parts stand one after another.
 use Rattle.std.proofs.Common.{◌≡◌, refl, ◌++◌, ◌∷◌, [], ℕ, List, length, take}
 use Rattle.std.proofs.lemmas.List.{append_assoc, take_min}
 use Rattle.std.proofs.Math.Nat.{min_comm}
@@ -6,7 +6,7 @@ use Rattle.prof_raw.specs.Line.{bang_mark, more_mark, octets_written}
 use Rattle.prof_raw.specs.declared.line.TheConstants.{ENTRY_MAX}
 use Rattle.prof_raw.proofs.line.write_line.Goals as goal
 
--- what is put behind octets, part by part, is put there at once
+-- what is put after octets, part by part, is put there at once
 parts_behind : (out bang written mark last : List ℕ) → out ++ bang ++ written ++ mark ++ last ≡ out ++ (bang ++ written ++ mark ++ last)
 parts_behind out bang written mark last = rw (append_assoc (out ++ bang ++ written) mark last, append_assoc (out ++ bang) written (mark ++ last), append_assoc out bang (written ++ (mark ++ last)), append_assoc (bang ++ written) mark last, append_assoc bang written (mark ++ last)) refl
 

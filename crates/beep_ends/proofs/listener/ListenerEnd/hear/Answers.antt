@@ -5,7 +5,9 @@ use Rattle.beep_journal.specs.Log.{got_all}
 use Rattle.beep_session.specs.Lawfully.{terms_of}
 use Rattle.beep_steps.specs.Logs.{moments, SaysNothing, StopsOn}
 use Rattle.beep_steps.specs.Refusing.{RefusesOn}
+use Rattle.beep_link.specs.declared.ended.Ended.{Ended}
 use Rattle.beep_link.specs.declared.ended.Stop.{Stop}
+use Rattle.beep_ends.specs.Turning.{goes_refused}
 use Rattle.beep_link.proofs.StandLemmas.{text-map}
 use Rattle.beep_steps.specs.Serving.{ServesOn}
 use Rattle.beep_steps.proofs.OnLemmas.{nothing-stops, ok-then, stopped-on}
@@ -51,7 +53,7 @@ returns-in-Ok-clause-stopped g c log text s =
     let all = moments (read c.args.bytes.now ∷ log) in
     err-both c.hear_all-heard.result _ _ _ (λ stop w r. text-map before after _ _
     (λ more t. (
-      (t, shows-serving (plan_of a.session) a.session c.args.bytes.now (moments log) s.0.1, stop-refuses (terms_of a.session) stop log c.args.bytes.now r),
+      (t, shows-serving (plan_of a.session) a.session c.args.bytes.now (moments log) s.0.1, stop-refuses (terms_of a.session) stop log c.args.bytes.now (goes_refused a.session a.bodies a.lines.octets.octets log Ended.Released tt s.0.2) r),
       shows-comes (plan_of a.session) (notes_of a) a.session c.args.bytes.now (moments log) s.1,
     )) w)
     (err-both c.hear_all-heard.result _ _ _
@@ -80,7 +82,7 @@ returns-in-Err-clause-stopped g c log text s =
       (
         t,
         shows-serving (plan_of a.session) a.session octets (moments log) s.0.1,
-        stop-refuses (terms_of a.session) stop log octets (subst (λ (x : Stop). RefusesOn (terms_of a.session) x (got_all octets (moments log))) (sym c.in-Err.ensures.stopped) tt),
+        stop-refuses (terms_of a.session) stop log octets (goes_refused a.session a.bodies a.lines.octets.octets log Ended.Released tt s.0.2) (subst (λ (x : Stop). RefusesOn (terms_of a.session) x (got_all octets (moments log))) (sym c.in-Err.ensures.stopped) tt),
       ),
       shows-comes (plan_of a.session) (notes_of a) a.session octets (moments log) s.1,
     ))

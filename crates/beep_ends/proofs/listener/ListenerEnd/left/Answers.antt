@@ -22,7 +22,7 @@ returns c = record {
             lines = dry-all a.session a.bodies a.lines.octets.octets text (moments log) s.0.0;
           },
           shows-served plan a.session [] (moments log) s.0.1,
-          goes_refused a.session a.bodies a.lines.octets.octets log (Ended.Cut c.left.result) s.0.2,
+          goes_refused a.session a.bodies a.lines.octets.octets log (Ended.Cut c.left.result) tt s.0.2,
         ),
         shows-goes plan (notes_of a) a.session [] (moments log) s.1,
       );

@@ -8,6 +8,8 @@ use Rattle.beep_steps.proofs.EndScripts.{comes-script}
 use Rattle.beep_steps.proofs.EndSends.{tells-stop}
 use Rattle.beep_ends.specs.Sender.{plan_of, progress_of}
 use Rattle.beep_ends.proofs.HearLemmas.{err-both, ok-and}
+use Rattle.beep_link.specs.declared.ended.Ended.{Ended}
+use Rattle.beep_ends.proofs.RefusedLemmas.{sent-unrefused}
 use Rattle.beep_ends.proofs.RefusingLemmas.{as-closing}
 use Rattle.beep_ends.proofs.sender.SenderEnd.hear.Goals as goal
 
@@ -25,7 +27,7 @@ returns-clause-stopped g c log text s =
     let one = c.args.self.now in
     err-both c.hear_all.result _ _ _
     (λ stop h r. text-none (g.O.Sink.state c.args._output.now).written _ (record {
-      tells = tells-stop (plan_of one) (progress_of one) one.session log c.args.bytes.now stop refl s.0.sends h r;
+      tells = tells-stop (plan_of one) (progress_of one) one.session log c.args.bytes.now stop refl s.0.sends (sent-unrefused one log Ended.Released tt s) h r;
       script = comes-script (plan_of one) (progress_of one) one.session c.args.bytes.now (moments log) s.0;
     }))
     (c.hear_all.ensures.stopped (moments log) s.0.sends) (c.hear_all.ensures.refuses (moments log) s.0.sends s.1)

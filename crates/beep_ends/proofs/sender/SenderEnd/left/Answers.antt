@@ -14,7 +14,7 @@ returns c = record {
     tells = record {
       shows = shows-cut c.args.self.now.session (moments log) s.0.sends.on c.left.result c.left.ensures.stands going;
       sent = λ is. absurd (cc is);
-      unrefused = sent-unrefused c.args.self.now log (Ended.Cut c.left.result) s;
+      unrefused = sent-unrefused c.args.self.now log (Ended.Cut c.left.result) tt s;
     };
     script = goes-script (plan_of c.args.self.now) (progress_of c.args.self.now) c.args.self.now.session [] (moments log) s.0;
   };

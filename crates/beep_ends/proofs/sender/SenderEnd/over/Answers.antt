@@ -18,8 +18,8 @@ returns c = record {
       record {
         tells = record {
           shows = shows-release one.session (moments log) s.0.sends.on (over-on one.session (moments log) s.0.sends.on over);
-          sent = λ is. over-sent (plan_of one) (progress_of one) one.session (moments log) s.0.sends refl over (sent-unrefused one log Ended.Released s);
-          unrefused = sent-unrefused one log Ended.Released s;
+          sent = λ is. over-sent (plan_of one) (progress_of one) one.session (moments log) s.0.sends refl over (sent-unrefused one log Ended.Released tt s);
+          unrefused = sent-unrefused one log Ended.Released tt s;
         };
         script = goes-script (plan_of one) (progress_of one) one.session [] (moments log) s.0;
       };

@@ -1,4 +1,4 @@
--- Lines are answered from the next on, and behind the last the answers are ended.
+-- Lines are answered from the next on, and after the last the answers are ended.
 use Rattle.std.proofs.Common.{◌≡◌, ◌∙◌, ◌≤◌, List, ℕ, length, sym, subst, arith, rules}
 use Rattle.beep_session.specs.Session.{Held}
 use Rattle.beep_steps.specs.Sending.{SendsOn, at_next}

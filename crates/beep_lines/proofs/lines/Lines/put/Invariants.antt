@@ -1,4 +1,4 @@
--- The lines so far, and those of the entries behind them, are the lines of the message.
+-- The lines so far, and those of the entries after them, are the lines of the message.
 use Rattle.std.proofs.Common.{◌≡◌, ◌-◌, ◌≤◌, ◌++◌, List, ℕ, length, drop}
 use Rattle.std.specs.List.{flat_map}
 use Rattle.prof_raw.specs.Entries.{entries_of}

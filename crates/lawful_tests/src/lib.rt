@@ -1,0 +1,10 @@
+//! The tests of beep_lawful, in a crate of their own, so that they are proved by the contracts of
+//! that library and its own functions are proved once.
+#![tactic(auto)]
+
+#[cfg(test)]
+mod lawful;
+#[cfg(test)]
+mod outgoing;
+#[cfg(test)]
+mod story;

@@ -1,0 +1,8 @@
+//! The tests of beep_record, in a crate of their own, so that they are proved by the contracts of
+//! that library and its own functions are proved once.
+#![tactic(auto)]
+
+#[cfg(test)]
+mod read;
+#[cfg(test)]
+mod report;
