@@ -62,7 +62,8 @@ IsRun owed so_far (m ∷ ms) =
 abbrev pub AreBack : ℕ → ℕ → List ℕ → Type 0
 AreBack count back [] = Unit {0}
 AreBack count back (n ∷ ns) =
-    IsMessageNumber n × (message_number (n + back) ≡ message_number count) × AreBack count (back + 1) ns
+    IsMessageNumber n × (message_number (n + back) ≡ message_number count)
+    × AreBack count (back + 1) ns
 
 -- the number of the oldest request that waits
 abbrev pub current : Kept → ℕ

@@ -3,6 +3,12 @@
 #![tactic(auto)]
 
 #[cfg(test)]
+mod cases;
+#[cfg(test)]
 mod examples;
+#[cfg(test)]
+mod limits;
+#[cfg(test)]
+mod replies;
 #[cfg(test)]
 mod verdict;

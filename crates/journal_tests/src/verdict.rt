@@ -1,6 +1,8 @@
+use crate::cases::{CLOSES, RELEASED, RELEASES, STARTS, WINDOWS};
 use crate::examples::{
     ANSWERS, CHANNELS, FIRST_FRAMES, LIVES, OCTETS, REQUESTS, SEQS, SessionExample,
 };
+use crate::replies::{LONG_TEXTS, NEIGHBOURS, UNREAD, ZERO_LAST};
 use beep_frame::{Head, Kind, Rule, SEQ_ROOM, SPELL_ROOM, Seq, spell, spell_seq};
 use beep_history::{JournalItem, Side};
 use beep_journal::{StartPlace, broken_content, broken_head, broken_seq, is_released};
@@ -11,7 +13,7 @@ use std::test::Fail;
 /// The MIME header of a message of channel zero.
 const HEADER: &str = "Content-Type: application/beep+xml\r\n\r\n";
 
-/// The text that a word names. All but three are elements of channel zero.
+/// The text that a word names: an element of channel zero, a part of one, or neither.
 fn element_of(word: &str) -> Option<&'static str> {
     match word {
         "greeting" => Some("<greeting />"),
@@ -26,20 +28,25 @@ fn element_of(word: &str) -> Option<&'static str> {
         "close0" => Some("<close number='0' code='200' />"),
         "close1" => Some("<close number='1' code='200' />"),
         "close3" => Some("<close number='3' code='200' />"),
+        "close1_begins" => Some("<close number='1'"),
+        "close1_ends" => Some(" code='200' />"),
         "ok" => Some("<ok />"),
         "error" => Some("<error code='550'>requested action not taken</error>"),
         "nothing" => Some("nothing"),
+        "blanks" => Some(""),
         _ => None,
     }
 }
 
-/// Appends the message of channel zero that a word names.
+/// Appends the message of channel zero that a word names, with what stands before and after an
+/// element.
 fn append_message(out: &mut Octets, word: &str, element: &str) -> Result<(), Fail> {
-    if word != "nothing" && word != "chosen_ends" {
+    let is_part = word == "nothing" || word == "blanks";
+    if !is_part && !word.ends_with("_ends") {
         out.extend(HEADER.as_bytes())?;
     }
     out.extend(element.as_bytes())?;
-    if word != "nothing" && word != "chosen_begins" {
+    if !is_part && !word.ends_with("_begins") {
         out.extend(b"\r\n")?;
     }
     Ok(())
@@ -68,11 +75,20 @@ fn kind_of(word: &str) -> Option<Kind> {
     }
 }
 
-/// The octets that a word of an example stands for.
-fn payload_of(alloc: Global, word: &str) -> Result<Octets, Fail> {
+/// The octets that a word of an example stands for: a number of octets, or a message, which has
+/// blanks up to the size after `^`.
+fn payload_of(alloc: Global, text: &str) -> Result<Octets, Fail> {
     let mut octets = Octets::new(alloc);
+    let (word, size) = text.split_once('^').unwrap_or((text, "0"));
     match element_of(word) {
-        Some(element) => append_message(&mut octets, word, element)?,
+        Some(element) => {
+            append_message(&mut octets, word, element)?;
+            let size = number_of(size).ok_or("a size")?;
+            let len = u32::try_from(octets.len()).map_err(|_| "a length")?;
+            for _ in len..size {
+                octets.extend(b" ")?;
+            }
+        }
         None => {
             let count = number_of(word).ok_or("what a frame holds")?;
             for _ in 0..count {
@@ -144,7 +160,7 @@ struct Frame {
 
 /// A session under way: its items, the latest first, and whether its sides are exchanged.
 #[derive(Drop)]
-struct Story {
+pub(crate) struct Story {
     items: Vec<JournalItem>,
     received: Way,
     sent: Way,
@@ -152,7 +168,7 @@ struct Story {
 }
 
 impl Story {
-    fn new(alloc: Global, exchanged: bool) -> Story {
+    pub(crate) fn new(alloc: Global, exchanged: bool) -> Story {
         Story {
             items: Vec::new(alloc),
             received: Way::new(),
@@ -232,7 +248,7 @@ impl Story {
     }
 
     /// Does what one text says.
-    fn step(&mut self, text: &str) -> Result<(), Fail> {
+    pub(crate) fn step(&mut self, text: &str) -> Result<(), Fail> {
         let (word, rest) = text.trim().split_once(' ').unwrap_or((text.trim(), ""));
         let side = side_of(word).ok_or("a side")?;
         if rest == "ends" {
@@ -252,7 +268,7 @@ impl Story {
     }
 
     /// Does what a line says.
-    fn play(&mut self, line: &str) -> Result<(), Fail> {
+    pub(crate) fn play(&mut self, line: &str) -> Result<(), Fail> {
         if line.is_empty() {
             return Ok(());
         }
@@ -276,7 +292,7 @@ impl Story {
     }
 
     /// The rule that a text breaks, and the number of the octet at which it does.
-    fn verdict(
+    pub(crate) fn verdict(
         &mut self,
         tuning: &[StartPlace],
         text: &str,
@@ -379,70 +395,63 @@ fn a_life_ends_and_begins_anew(rt: HostRuntime) -> Result<(), Fail> {
     Ok(())
 }
 
-/// The story of a channel that was started, and what a header breaks after more of it.
-fn started(alloc: Global, exchanged: bool, first: &str) -> Result<Story, Fail> {
-    let mut story = Story::new(alloc, exchanged);
-    story.play("started")?;
-    story.step(first)?;
-    Ok(story)
-}
-
 #[test]
-fn a_request_after_1024_that_wait_breaks_too_many_requests(rt: HostRuntime) -> Result<(), Fail> {
-    for exchanged in [false, true] {
-        let mut story = started(rt.alloc(), exchanged, "R MSG 1 0 . 1")?;
-        for number in 1..1024 {
-            story.step(&format!(in rt.alloc(); "R MSG 1 {number} . 1")?)?;
-        }
-        let found = story.verdict(&[], "R MSG 1 1024 . 1")?;
-        assert_eq!(rt; found, Some((Rule::TooManyRequests, 25632)));
-    }
+fn starts_and_closes_that_come_together(rt: HostRuntime) -> Result<(), Fail> {
+    assert_eq!(rt; first_wrong(rt.alloc(), &STARTS)?, None);
     Ok(())
 }
 
 #[test]
-fn an_answer_beside_64_unfinished_ones_breaks_too_many_answers(
-    rt: HostRuntime,
-) -> Result<(), Fail> {
-    for exchanged in [false, true] {
-        let mut story = started(rt.alloc(), exchanged, "S MSG 1 0 . 9")?;
-        for number in 0..64 {
-            story.step(&format!(in rt.alloc(); "R ANS 1 0 * 1 {number}")?)?;
-        }
-        let found = story.verdict(&[], "R ANS 1 0 * 1 64")?;
-        assert_eq!(rt; found, Some((Rule::TooManyAnswers, 1782)));
-    }
+fn a_life_ends_with_the_last_octet_of_an_ok(rt: HostRuntime) -> Result<(), Fail> {
+    assert_eq!(rt; first_wrong(rt.alloc(), &CLOSES)?, None);
     Ok(())
 }
 
 #[test]
-fn an_octet_past_the_longest_message_breaks_long(rt: HostRuntime) -> Result<(), Fail> {
-    for exchanged in [false, true] {
-        let mut story = started(rt.alloc(), exchanged, "S SEQ 1 0 2000000")?;
-        for _ in 0..16 {
-            story.step("R MSG 1 0 * 65536")?;
-        }
-        let found = story.verdict(&[], "R MSG 1 0 . 1")?;
-        assert_eq!(rt; found, Some((Rule::Long, 1049238)));
-    }
+fn what_is_written_after_a_release_is_judged(rt: HostRuntime) -> Result<(), Fail> {
+    assert_eq!(rt; first_wrong(rt.alloc(), &RELEASES)?, None);
+    Ok(())
+}
+
+#[test]
+fn zero_reply_stands_last(rt: HostRuntime) -> Result<(), Fail> {
+    assert_eq!(rt; first_wrong(rt.alloc(), &ZERO_LAST)?, None);
+    Ok(())
+}
+
+#[test]
+fn a_reply_without_its_form_leaves_each_life_as_it_was(rt: HostRuntime) -> Result<(), Fail> {
+    assert_eq!(rt; first_wrong(rt.alloc(), &UNREAD)?, None);
+    Ok(())
+}
+
+#[test]
+fn a_message_of_channel_zero_has_at_most_65536_octets(rt: HostRuntime) -> Result<(), Fail> {
+    assert_eq!(rt; first_wrong(rt.alloc(), &LONG_TEXTS)?, None);
+    Ok(())
+}
+
+#[test]
+fn windows_and_numbers_are_those_of_one_life(rt: HostRuntime) -> Result<(), Fail> {
+    assert_eq!(rt; first_wrong(rt.alloc(), &WINDOWS)?, None);
+    Ok(())
+}
+
+#[test]
+fn what_is_nearest_to_a_broken_rule_breaks_none(rt: HostRuntime) -> Result<(), Fail> {
+    assert_eq!(rt; first_wrong(rt.alloc(), &NEIGHBOURS)?, None);
     Ok(())
 }
 
 #[test]
 fn a_granted_close_of_0_releases(rt: HostRuntime) -> Result<(), Fail> {
-    let pasts = [
-        ("started", false),
-        ("started; R MSG 0 2 . close0", false),
-        ("started; R MSG 0 2 . close0; S ERR 0 2 . error", false),
-        ("started; R MSG 0 2 . close0; S RPY 0 2 . ok", true),
-        ("started; S MSG 0 1 . close0; R RPY 0 1 . ok", true),
-        ("started; R MSG 0 2 . close1; S RPY 0 2 . ok", false),
-    ];
-    for (past, released) in pasts {
-        let mut story = Story::new(rt.alloc(), false);
-        story.play(past)?;
-        let found = is_released(rt.alloc(), &story.items)?;
-        assert_eq!(rt; found, released, "at {past}");
+    for (past, released) in &RELEASED {
+        for exchanged in [false, true] {
+            let mut story = Story::new(rt.alloc(), exchanged);
+            story.play(past)?;
+            let found = is_released(rt.alloc(), &story.items)?;
+            assert_eq!(rt; found, *released, "at {past}");
+        }
     }
     Ok(())
 }

@@ -15,6 +15,22 @@ const START: &str = "Content-Type: application/beep+xml\r\n\r\n\
 
 const PROFILE: &str = "Content-Type: application/beep+xml\r\n\r\n<profile uri='urn:x' />\r\n";
 
+const START_3: &str = "Content-Type: application/beep+xml\r\n\r\n\
+    <start number='3'><profile uri='urn:x' /></start>\r\n";
+
+const HALF_PROFILE: &str = "Content-Type: application/beep+xml\r\n\r\n<p";
+
+const CLOSE_0: &str =
+    "Content-Type: application/beep+xml\r\n\r\n<close number='0' code='200' />\r\n";
+
+const CLOSE_1: &str =
+    "Content-Type: application/beep+xml\r\n\r\n<close number='1' code='200' />\r\n";
+
+const CLOSE_3: &str =
+    "Content-Type: application/beep+xml\r\n\r\n<close number='3' code='200' />\r\n";
+
+const OK: &str = "Content-Type: application/beep+xml\r\n\r\n<ok />\r\n";
+
 const OTHER_PROFILE: &str = "Content-Type: application/beep+xml\r\n\r\n<profile uri='urn:y' />\r\n";
 
 /// A header of a side with its channel, number, sequence number, size and answer number, and its
@@ -67,8 +83,9 @@ static STARTED: [Step; 4] = [
     },
 ];
 
-// The rules of docs/RULES.md, worked out by hand.
-static CASES: [Case; 6] = [
+// The rules of docs/RULES.md, worked out by hand. By then 141 octets of payload were received on
+// channel zero, and 115 sent; a start has 89, a profile 63, a close 71, an `ok` 46.
+static CASES: [Case; 14] = [
     Case {
         name: "a frame past the initial window",
         steps: &[Step {
@@ -176,6 +193,285 @@ static CASES: [Case; 6] = [
         ],
         breaks: Some(Rule::ZeroReply),
     },
+    Case {
+        name: "an answer on channel zero",
+        steps: &[
+            Step {
+                side: Side::Sent,
+                kind: Kind::Msg,
+                more: false,
+                numbers: [0, 1, 115, 89, 0],
+                text: Some(START),
+            },
+            Step {
+                side: Side::Received,
+                kind: Kind::Ans,
+                more: false,
+                numbers: [0, 1, 141, 5, 0],
+                text: None,
+            },
+        ],
+        breaks: Some(Rule::ZeroReply),
+    },
+    Case {
+        name: "an answer on channel zero within a positive reply",
+        steps: &[
+            Step {
+                side: Side::Sent,
+                kind: Kind::Msg,
+                more: false,
+                numbers: [0, 1, 115, 89, 0],
+                text: Some(START),
+            },
+            Step {
+                side: Side::Received,
+                kind: Kind::Rpy,
+                more: true,
+                numbers: [0, 1, 141, 40, 0],
+                text: Some(HALF_PROFILE),
+            },
+            Step {
+                side: Side::Received,
+                kind: Kind::Ans,
+                more: false,
+                numbers: [0, 1, 181, 5, 0],
+                text: None,
+            },
+        ],
+        breaks: Some(Rule::KindChanged),
+    },
+    Case {
+        name: "a frame sent after a release, of a channel without a life",
+        steps: &[
+            Step {
+                side: Side::Received,
+                kind: Kind::Msg,
+                more: false,
+                numbers: [0, 2, 141, 71, 0],
+                text: Some(CLOSE_0),
+            },
+            Step {
+                side: Side::Sent,
+                kind: Kind::Rpy,
+                more: false,
+                numbers: [0, 2, 115, 46, 0],
+                text: Some(OK),
+            },
+            Step {
+                side: Side::Sent,
+                kind: Kind::Msg,
+                more: false,
+                numbers: [3, 0, 0, 5, 0],
+                text: None,
+            },
+        ],
+        breaks: Some(Rule::NoSuchChannel),
+    },
+    Case {
+        name: "a frame sent after a release, of a live channel",
+        steps: &[
+            Step {
+                side: Side::Received,
+                kind: Kind::Msg,
+                more: false,
+                numbers: [0, 2, 141, 71, 0],
+                text: Some(CLOSE_0),
+            },
+            Step {
+                side: Side::Sent,
+                kind: Kind::Rpy,
+                more: false,
+                numbers: [0, 2, 115, 46, 0],
+                text: Some(OK),
+            },
+            Step {
+                side: Side::Sent,
+                kind: Kind::Msg,
+                more: false,
+                numbers: [1, 0, 0, 5, 0],
+                text: None,
+            },
+        ],
+        breaks: None,
+    },
+    Case {
+        name: "a frame after crossing closes and the late ok",
+        steps: &[
+            Step {
+                side: Side::Received,
+                kind: Kind::Msg,
+                more: false,
+                numbers: [0, 2, 141, 71, 0],
+                text: Some(CLOSE_1),
+            },
+            Step {
+                side: Side::Sent,
+                kind: Kind::Msg,
+                more: false,
+                numbers: [0, 1, 115, 71, 0],
+                text: Some(CLOSE_1),
+            },
+            Step {
+                side: Side::Sent,
+                kind: Kind::Rpy,
+                more: false,
+                numbers: [0, 2, 186, 46, 0],
+                text: Some(OK),
+            },
+            Step {
+                side: Side::Received,
+                kind: Kind::Rpy,
+                more: false,
+                numbers: [0, 1, 212, 46, 0],
+                text: Some(OK),
+            },
+            Step {
+                side: Side::Received,
+                kind: Kind::Msg,
+                more: false,
+                numbers: [1, 0, 0, 2, 0],
+                text: None,
+            },
+        ],
+        breaks: Some(Rule::NoSuchChannel),
+    },
+    Case {
+        name: "a frame of a life that began before the late ok",
+        steps: &[
+            Step {
+                side: Side::Received,
+                kind: Kind::Msg,
+                more: false,
+                numbers: [0, 2, 141, 71, 0],
+                text: Some(CLOSE_1),
+            },
+            Step {
+                side: Side::Sent,
+                kind: Kind::Msg,
+                more: false,
+                numbers: [0, 1, 115, 71, 0],
+                text: Some(CLOSE_1),
+            },
+            Step {
+                side: Side::Sent,
+                kind: Kind::Rpy,
+                more: false,
+                numbers: [0, 2, 186, 46, 0],
+                text: Some(OK),
+            },
+            Step {
+                side: Side::Received,
+                kind: Kind::Msg,
+                more: false,
+                numbers: [0, 3, 212, 89, 0],
+                text: Some(START),
+            },
+            Step {
+                side: Side::Sent,
+                kind: Kind::Rpy,
+                more: false,
+                numbers: [0, 3, 232, 63, 0],
+                text: Some(PROFILE),
+            },
+            Step {
+                side: Side::Received,
+                kind: Kind::Rpy,
+                more: false,
+                numbers: [0, 1, 301, 46, 0],
+                text: Some(OK),
+            },
+            Step {
+                side: Side::Received,
+                kind: Kind::Msg,
+                more: false,
+                numbers: [1, 0, 0, 2, 0],
+                text: None,
+            },
+        ],
+        breaks: None,
+    },
+    Case {
+        name: "a frame of a number whose close came before its life began",
+        steps: &[
+            Step {
+                side: Side::Received,
+                kind: Kind::Msg,
+                more: false,
+                numbers: [0, 2, 141, 89, 0],
+                text: Some(START_3),
+            },
+            Step {
+                side: Side::Received,
+                kind: Kind::Msg,
+                more: false,
+                numbers: [0, 3, 230, 71, 0],
+                text: Some(CLOSE_3),
+            },
+            Step {
+                side: Side::Sent,
+                kind: Kind::Rpy,
+                more: false,
+                numbers: [0, 2, 115, 63, 0],
+                text: Some(PROFILE),
+            },
+            Step {
+                side: Side::Sent,
+                kind: Kind::Rpy,
+                more: false,
+                numbers: [0, 3, 178, 46, 0],
+                text: Some(OK),
+            },
+            Step {
+                side: Side::Received,
+                kind: Kind::Msg,
+                more: false,
+                numbers: [3, 0, 0, 5, 0],
+                text: None,
+            },
+        ],
+        breaks: None,
+    },
+    Case {
+        name: "a frame of a number whose close came in its life",
+        steps: &[
+            Step {
+                side: Side::Received,
+                kind: Kind::Msg,
+                more: false,
+                numbers: [0, 2, 141, 89, 0],
+                text: Some(START_3),
+            },
+            Step {
+                side: Side::Sent,
+                kind: Kind::Rpy,
+                more: false,
+                numbers: [0, 2, 115, 63, 0],
+                text: Some(PROFILE),
+            },
+            Step {
+                side: Side::Received,
+                kind: Kind::Msg,
+                more: false,
+                numbers: [0, 3, 230, 71, 0],
+                text: Some(CLOSE_3),
+            },
+            Step {
+                side: Side::Sent,
+                kind: Kind::Rpy,
+                more: false,
+                numbers: [0, 3, 178, 46, 0],
+                text: Some(OK),
+            },
+            Step {
+                side: Side::Received,
+                kind: Kind::Msg,
+                more: false,
+                numbers: [3, 0, 0, 5, 0],
+                text: None,
+            },
+        ],
+        breaks: Some(Rule::NoSuchChannel),
+    },
 ];
 
 fn head(kind: Kind, more: bool, numbers: [u32; 5]) -> Head {
@@ -275,5 +571,50 @@ fn a_frame_before_the_greeting_breaks_no_greeting(rt: HostRuntime) -> Result<(),
         text: None,
     };
     assert_eq!(rt; play(&mut judge, &step)?, Some(Rule::NoGreeting));
+    Ok(())
+}
+
+// What comes after channel 1 was started: both ends close 0, and one `ok` goes (RFC 3080, section
+// 2.3.1.3). After each step stands whether the session is released.
+static BOTH_CLOSE: [(Step, bool); 3] = [
+    (
+        Step {
+            side: Side::Received,
+            kind: Kind::Msg,
+            more: false,
+            numbers: [0, 2, 141, 71, 0],
+            text: Some(CLOSE_0),
+        },
+        false,
+    ),
+    (
+        Step {
+            side: Side::Sent,
+            kind: Kind::Msg,
+            more: false,
+            numbers: [0, 1, 115, 71, 0],
+            text: Some(CLOSE_0),
+        },
+        false,
+    ),
+    (
+        Step {
+            side: Side::Sent,
+            kind: Kind::Rpy,
+            more: false,
+            numbers: [0, 2, 186, 46, 0],
+            text: Some(OK),
+        },
+        true,
+    ),
+];
+
+#[test]
+fn both_ends_may_close_0_and_one_ok_releases(rt: HostRuntime) -> Result<(), Fail> {
+    let mut judge = started(rt.alloc())?;
+    for (step, released) in &BOTH_CLOSE {
+        assert_eq!(rt; play(&mut judge, step)?, None);
+        assert_eq!(rt; judge.is_released(), *released);
+    }
     Ok(())
 }

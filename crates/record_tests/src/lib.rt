@@ -3,6 +3,24 @@
 #![tactic(auto)]
 
 #[cfg(test)]
+mod limits;
+#[cfg(test)]
+mod lives;
+#[cfg(test)]
+mod openings;
+#[cfg(test)]
+mod played;
+#[cfg(test)]
 mod read;
 #[cfg(test)]
+mod releases;
+#[cfg(test)]
+mod replies;
+#[cfg(test)]
 mod report;
+#[cfg(test)]
+mod rules;
+#[cfg(test)]
+mod starts;
+#[cfg(test)]
+mod words;

@@ -66,35 +66,36 @@ fn what_lines_say(rt: HostRuntime) -> Result<(), Fail> {
 }
 
 // Each is refused at the first octet after which no record can go on, or at its end.
+static REFUSED: [(&[u8], u64); 24] = [
+    (b"", 0),
+    (b"beep-record 3 listener\n", 12),
+    (b"beep-record 1 lissener\n", 17),
+    (b"beep-record 1 initiator", 23),
+    (b"beep-record 1 listener\r\n", 22),
+    (b"beep-record 1 listener\nX\n", 23),
+    (b"beep-record 1 listener\nR\n", 24),
+    (b"beep-record 1 listener\nR \n", 25),
+    (b"beep-record 1 listener\nR a", 26),
+    (b"beep-record 1 listener\nR \t\n", 25),
+    (b"beep-record 1 listener\nR \\0d\n", 27),
+    (b"beep-record 1 listener\nR \\0a\n", 27),
+    (b"beep-record 1 listener\nR \\1F\n", 27),
+    (b"beep-record 1 listener\nR \\41\n", 26),
+    (b"beep-record 1 listener\nR \\7e\n", 27),
+    (b"beep-record 1 listener\nR \\t\n", 26),
+    (b"beep-record 1 listener\nE\nE\n", 25),
+    (b"beep-record 1 listener\nE\nQ\n", 25),
+    (b"beep-record 1 listener\nE\nR a\n", 25),
+    (b"beep-record 1 listener\nS 12\n", 26),
+    (b"beep-record 1 listener\nS 00\n", 26),
+    (b"beep-record 1 listener\nS 0\nQ\n", 27),
+    (b"beep-record 1 listener\nS \n", 25),
+    (b"beep-record 1 listener\nQ", 24),
+];
+
 #[test]
 fn what_is_no_record_is_refused_at_its_place(rt: HostRuntime) -> Result<(), Fail> {
-    let cases: [(&[u8], u64); 24] = [
-        (b"", 0),
-        (b"beep-record 3 listener\n", 12),
-        (b"beep-record 1 lissener\n", 17),
-        (b"beep-record 1 initiator", 23),
-        (b"beep-record 1 listener\r\n", 22),
-        (b"beep-record 1 listener\nX\n", 23),
-        (b"beep-record 1 listener\nR\n", 24),
-        (b"beep-record 1 listener\nR \n", 25),
-        (b"beep-record 1 listener\nR a", 26),
-        (b"beep-record 1 listener\nR \t\n", 25),
-        (b"beep-record 1 listener\nR \\0d\n", 27),
-        (b"beep-record 1 listener\nR \\0a\n", 27),
-        (b"beep-record 1 listener\nR \\1F\n", 27),
-        (b"beep-record 1 listener\nR \\41\n", 26),
-        (b"beep-record 1 listener\nR \\7e\n", 27),
-        (b"beep-record 1 listener\nR \\t\n", 26),
-        (b"beep-record 1 listener\nE\nE\n", 25),
-        (b"beep-record 1 listener\nE\nQ\n", 25),
-        (b"beep-record 1 listener\nE\nR a\n", 25),
-        (b"beep-record 1 listener\nS 12\n", 26),
-        (b"beep-record 1 listener\nS 00\n", 26),
-        (b"beep-record 1 listener\nS 0\nQ\n", 27),
-        (b"beep-record 1 listener\nS \n", 25),
-        (b"beep-record 1 listener\nQ", 24),
-    ];
-    for (at, (text, place)) in cases.iter().enumerate() {
+    for (at, (text, place)) in REFUSED.iter().enumerate() {
         assert_eq!(rt;
             read_record(rt.alloc(), text).err(),
             Some(RecordError::BadRecord(*place)),
