@@ -55,8 +55,9 @@ fn meaning_of(status: u8) -> &'static str {
     match status {
         1 => "the words are no command; there are: show [--elements yes|no] [--octets N]; replay; \
               pair [--window N] [--piece N] [--seed N]; send [--host HOST] [--profile raw] \
-              [OPTIONS]; listen [--offer raw] [--sessions N] [OPTIONS]; where OPTIONS are --port N, \
-              --raw-uri URI, --window N, --piece N, --idle N, --octets N and --record yes|no",
+              [OPTIONS]; listen [--offer raw] [--sessions N] [OPTIONS]; where OPTIONS are \
+              --port N, --raw-uri URI, --window N, --piece N, --idle N, --octets N and \
+              --record yes|no",
         2 => "the input is no record or schedule, or what was written breaks a rule, or a line of \
               it is too long, at the place in the last line",
         3 => "what was read breaks a rule of BEEP, at the octet that the last line names",

@@ -38,7 +38,7 @@ module _ (octets : List ℕ) (role : Role) (log : List Entry) (within : length o
         let all : text ≡ report past = text_is ∙ ap (λ (x : Verdict). report past ++ verdict_line x) v ∙ append-nil (report past) in
         fine (status_is ∙ ap verdict_status v) (record { past = past; session = session_of past shows; no_fault = e; text_is = all })
 
-    -- a place within the limit is told as it is
+    -- a place within the limit is the same modulo 2^64
     place_is : (fault : Fault) → past.fault ≡ Some fault → modulo_2_64 fault.place ≡ fault.place
     place_is fault e = omega (arith, place_within octets role log past fault says shows e, within)
 

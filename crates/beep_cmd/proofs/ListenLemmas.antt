@@ -1,5 +1,5 @@
 -- What a run of `listen` wrote: session after session, and then its last line.
-use Rattle.std.proofs.Common.{◌≡◌, ◌⊎◌, inl, inr, ℕ, ◌+◌, ◌≤◌, ◌<◌, Bool, true, false, if◌then◌else◌, List, [], ◌∷◌, ◌++◌, Option, None, Some, refl, sym, ap, ◌∙◌, subst, arith}
+use Rattle.std.proofs.Common.{◌≡◌, ◌⊎◌, inl, inr, ℕ, ◌+◌, ◌≤◌, Bool, true, false, if◌then◌else◌, List, [], ◌∷◌, Option, Some, refl, sym, ap, ◌∙◌, subst, arith}
 use Rattle.std.specs.Io.KnownBytes.{Appends}
 use Rattle.std.proofs.KnownBytes.{Appends-nil, Appends-trans}
 use Rattle.beep_wires.specs.Counts.{Rose}
@@ -9,16 +9,16 @@ use Rattle.beep_wires.specs.States.{SinkState}
 use Rattle.beep_journal.specs.declared.role.Role.{Role}
 use Rattle.beep_settings.specs.declared.settings.Settings.{Settings}
 use Rattle.beep_link.specs.declared.ended.Ended.{Ended}
-use Rattle.beep_link.specs.Causes.{Seen, WhereTold, WithText}
+use Rattle.beep_link.specs.Causes.{Seen, WhereKnown, WithText}
 use Rattle.beep_steps.specs.Refusing.{GoesUnrefused}
-use Rattle.beep_steps.specs.Scripting.{KeepsAboveOn}
+use Rattle.beep_steps.specs.Scripting.{KeepsWholeOn}
 use Rattle.beep_steps.specs.Logs.{moments, Shows, terms_by, ReadsOnlyGoing}
-use Rattle.beep_ends.specs.Listening.{is_whole, listener_plan, AreLinesOf}
-use Rattle.beep_cmd.specs.Ends.{ended_line, ended_status, ends_run, EachOf, Tells, whole_line}
+use Rattle.beep_listener.specs.Listening.{is_whole, listener_plan, AreLinesOf}
+use Rattle.beep_cmd.specs.Ends.{ended_line, ended_status, ends_run, Tells, whole_line}
 use Rattle.beep_cmd.specs.Listening.{AreTold, EndsBy, first_of, run_cause, Session, SessionsOver, text_of, WritesLines, WritesOf}
 use Rattle.beep_cmd.specs.Serving.{GoesOn, WritesSession, WritesSessions}
 
--- ---- which logs are told
+-- ---- which logs are known
 
 pub told_before : (before mid after : Seen) → GoesOn mid after → AreTold before after → AreTold before mid
 told_before before mid after g told link least less =
@@ -36,27 +36,27 @@ module _ (settings : Settings) (cause : Ended) (before used after : Seen) (link 
   at_it = ap (λ (n : ℕ). (after.state n).log) (sym is) ∙ ap (λ (l : Link). l.log) shut
 
   session_by : (log : List Entry) → (after.state before.counts.given).log ≡ Some log → Shows (terms_by Role.Listener settings) cause log
-      → WithText old new (AreLinesOf (listener_plan settings) (is_whole cause) (moments log)) → KeepsAboveOn (listener_plan settings) log
+      → WithText old new (AreLinesOf (listener_plan settings) (is_whole cause) (moments log)) → KeepsWholeOn (listener_plan settings) log
       → GoesUnrefused (terms_by Role.Listener settings) cause log → ReadsOnlyGoing (terms_by Role.Listener settings) log → WritesSession settings cause before after old new
-  session_by log told shows text above unrefused waits = record {
+  session_by log told shows text script unrefused waits = record {
     text = text.0;
     lines = text.1;
-    writes = subst (WhereTold (WritesOf settings (record { cause = cause; text = text.0 }))) (sym told) (record { shows = shows; lines = text.2; above = above; unrefused = unrefused; waits = waits });
+    writes = subst (WhereKnown (WritesOf settings (record { cause = cause; text = text.0 }))) (sym told) (record { shows = shows; lines = text.2; script = script; unrefused = unrefused; waits = waits });
   }
 
-  pub session_lines : WhereTold (Shows (terms_by Role.Listener settings) cause) (used.state link).log
-      → WhereTold (λ log. WithText old new (AreLinesOf (listener_plan settings) (is_whole cause) (moments log))) (used.state link).log
-      → WhereTold (KeepsAboveOn (listener_plan settings)) (used.state link).log → WhereTold (GoesUnrefused (terms_by Role.Listener settings) cause) (used.state link).log
-      → WhereTold (ReadsOnlyGoing (terms_by Role.Listener settings)) (used.state link).log
+  pub session_lines : WhereKnown (Shows (terms_by Role.Listener settings) cause) (used.state link).log
+      → WhereKnown (λ log. WithText old new (AreLinesOf (listener_plan settings) (is_whole cause) (moments log))) (used.state link).log
+      → WhereKnown (KeepsWholeOn (listener_plan settings)) (used.state link).log → WhereKnown (GoesUnrefused (terms_by Role.Listener settings) cause) (used.state link).log
+      → WhereKnown (ReadsOnlyGoing (terms_by Role.Listener settings)) (used.state link).log
       → AreTold before after → WritesSession settings cause before after old new
-  session_lines shows text above unrefused waits told =
+  session_lines shows text script unrefused waits told =
       let it = told before.counts.given (omega arith) (omega (arith, one)) in
       let of : (used.state link).log ≡ Some it.0 = sym at_it ∙ it.1 in
-      session_by it.0 it.1 (subst (WhereTold (Shows (terms_by Role.Listener settings) cause)) of shows)
-      (subst (WhereTold (λ log. WithText old new (AreLinesOf (listener_plan settings) (is_whole cause) (moments log)))) of text)
-      (subst (WhereTold (KeepsAboveOn (listener_plan settings))) of above)
-      (subst (WhereTold (GoesUnrefused (terms_by Role.Listener settings) cause)) of unrefused)
-      (subst (WhereTold (ReadsOnlyGoing (terms_by Role.Listener settings))) of waits)
+      session_by it.0 it.1 (subst (WhereKnown (Shows (terms_by Role.Listener settings) cause)) of shows)
+      (subst (WhereKnown (λ log. WithText old new (AreLinesOf (listener_plan settings) (is_whole cause) (moments log)))) of text)
+      (subst (WhereKnown (KeepsWholeOn (listener_plan settings))) of script)
+      (subst (WhereKnown (GoesUnrefused (terms_by Role.Listener settings) cause)) of unrefused)
+      (subst (WhereKnown (ReadsOnlyGoing (terms_by Role.Listener settings))) of waits)
 
 -- ---- session after session
 
@@ -76,7 +76,7 @@ sessions_stay settings mid after g first next (session ∷ earlier) within over 
   over.0,
   over.1,
   over.2,
-  subst (λ (l : Link). WhereTold (WritesOf settings session) l.log) (sym (g.same over.0 (omega (arith, over.1, within)))) over.3,
+  subst (λ (l : Link). WhereKnown (WritesOf settings session) l.log) (sym (g.same over.0 (omega (arith, over.1, within)))) over.3,
   sessions_stay settings mid after g first over.0 earlier (omega (arith, over.1, within)) over.4,
 )
 

@@ -1,30 +1,30 @@
 -- How a run that is recorded ends.
-use Rattle.std.proofs.Common.{◌≡◌, ◌≢◌, ◌⊎◌, inl, inr, ℕ, ◌+◌, ◌≤◌, true, List, [], ◌∷◌, ◌++◌, codes, Some, None, refl, sym, ap, ◌∙◌, subst, arith, append_assoc}
+use Rattle.std.proofs.Common.{◌≡◌, ◌≢◌, inl, inr, ℕ, ◌+◌, ◌≤◌, true, List, [], ◌∷◌, ◌++◌, codes, refl, sym, ap, ◌∙◌, subst, arith, append_assoc}
 use Rattle.std.proofs.lemmas.List.{append-nil}
 use Rattle.std.specs.Fmt.{decimal}
 use Rattle.std.specs.Io.KnownBytes.{Appends, Consumes}
 use Rattle.beep_journal.specs.declared.role.Role.{Role}
-use Rattle.beep_record.specs.Record.{first_line, log_text, record_text}
+use Rattle.beep_record.specs.Record.{first_line, log_text}
 use Rattle.beep_record.specs.declared.limits.TheConstants.{MAX_STATUS}
 use Rattle.beep_wires.specs.Counts.{Rose}
 use Rattle.beep_wires.specs.States.{SourceState, SinkState}
-use Rattle.beep_wires.specs.Links.{Link, Ask, dial, accept}
+use Rattle.beep_wires.specs.Links.{Link, dial, accept}
 use Rattle.beep_settings.specs.declared.settings.Settings.{Settings}
 use Rattle.beep_link.specs.declared.ended.Ended.{Ended}
-use Rattle.beep_link.specs.Causes.{Seen, WhereTold}
+use Rattle.beep_link.specs.Causes.{Seen, WhereKnown}
 use Rattle.beep_steps.specs.Logs.{IsLawfulOn, ReadsOnlyGoing, terms_by}
 use Rattle.beep_steps.specs.Refusing.{GoesUnrefused}
-use Rattle.beep_steps.specs.Scripting.{KeepsAboveOn, KeepsScriptOn}
+use Rattle.beep_steps.specs.Scripting.{KeepsWholeOn, KeepsScriptOn}
 use Rattle.beep_steps.specs.Sending.{sender_plan, SendsAll}
-use Rattle.beep_ends.specs.Listening.{listener_plan}
+use Rattle.beep_listener.specs.Listening.{listener_plan}
 use Rattle.beep_recorder.specs.Kept.{RecordsLink}
 use Rattle.beep_runs.specs.Runs.{AsksThis, HasListened, IsRecorded, NotGiven, Ran, SentAll}
 use Rattle.beep_input.specs.Whole.{HasEnded}
 use Rattle.beep_input.specs.Lines.{AreLines}
 use Rattle.beep_show.specs.Show.{Run, run_of}
-use Rattle.beep_cmd.specs.Recorded.{IsEnding, IsRecordOf, lined, recorded}
+use Rattle.beep_cmd.specs.Recorded.{IsEnding, lined, recorded}
 use Rattle.beep_cmd.specs.Recording.{EndsRecorded, KeepsListening, ListenRecorded, SendRecorded, record_told, record_starved, TellsRecord, TellsWhole, whole_record, no_record}
-use Rattle.beep_cmd.specs.Ends.{AcceptsAtMost, asking, AsksOnly, DialsOnce, ended_line, ended_status, IsAcceptOf, IsDialOf, ListenCause, Listened, listen_starved, listen_told, listen_unwritten, over, SendCause, SendsLines, Sent, send_starved, session, SessionCause, Tells, whole_line, line_begun, WritesLawfully}
+use Rattle.beep_cmd.specs.Ends.{AcceptsAtMost, AsksOnly, DialsOnce, ended_line, ended_status, IsAcceptOf, IsDialOf, ListenCause, Listened, listen_starved, listen_told, listen_unwritten, over, SendCause, SendsLines, Sent, send_starved, session, SessionCause, Tells, whole_line, line_begun, WritesLawfully}
 use Rattle.beep_cmd.proofs.EndsLemmas.{sent}
 use Rattle.beep_cmd.proofs.ServingLemmas.{asks_once, each_none, each_of_it, each_one, session_cause}
 
@@ -78,10 +78,10 @@ module _ (role : Role) (settings : Settings) (cause : Ended) (before after : See
   cause_of = session_cause role settings before after before.counts.given refl r.given r.fresh r.last r.is_fresh r.shut before.counts.quiets (omega arith) cause r.caused r.told
 
   pub lawful_of : WritesLawfully role settings before after
-  lawful_of = each_of_it role settings before after before.counts.given refl r.given r.fresh r.last r.is_fresh r.shut before.counts.quiets (omega arith) (λ link. WhereTold (IsLawfulOn (terms_by role settings)) link.log) r.lawful
+  lawful_of = each_of_it role settings before after before.counts.given refl r.given r.fresh r.last r.is_fresh r.shut before.counts.quiets (omega arith) (λ link. WhereKnown (IsLawfulOn (terms_by role settings)) link.log) r.lawful
 
 pub not_given_lawful : (role : Role) (settings : Settings) (cause : Ended) (old new : ℕ) (before after : Seen) → NotGiven cause old new before after → WritesLawfully role settings before after
-not_given_lawful role settings cause old new before after n = each_none (λ link. WhereTold (IsLawfulOn (terms_by role settings)) link.log) before after n.given
+not_given_lawful role settings cause old new before after n = each_none (λ link. WhereKnown (IsLawfulOn (terms_by role settings)) link.log) before after n.given
 
 pub send_asks : (settings : Settings) (before after : Seen) (host : List ℕ) → (is : IsDialOf settings (dial host settings.port)) → AsksThis (dial host settings.port) before after → DialsOnce settings before after
 send_asks settings before after host is a = asks_once (IsDialOf settings) (dial host settings.port) is a.0 before.asked after.asked a.1
@@ -158,19 +158,19 @@ send_caused settings cause before after r = session (cause_of Role.Initiator set
 -- what was sent over the one link was sent over each
 pub send_sends : (settings : Settings) (lines : List (List ℕ)) (cause : Ended) (before after : Seen) → after.counts.given ≡ before.counts.given + 1 → SentAll settings lines cause before after → SendsLines cause settings lines before after
 send_sends settings lines cause before after one sent = record {
-  all = λ released. each_one (λ link. WhereTold (SendsAll (sender_plan settings lines)) link.log) before after before.counts.given refl one (sent.all released);
-  above = each_one (λ link. WhereTold (KeepsScriptOn (sender_plan settings lines)) link.log) before after before.counts.given refl one sent.above;
-  unrefused = each_one (λ link. WhereTold (GoesUnrefused (terms_by Role.Initiator settings) cause) link.log) before after before.counts.given refl one sent.unrefused;
-  waits = each_one (λ link. WhereTold (ReadsOnlyGoing (terms_by Role.Initiator settings)) link.log) before after before.counts.given refl one sent.waits;
+  all = λ released. each_one (λ link. WhereKnown (SendsAll (sender_plan settings lines)) link.log) before after before.counts.given refl one (sent.all released);
+  above = each_one (λ link. WhereKnown (KeepsScriptOn (sender_plan settings lines)) link.log) before after before.counts.given refl one sent.above;
+  unrefused = each_one (λ link. WhereKnown (GoesUnrefused (terms_by Role.Initiator settings) cause) link.log) before after before.counts.given refl one sent.unrefused;
+  waits = each_one (λ link. WhereKnown (ReadsOnlyGoing (terms_by Role.Initiator settings)) link.log) before after before.counts.given refl one sent.waits;
 }
 
 -- no link was given, so that none was released, and none shows otherwise
 pub unlinked_sends : (settings : Settings) (lines : List (List ℕ)) (cause : Ended) → (cause ≡ Ended.Released → ⊥) → (before after : Seen) → after.counts.given ≡ before.counts.given → SendsLines cause settings lines before after
 unlinked_sends settings lines cause other before after same = record {
   all = λ e. absurd (other e);
-  above = each_none (λ link. WhereTold (KeepsScriptOn (sender_plan settings lines)) link.log) before after same;
-  unrefused = each_none (λ link. WhereTold (GoesUnrefused (terms_by Role.Initiator settings) cause) link.log) before after same;
-  waits = each_none (λ link. WhereTold (ReadsOnlyGoing (terms_by Role.Initiator settings)) link.log) before after same;
+  above = each_none (λ link. WhereKnown (KeepsScriptOn (sender_plan settings lines)) link.log) before after same;
+  unrefused = each_none (λ link. WhereKnown (GoesUnrefused (terms_by Role.Initiator settings) cause) link.log) before after same;
+  waits = each_none (λ link. WhereKnown (ReadsOnlyGoing (terms_by Role.Initiator settings)) link.log) before after same;
 }
 
 pub listen_caused : (settings : Settings) (cause : Ended) (before after : Seen) → settings.sessions ≡ 1 → Ran Role.Listener settings cause before after → ListenCause cause settings before after
@@ -180,14 +180,14 @@ listen_caused settings cause before after one r =
 -- what was kept over the one link was kept over each
 pub listen_keeps : (settings : Settings) (cause : Ended) (before after : Seen) → after.counts.given ≡ before.counts.given + 1 → HasListened settings cause before after → KeepsListening cause settings before after
 listen_keeps settings cause before after one kept = record {
-  above = each_one (λ link. WhereTold (KeepsAboveOn (listener_plan settings)) link.log) before after before.counts.given refl one kept.above;
-  unrefused = each_one (λ link. WhereTold (GoesUnrefused (terms_by Role.Listener settings) cause) link.log) before after before.counts.given refl one kept.unrefused;
-  waits = each_one (λ link. WhereTold (ReadsOnlyGoing (terms_by Role.Listener settings)) link.log) before after before.counts.given refl one kept.waits;
+  script = each_one (λ link. WhereKnown (KeepsWholeOn (listener_plan settings)) link.log) before after before.counts.given refl one kept.script;
+  unrefused = each_one (λ link. WhereKnown (GoesUnrefused (terms_by Role.Listener settings) cause) link.log) before after before.counts.given refl one kept.unrefused;
+  waits = each_one (λ link. WhereKnown (ReadsOnlyGoing (terms_by Role.Listener settings)) link.log) before after before.counts.given refl one kept.waits;
 }
 
 pub unlinked_keeps : (settings : Settings) (cause : Ended) (before after : Seen) → after.counts.given ≡ before.counts.given → KeepsListening cause settings before after
 unlinked_keeps settings cause before after same = record {
-  above = each_none (λ link. WhereTold (KeepsAboveOn (listener_plan settings)) link.log) before after same;
-  unrefused = each_none (λ link. WhereTold (GoesUnrefused (terms_by Role.Listener settings) cause) link.log) before after same;
-  waits = each_none (λ link. WhereTold (ReadsOnlyGoing (terms_by Role.Listener settings)) link.log) before after same;
+  script = each_none (λ link. WhereKnown (KeepsWholeOn (listener_plan settings)) link.log) before after same;
+  unrefused = each_none (λ link. WhereKnown (GoesUnrefused (terms_by Role.Listener settings) cause) link.log) before after same;
+  waits = each_none (λ link. WhereKnown (ReadsOnlyGoing (terms_by Role.Listener settings)) link.log) before after same;
 }

@@ -8,7 +8,7 @@ use Rattle.beep_wires.specs.declared.links.WireError.{WireError}
 use Rattle.beep_wires.specs.Counts.{Rose}
 use Rattle.beep_wires.specs.Links.{Link, Ask, Asked, IsFresh, Asks, asked_by}
 use Rattle.beep_link.specs.declared.ended.Ended.{Ended}
-use Rattle.beep_link.specs.Causes.{HasRead, IsCaused, IsQuiet, IsUnused, Seen, WhereTold}
+use Rattle.beep_link.specs.Causes.{HasRead, IsCaused, IsQuiet, IsUnused, Seen, WhereKnown}
 use Rattle.beep_journal.specs.declared.role.Role.{Role}
 use Rattle.beep_steps.specs.Logs.{Shows, terms_by}
 use Rattle.beep_settings.specs.declared.settings.Settings.{Settings}
@@ -46,7 +46,7 @@ module _ (role : Role) (settings : Settings) (before after : Seen) (link : ℕ) 
   each_of_it P p = each_one P before after link is one (subst P (sym shut) p)
 
   pub session_cause : (cause : Ended) → IsCaused cause (record { octets = settings.octets; idle = settings.idle }) (record { link = fresh; quiets = quiets }) (record { link = last; quiets = after.counts.quiets })
-      → WhereTold (Shows (terms_by role settings) cause) last.log → SessionCause cause role settings before after
+      → WhereKnown (Shows (terms_by role settings) cause) last.log → SessionCause cause role settings before after
   session_cause Ended.Released c s = each_of_it (ShowsIn role settings Ended.Released) s
   session_cause (Ended.Broken rule place) c s = of_it (ShowsIn role settings (Ended.Broken rule place)) s
   session_cause Ended.WriteFault c s = tt

@@ -2,15 +2,14 @@
 -- Each cause is read off the links after the run; the code hands on what ended a session.
 use Rattle.std.specs.Prelude.{◌≡◌, ◌≢◌, ℕ, Bool, ◌+◌, ◌<◌, ◌≤◌, ◌⊎◌, true, false, Option, Some, None, List, [], ◌++◌, length, chars}
 use Rattle.std.specs.List.{AllByRecursion}
-use Rattle.std.specs.Borrow.{GName}
 use Rattle.beep_wires.specs.declared.count.TheConstants.{COUNT_MAX}
 use Rattle.beep_wires.specs.Counts.{Rose}
 use Rattle.beep_wires.specs.States.{SourceState, SinkState}
 use Rattle.beep_wires.specs.Transfer.{AppendsPrefix}
 use Rattle.std.specs.Io.KnownBytes.{Appends}
-use Rattle.beep_wires.specs.Links.{Link, Counts, Ask, accept, dial, Asked}
+use Rattle.beep_wires.specs.Links.{Link, Ask, accept, dial, Asked}
 use Rattle.beep_link.specs.declared.ended.Ended.{Ended}
-use Rattle.beep_link.specs.Causes.{HasRead, IsQuiet, Seen, WhereTold}
+use Rattle.beep_link.specs.Causes.{HasRead, IsQuiet, Seen, WhereKnown}
 use Rattle.beep_journal.specs.declared.role.Role.{Role}
 use Rattle.beep_steps.specs.Logs.{IsLawfulOn, ReadsOnlyGoing, Shows, terms_by}
 use Rattle.beep_steps.specs.Refusing.{GoesUnrefused}
@@ -66,14 +65,14 @@ abbrev pub EachOf : Seen → Seen → (Link → Type 0) → Type 0
 EachOf before after P = (link : ℕ) → before.counts.given ≤ link → link < after.counts.given
     → P (after.state link)
 
--- the log of a link, where it is told, shows that the session of an end of this role ended so
+-- the log of a link, where it is known, shows that the session of an end of this role ended so
 abbrev pub ShowsIn : Role → Settings → Ended → Link → Type 0
-ShowsIn role settings cause link = WhereTold (Shows (terms_by role settings) cause) link.log
+ShowsIn role settings cause link = WhereKnown (Shows (terms_by role settings) cause) link.log
 
--- what was written on each link that was given in the run is lawful, where its log is told
+-- what was written on each link that was given in the run is lawful, where its log is known
 abbrev pub WritesLawfully : Role → Settings → Seen → Seen → Type 0
 WritesLawfully role settings before after =
-    EachOf before after (λ link. WhereTold (IsLawfulOn (terms_by role settings)) link.log)
+    EachOf before after (λ link. WhereKnown (IsLawfulOn (terms_by role settings)) link.log)
 
 -- what ended one of the sessions of a run shows in its link; where they were released, in each
 abbrev pub SessionCause : Ended → Role → Settings → Seen → Seen → Type 0
@@ -125,24 +124,24 @@ SendCause cause settings before after =
     RunCause (Rose before.counts.dials after.counts.dials) 1 cause Role.Initiator settings before
     after
 
--- the log of each link shows, where it is told, that above channel zero the script of a sender of
+-- the log of each link shows, where it is known, that above channel zero the script of a sender of
 -- these lines was kept, and that nothing but it was asked on channel zero
 abbrev pub KeepsLines : Settings → List (List ℕ) → Seen → Seen → Type 0
 KeepsLines settings lines before after = EachOf before after
-    (λ link. WhereTold (KeepsScriptOn (sender_plan settings lines)) link.log)
+    (λ link. WhereKnown (KeepsScriptOn (sender_plan settings lines)) link.log)
 
 -- a run of `send` that ended with a release sent all of these lines: the log of its link shows
--- each, once and in order, where it is told; whatever ended it, its script was kept; the peer
+-- each, once and in order, where it is known; whatever ended it, its script was kept; the peer
 -- refused nothing where that didn't end it; and wherever was read the session went on
 pub record SendsLines (cause : Ended) (settings : Settings) (lines : List (List ℕ))
     (before after : Seen) : Type 0 where
   pub all : cause ≡ Ended.Released
-      → EachOf before after (λ link. WhereTold (SendsAll (sender_plan settings lines)) link.log)
+      → EachOf before after (λ link. WhereKnown (SendsAll (sender_plan settings lines)) link.log)
   pub above : KeepsLines settings lines before after
   pub unrefused : EachOf before after
-      (λ link. WhereTold (GoesUnrefused (terms_by Role.Initiator settings) cause) link.log)
+      (λ link. WhereKnown (GoesUnrefused (terms_by Role.Initiator settings) cause) link.log)
   pub waits : EachOf before after
-      (λ link. WhereTold (ReadsOnlyGoing (terms_by Role.Initiator settings)) link.log)
+      (λ link. WhereKnown (ReadsOnlyGoing (terms_by Role.Initiator settings)) link.log)
 
 -- as many links were accepted as the settings say, or an accept failed
 abbrev pub ListenCause : Ended → Settings → Seen → Seen → Type 0

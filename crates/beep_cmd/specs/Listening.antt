@@ -2,7 +2,7 @@
 -- 3195, section 3).
 -- The code writes as it hears, and keeps no text; here each link's log is gone over when all are
 -- shut.
-use Rattle.std.specs.Prelude.{◌≡◌, ◌⊎◌, ℕ, ◌+◌, ◌≤◌, Bool, true, false, if◌then◌else◌, Option, Some, List, [], ◌∷◌, ◌++◌}
+use Rattle.std.specs.Prelude.{◌≡◌, ◌⊎◌, ℕ, ◌+◌, ◌≤◌, false, if◌then◌else◌, Some, List, [], ◌∷◌, ◌++◌}
 use Rattle.std.specs.Io.KnownBytes.{Appends}
 use Rattle.beep_wires.specs.Counts.{Rose}
 use Rattle.beep_wires.specs.Log.{Entry}
@@ -11,11 +11,11 @@ use Rattle.beep_wires.specs.States.{SinkState}
 use Rattle.beep_journal.specs.declared.role.Role.{Role}
 use Rattle.beep_settings.specs.declared.settings.Settings.{Settings}
 use Rattle.beep_link.specs.declared.ended.Ended.{Ended}
-use Rattle.beep_link.specs.Causes.{Seen, WhereTold}
+use Rattle.beep_link.specs.Causes.{Seen, WhereKnown}
 use Rattle.beep_steps.specs.Refusing.{GoesUnrefused}
-use Rattle.beep_steps.specs.Scripting.{KeepsAboveOn}
+use Rattle.beep_steps.specs.Scripting.{KeepsWholeOn}
 use Rattle.beep_steps.specs.Logs.{moments, ReadsOnlyGoing, Shows, terms_by}
-use Rattle.beep_ends.specs.Listening.{is_whole, listener_plan, AreLinesOf}
+use Rattle.beep_listener.specs.Listening.{is_whole, listener_plan, AreLinesOf}
 use Rattle.beep_cmd.specs.Ends.{ended_line, ended_status, ends_run, EachOf, Tells}
 
 -- ---- what ends a run
@@ -46,20 +46,20 @@ run_cause (session ∷ earlier) =
 
 -- ---- what is written
 
--- the log of each link that was given in the run is told
+-- the log of each link that was given in the run is known
 abbrev pub AreTold : Seen → Seen → Type 0
 AreTold before after =
     EachOf before after (λ link. (log : List Entry) × (link.log ≡ Some log))
 
 -- what was written of a session is the lines that its log shows, or a beginning of them where it
--- ended out of memory, by a refusal or by a fault of the output; above channel zero what was sent
--- is the beginning of its script; the peer refused nothing where that didn't end it; and wherever
--- was read the session went on
+-- ended out of memory, by a refusal or by a fault of the output; what was sent in each life,
+-- channel zero among them, is the beginning of its script; the peer refused nothing where that
+-- didn't end it; and wherever was read the session went on
 pub record WritesOf (settings : Settings) (session : Session) (log : List Entry) : Type 0 where
   pub shows : Shows (terms_by Role.Listener settings) session.cause log
   pub lines : AreLinesOf (listener_plan settings) (is_whole session.cause) (moments log)
       session.text
-  pub above : KeepsAboveOn (listener_plan settings) log
+  pub script : KeepsWholeOn (listener_plan settings) log
   pub unrefused : GoesUnrefused (terms_by Role.Listener settings) session.cause log
   pub waits : ReadsOnlyGoing (terms_by Role.Listener settings) log
 
@@ -68,7 +68,7 @@ abbrev pub SessionsOver : Settings → (ℕ → Link) → ℕ → List Session �
 SessionsOver settings state first [] next = next ≡ first
 SessionsOver settings state first (session ∷ earlier) next = (link : ℕ) × (next ≡ link + 1)
     × (ends_run (run_cause earlier) ≡ false)
-    × WhereTold (WritesOf settings session) (state link).log
+    × WhereKnown (WritesOf settings session) (state link).log
     × SessionsOver settings state first earlier link
 
 -- what was written of all of them

@@ -1,10 +1,10 @@
 -- What is told of an input of `pair`, or of a seed.
 -- No contract of a public call cites it.
-use Rattle.std.specs.Prelude.{ℕ, List, ◌≤◌, length}
+use Rattle.std.specs.Prelude.{ℕ, List}
 use Rattle.std.specs.Io.KnownBytes.{Consumes}
 use Rattle.beep_wires.specs.States.{SourceState}
 use Rattle.beep_words.specs.declared.command.PairSettings.{PairSettings}
-use Rattle.beep_cmd.specs.Pair.{IsPairReport, IsPairing, ReadsSchedule}
+use Rattle.beep_cmd.specs.Pair.{IsPairReport, ReadsSchedule}
 
 -- the text is a report of what was read, with this status
 pub record TellsPair (settings : PairSettings) (status : ℕ) (text : List ℕ) (old new : SourceState)

@@ -1,6 +1,7 @@
 -- What `send` and `listen` write at the end of a run: the last line of its status, or the record of
 -- its link (docs/FORMATS.md, "Records").
--- The code keeps the log of the link as it goes; here it is the log that the link tells.
+-- The code keeps the log of the link as it goes; here it is that of the link, where it is
+-- known.
 use Rattle.std.specs.Prelude.{◌≡◌, ◌⊎◌, ℕ, ◌+◌, Bool, true, false, Some, List}
 use Rattle.beep_journal.specs.declared.role.Role.{Role}
 use Rattle.beep_journal.specs.Log.{Entry, flat}
@@ -11,7 +12,7 @@ use Rattle.beep_link.specs.Causes.{Seen}
 use Rattle.beep_recorder.specs.Said.{log_said}
 
 -- the text is the record, of this end and with this status, of what happened on a link: of some
--- log, and of the link's own where that is told; what is longer than a line is cut into lines,
+-- log, and of the link's own where that is known; what is longer than a line is cut into lines,
 -- which the flat log doesn't show
 pub record IsRecordOf (role : Role) (link : Link) (status : ℕ) (text : List ℕ) : Type 0 where
   pub log : List Entry

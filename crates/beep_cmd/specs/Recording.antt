@@ -5,11 +5,11 @@ use Rattle.std.specs.Io.KnownBytes.{Appends}
 use Rattle.beep_journal.specs.declared.role.Role.{Role}
 use Rattle.beep_wires.specs.States.{SinkState}
 use Rattle.beep_link.specs.declared.ended.Ended.{Ended}
-use Rattle.beep_link.specs.Causes.{Seen, WhereTold}
+use Rattle.beep_link.specs.Causes.{Seen, WhereKnown}
 use Rattle.beep_steps.specs.Logs.{ReadsOnlyGoing, terms_by}
 use Rattle.beep_steps.specs.Refusing.{GoesUnrefused}
-use Rattle.beep_steps.specs.Scripting.{KeepsAboveOn}
-use Rattle.beep_ends.specs.Listening.{listener_plan}
+use Rattle.beep_steps.specs.Scripting.{KeepsWholeOn}
+use Rattle.beep_listener.specs.Listening.{listener_plan}
 use Rattle.beep_settings.specs.declared.settings.Settings.{Settings}
 use Rattle.beep_wires.specs.Links.{Link}
 use Rattle.beep_cmd.specs.Recorded.{IsEnding, IsRecordOf}
@@ -57,16 +57,16 @@ SendRecorded settings lines before after status old new =
     EndsRecorded (λ cause. SendCause cause settings before after
     × SendsLines cause settings lines before after) Role.Initiator before after status old new
 
--- the log of each link shows, where it is told, that above channel zero a listener kept its script,
--- that the peer refused nothing where that didn't end the session, and that wherever was read the
--- session went on
+-- the log of each link shows, where it is known, that a listener kept its script, channel zero
+-- among its channels, that the peer refused nothing where that didn't end the session, and that
+-- wherever was read the session went on
 pub record KeepsListening (cause : Ended) (settings : Settings) (before after : Seen) : Type 0 where
-  pub above : EachOf before after
-      (λ link. WhereTold (KeepsAboveOn (listener_plan settings)) link.log)
+  pub script : EachOf before after
+      (λ link. WhereKnown (KeepsWholeOn (listener_plan settings)) link.log)
   pub unrefused : EachOf before after
-      (λ link. WhereTold (GoesUnrefused (terms_by Role.Listener settings) cause) link.log)
+      (λ link. WhereKnown (GoesUnrefused (terms_by Role.Listener settings) cause) link.log)
   pub waits : EachOf before after
-      (λ link. WhereTold (ReadsOnlyGoing (terms_by Role.Listener settings)) link.log)
+      (λ link. WhereKnown (ReadsOnlyGoing (terms_by Role.Listener settings)) link.log)
 
 -- what a run of `listen` that is recorded writes, and that it kept its script
 abbrev pub ListenRecorded : Settings → Seen → Seen → ℕ → SinkState → SinkState → Type 0

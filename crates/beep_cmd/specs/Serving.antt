@@ -4,7 +4,7 @@ use Rattle.std.specs.Prelude.{◌≡◌, ℕ, ◌+◌, ◌<◌, ◌≤◌, ◌�
 use Rattle.std.specs.Io.KnownBytes.{Appends}
 use Rattle.beep_wires.specs.Counts.{Rose}
 use Rattle.beep_link.specs.declared.ended.Ended.{Ended}
-use Rattle.beep_link.specs.Causes.{Seen, WhereTold}
+use Rattle.beep_link.specs.Causes.{Seen, WhereKnown}
 use Rattle.beep_settings.specs.declared.settings.Settings.{Settings}
 use Rattle.beep_input.specs.declared.lines.Unlisted.{Unlisted}
 use Rattle.beep_journal.specs.declared.role.Role.{Role}
@@ -52,7 +52,7 @@ pub record WritesSession (settings : Settings) (cause : Ended) (before after : S
     (old new : Option (List ℕ)) : Type 0 where
   pub text : List ℕ
   pub lines : Appends old new text
-  pub writes : WhereTold (WritesOf settings (record { cause = cause; text = text }))
+  pub writes : WhereKnown (WritesOf settings (record { cause = cause; text = text }))
       (after.state before.counts.given).log
 
 -- the sessions of a run so far, of which this holds, wrote their lines

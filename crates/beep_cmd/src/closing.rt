@@ -3,8 +3,8 @@ ghost use Rattle.std.specs.Prelude.{◌≡◌, ◌≤◌, ◌++◌, []};
 ghost use Rattle.beep_cmd.specs.Ends.{ended_line, ended_status, Tells};
 ghost use Rattle.beep_cmd.specs.Serving.{unlisted_line, unlisted_status};
 
-use beep_ends::Ended;
 use beep_input::Unlisted;
+use beep_listener::Ended;
 use beep_octets::Octets;
 use beep_show::{LAST_ROOM, append_broken, append_idle, append_numbered, append_refused};
 use beep_wires::{Failed, Sink, write_all};

@@ -12,7 +12,7 @@ ghost use Rattle.beep_show.specs.Show.{run_of};
 
 use crate::closing::finish;
 use crate::recorded::record_listen;
-use beep_ends::{Ended, listen_end};
+use beep_listener::{Ended, listen_end};
 use beep_octets::Octets;
 use beep_settings::Settings;
 use beep_show::LAST_ROOM;

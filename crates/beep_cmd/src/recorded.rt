@@ -10,7 +10,7 @@ ghost use Rattle.beep_cmd.specs.Ends.{AcceptsAtMost, DialsOnce, ended_status, Li
 ghost use Rattle.beep_cmd.specs.Recording.{ListenRecorded, SendRecorded, TellsRecord, TellsWhole};
 
 use crate::closing::{finish, tell};
-use beep_ends::Ended;
+use beep_listener::Ended;
 use beep_octets::Octets;
 use beep_runs::{listen_recorded, send_recorded};
 use beep_settings::Settings;

@@ -87,7 +87,7 @@ pub fn beep_run<I: Source, O: Sink, W: Wires>(
         (O.state output.old) (O.state output.new)) → (result ≡ 0) ⊎ (result ≡ 7) }
     ensures usage { result ≡ 1 → IsNoCommand (map string_bytes words.now) }
 
-    // What is written on each link that was given is lawful, where its log is told.
+    // What is written on each link that was given is lawful, where its log is known.
     ensures send_lawful { (settings : end_settings) → IsSend settings (map string_bytes words.now)
         → WritesLawfully RoleValue.Initiator settings (seen_of (W.state wires.old)
         (W.counts wires.old) (W.asked wires.old) (W.lent wires.old))

@@ -9,9 +9,9 @@ ghost use Rattle.beep_show.specs.Show.{run_of};
 
 use crate::closing::{finish, finish_unlisted};
 use crate::recorded::record_send;
-use beep_ends::{Ended, send_end};
 use beep_input::read_lines;
 use beep_octets::Octets;
+use beep_sender::{Ended, send_end};
 use beep_settings::Settings;
 use beep_show::LAST_ROOM;
 use beep_wires::{Sink, Source, WireError, Wires};

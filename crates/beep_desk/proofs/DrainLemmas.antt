@@ -27,7 +27,7 @@ use Rattle.beep_channel.proofs.JudgedLemmas.{equal}
 use Rattle.beep_channel.proofs.PassedLemmas.{no-more}
 use Rattle.beep_talk.specs.Plan.{PlainPlan}
 use Rattle.beep_script.specs.Desk.{is_free, is_said}
-use Rattle.beep_desk.specs.Waiting.{AllTaken, SaysAll}
+use Rattle.beep_desk.specs.Waiting.{AllTaken, IsDone, SaysAll}
 
 -- ---- lists and tests
 
@@ -71,8 +71,7 @@ no-frame size c past held own theirs = of (under_way Side.Received past) refl
 
 -- ---- one life
 
-module _ (plan : PlainPlan) (size : ℕ) (journal : List Item) (given taken : Marks) (channels : List Live) (live : AreLiveBy size journal given taken channels)
-    (all_taken : AllTaken channels) (says : SaysAll plan journal given) where
+module _ (plan : PlainPlan) (size : ℕ) (journal : List Item) (given taken : Marks) (channels : List Live) (live : AreLiveBy size journal given taken channels) where
   -- a number above zero that is live
   module _ (n : ℕ) (above : (n == 0) ≡ false) (here : is_live n (events journal) ≡ true) where
     there : is_there n journal ≡ true
@@ -106,14 +105,14 @@ module _ (plan : PlainPlan) (size : ℕ) (journal : List Item) (given taken : Ma
       stands : Stands size c.held (history n journal) (given n) (taken n)
       stands = live.above n c above at
 
-      free-then : is_held_drained c.held ≡ true → is_free plan n (life_now n journal) journal ≡ true
-      free-then drained =
+      free-then : IsDone plan journal given n → is_held_drained c.held ≡ true → is_free plan n (life_now n journal) journal ≡ true
+      free-then done drained =
           let d = is-drained size c.held (history n journal) (given n) (taken n) stands drained in
           let is : is_drained (history n journal) ≡ true = rw (d.own, d.theirs) refl in
-          free-is ∙ ap (λ b. b && is_said plan n (life_now n journal) journal) (ap is_drained (sym history-is) ∙ is) ∙ says.done n above there is d.sent
+          free-is ∙ ap (λ b. b && is_said plan n (life_now n journal) journal) (ap is_drained (sym history-is) ∙ is) ∙ done there is d.sent
 
-      drained-then : is_free plan n (life_now n journal) journal ≡ true → is_held_drained c.held ≡ true
-      drained-then free =
+      drained-then : AllTaken channels → SaysAll plan journal given → is_free plan n (life_now n journal) journal ≡ true → is_held_drained c.held ≡ true
+      drained-then all_taken says free =
           let parts = sym free-is ∙ free in
           let is : is_drained (history n journal) ≡ true = ap is_drained history-is ∙ both-left (is_drained (life n (life_now n journal) journal)) (is_said plan n (life_now n journal) journal) parts in
           let said = both-right (is_drained (life n (life_now n journal) journal)) (is_said plan n (life_now n journal) journal) parts in
@@ -135,15 +134,15 @@ module _ (plan : PlainPlan) (size : ℕ) (journal : List Item) (given taken : Ma
   free-none n none = ap (λ b. is_free plan n (if b then lives n (events journal) else 0) journal) none
 
   -- the channel has ended or is drained exactly where its life is free
-  pub free-where-drained : (n : ℕ) → (n == 0) ≡ false → IsDrainedAt n channels → is_free plan n (life_now n journal) journal ≡ true
-  free-where-drained n above drained = by (is_live n (events journal)) refl (live_at n channels) refl
+  pub free-where-drained : (n : ℕ) → (n == 0) ≡ false → IsDone plan journal given n → IsDrainedAt n channels → is_free plan n (life_now n journal) journal ≡ true
+  free-where-drained n above done drained = by (is_live n (events journal)) refl (live_at n channels) refl
     where
       by : (b : Bool) → is_live n (events journal) ≡ b → (o : Option Live) → live_at n channels ≡ o → is_free plan n (life_now n journal) journal ≡ true
       by false none o at = free-none n none
-      by true here (Some c) at = free-then n above here c at (drained above c at)
+      by true here (Some c) at = free-then n above here c at done (drained above c at)
       by true here None at = absurd (let h : true ≡ false = sym here ∙ ap (λ b. b || is_live n (events journal)) (sym above) ∙ live.there n ∙ ap is_some at in cc)
 
-  pub drained-where-free : (n : ℕ) → is_free plan n (life_now n journal) journal ≡ true → IsDrainedAt n channels
-  drained-where-free n free above c at =
+  pub drained-where-free : AllTaken channels → SaysAll plan journal given → (n : ℕ) → is_free plan n (life_now n journal) journal ≡ true → IsDrainedAt n channels
+  drained-where-free all_taken says n free above c at =
       let here : is_live n (events journal) ≡ true = ap (λ b. b || is_live n (events journal)) (sym above) ∙ live.there n ∙ ap is_some at in
-      drained-then n above here c at free
+      drained-then n above here c at all_taken says free

@@ -11,3 +11,10 @@ pub mod ClearLemmas
 pub mod OwedLemmas
 pub mod WaitLemmas
 pub mod DeskLemmas
+pub mod QueueLemmas
+pub mod QuietLemmas
+pub mod EventLemmas
+pub mod GivenLemmas
+pub mod StepLemmas
+pub mod OpenLemmas
+pub mod TagLemmas

@@ -133,7 +133,7 @@ listing-positions count listed queue more none =
     ∙ append_assoc (replied_positions listed) (positions_of (take count queue)) (positions_of (drop count queue))
     ∙ ap (λ l. replied_positions listed ++ l) (sym (map-append (λ (answer : Answer). answer.position) (take count queue) (drop count queue)) ∙ ap positions_of (take-append-drop count queue))
 
-desk-positions : (plan : PlainPlan) (item : Item) (journal : List Item)
+pub desk-positions : (plan : PlainPlan) (item : Item) (journal : List Item)
     → answered_positions (desk plan (item ∷ journal)) ≡ answered_positions (desk plan journal) ++ positions_of (decided plan (desk plan journal) item journal)
 desk-positions plan item journal =
     let d = desk plan journal in

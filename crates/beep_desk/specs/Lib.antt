@@ -2,3 +2,4 @@
 pub mod Alike
 pub mod Listed
 pub mod Waiting
+pub mod Desks

@@ -61,12 +61,17 @@ abbrev pub AllSent : Marks → ℕ → List Item → Type 0
 AllSent given number journal =
     map mark_modulo_2_64 (marks Side.Sent (history number journal)) ≡ given number
 
+-- where no request waits in the live life of a number, and all that was given there is sent, all
+-- that the script has is
+abbrev pub IsDone : PlainPlan → List Item → Marks → ℕ → Type 0
+IsDone plan journal given number = is_there number journal ≡ true
+    → is_drained (history number journal) ≡ true → AllSent given number journal
+    → is_said plan number (life_now number journal) journal ≡ true
+
 -- in each live life above zero all that the script has is sent exactly where all that was given is,
 -- once no request waits there
 pub record SaysAll (plan : PlainPlan) (journal : List Item) (given : Marks) : Type 0 where
-  pub done : (number : ℕ) → (number == 0) ≡ false → is_there number journal ≡ true
-      → is_drained (history number journal) ≡ true → AllSent given number journal
-      → is_said plan number (life_now number journal) journal ≡ true
+  pub done : (number : ℕ) → (number == 0) ≡ false → IsDone plan journal given number
   pub all : (number : ℕ) → (number == 0) ≡ false → is_there number journal ≡ true
       → is_said plan number (life_now number journal) journal ≡ true
       → AllSent given number journal

@@ -1,16 +1,17 @@
 //! What a session keeps of channel zero and what its script lists there, as facts: each function
 //! does nothing, and its contract is the fact.
-ghost use Rattle.std.specs.Prelude.{◌≡◌, ℕ, length, List, Option, true};
-ghost use Rattle.beep_history.specs.Journal.{Item};
+ghost use Rattle.std.specs.Prelude.{◌≡◌, ℕ, ◌==◌, ◌∷◌, ◌++◌, [], length, map, List, Option, false, true};
+ghost use Rattle.beep_history.specs.Journal.{Item, passed};
 ghost use Rattle.beep_history.specs.Broken.{KeepsExchangeRules};
 ghost use Rattle.beep_mgmt.specs.Form.{Form};
 ghost use Rattle.beep_history.specs.declared.journal.Side.{Side};
 ghost use Rattle.beep_journal.specs.Zero.{asked, events, zero_history};
 ghost use Rattle.beep_answering.specs.Decided.{NoneTunes};
 ghost use Rattle.beep_management.specs.declared.wait.Wait.{Wait};
-ghost use Rattle.beep_peer.specs.Waiting.{HasCome};
+ghost use Rattle.beep_peer.specs.Waiting.{HasCome, IsStuck};
 ghost use Rattle.beep_talk.specs.AtZero.{ZeroMessage};
 ghost use Rattle.beep_script.specs.Laws.{answered_positions};
+ghost use Rattle.beep_script.specs.Script.{script_marks, BeginsWith};
 ghost use Rattle.beep_standing.specs.Standing.{AreLiveBy, Marks};
 ghost use Rattle.beep_spoken.specs.Spoken.{Spoken};
 ghost use Rattle.beep_lawful.specs.declared.terms.Terms.{Terms};
@@ -21,9 +22,17 @@ ghost use Rattle.beep_peer.specs.declared.peer.Peer.{Peer as PeerValue};
 ghost use Rattle.beep_talk.specs.Plan.{PlainPlan};
 ghost use Rattle.beep_script.specs.Desk.{desk, is_clear_of, standing};
 ghost use Rattle.beep_decide.specs.Decide.{Decision, PlainStanding, answer_of, decide};
+ghost use Rattle.beep_history.specs.Marks.{Mark, is_answered, mark_modulo_2_64, marks};
+ghost use Rattle.beep_frame.specs.declared.head.Head.{Head};
+ghost use Rattle.beep_frame.specs.Frame.{is_msg};
+ghost use Rattle.beep_answering.specs.declared.settled.Settled.{Settled};
+ghost use Rattle.beep_management.specs.Managed.{Prepared};
+ghost use Rattle.beep_peer.specs.Calls.{GivesFirst};
+ghost use Rattle.beep_talk.specs.declared.plan.Command.{Command};
 ghost use Rattle.beep_desk.specs.Alike.{StandsAlike};
+ghost use Rattle.beep_desk.specs.Desks.{asks_none, is_part, AreDoneFor, IsCalledFor, IsDeskOf, IsDeskWithin, StandsIn};
 ghost use Rattle.beep_desk.specs.Listed.{AreInTurn, ArePlacedFrom, IsListed};
-ghost use Rattle.beep_desk.specs.Waiting.{AllWait, IsSettledFor, OnlyGrantsWait, WaitsFor};
+ghost use Rattle.beep_desk.specs.Waiting.{AllTaken, AllWait, IsSettledFor, OnlyGrantsWait, SaysAll, WaitsFor};
 
 /// What stands alike is decided alike, and a decision has the same answer.
 pub fn what_stands_alike_is_decided_alike()
@@ -86,4 +95,78 @@ pub fn an_answer_waits_as_its_script_says()
         → WaitsFor (events journal) position closes waits
         → is_clear_of plan listed journal position closes ≡ true
         → HasCome waits peer.lives peer.management }
+{}
+
+/// An item that ends no message of channel zero, and is no frame above it, leaves what a listener
+/// gave and prepared there what its script lists and owes.
+pub fn a_part_of_a_message_leaves_the_desk()
+    ensures { (plan : PlainPlan) (item : Item) (journal : List Item) (given : List Mark)
+        (answers : List Prepared) → plan.command ≡ Command.Listen → is_part item ≡ true
+        → IsDeskOf plan journal given answers → IsDeskOf plan (item ∷ journal) given answers }
+{}
+
+/// As an item happens that ends no request of the peer, what a listener prepared is what is owed
+/// before the first answers are listed that are clear then.
+pub fn an_item_leaves_what_is_owed()
+    ensures { (plan : PlainPlan) (item : Item) (journal : List Item) (given : List Mark)
+        (answers : List Prepared) → asks_none item ≡ true → IsDeskOf plan journal given answers
+        → IsDeskWithin plan item journal given answers }
+{}
+
+/// As a request of the peer is settled, once its greeting has come, the answer that a listener
+/// prepares is the one that is owed, before the first answers are listed that are clear then.
+pub fn a_request_is_answered_as_its_script_says()
+    ensures { (plan : PlainPlan) (size : ℕ) (head : Head) (payload : List ℕ)
+        (journal : List Item) (given taken : Marks) (peer : PeerValue) (settled : Settled)
+        (answer : Prepared) → plan.command ≡ Command.Listen → NoneTunes plan.offers
+        → (head.channel == 0) ≡ true → is_msg head.kind ≡ true → head.more ≡ false
+        → is_answered Side.Sent 0 (zero_history journal) ≡ true
+        → StandsIn size journal given taken peer
+        → IsDeskOf plan journal (given 0) peer.management.answers
+        → IsCalledFor (standing_of plan.terms.role plan.offers peer) journal payload settled
+        answer
+        → IsDeskWithin plan (passed Side.Received head payload) journal (given 0)
+        (peer.management.answers ++ answer ∷ []) }
+{}
+
+/// The first answers that a listener lets go are clear, in each life for which one waits all is
+/// said.
+pub fn answers_go_as_their_script_lists_them()
+    ensures { (plan : PlainPlan) (size : ℕ) (item : Item) (journal : List Item)
+        (given now taken : Marks) (answers : List Prepared) (peer : PeerValue)
+        → plan.command ≡ Command.Listen
+        → IsDeskWithin plan item journal (given 0) answers → GivesFirst given now answers peer
+        → StandsIn size (item ∷ journal) now taken peer
+        → AreDoneFor plan (item ∷ journal) now answers
+        → IsDeskWithin plan item journal (now 0) peer.management.answers }
+{}
+
+/// Once all that came is taken, and the first answer waits for something that hasn't come, what a
+/// listener gave and prepared is what its script lists and owes.
+pub fn no_answer_is_held_that_its_script_lists()
+    ensures { (plan : PlainPlan) (terms : Terms) (size : ℕ) (item : Item) (journal : List Item)
+        (given taken : Marks) (peer : PeerValue) → plan.command ≡ Command.Listen
+        → NoneTunes plan.offers
+        → IsDeskWithin plan item journal (given 0) peer.management.answers
+        → StandsIn size (item ∷ journal) given taken peer
+        → IsUpright terms (item ∷ journal) peer.lives peer.management → AllTaken peer.lives
+        → SaysAll plan (item ∷ journal) given → IsStuck peer.lives peer.management
+        → IsDeskOf plan (item ∷ journal) (given 0) peer.management.answers }
+{}
+
+/// What a listener sent on channel zero is the beginning of what its script lists there, positions
+/// modulo 2^64: between two steps, and within one.
+pub fn what_was_sent_is_the_beginning_of_what_is_listed()
+    ensures between { (plan : PlainPlan) (size count : ℕ) (journal : List Item) (given taken : Marks)
+        (peer : PeerValue) → plan.command ≡ Command.Listen → NoneTunes plan.offers
+        → StandsIn size journal given taken peer
+        → IsDeskOf plan journal (given 0) peer.management.answers
+        → BeginsWith (map mark_modulo_2_64 (script_marks plan 0 count journal))
+        (map mark_modulo_2_64 (marks Side.Sent (zero_history journal))) }
+    ensures within { (plan : PlainPlan) (size count : ℕ) (item : Item) (journal : List Item)
+        (given taken : Marks) (peer : PeerValue) → plan.command ≡ Command.Listen
+        → NoneTunes plan.offers → StandsIn size (item ∷ journal) given taken peer
+        → IsDeskWithin plan item journal (given 0) peer.management.answers
+        → BeginsWith (map mark_modulo_2_64 (script_marks plan 0 count (item ∷ journal)))
+        (map mark_modulo_2_64 (marks Side.Sent (zero_history (item ∷ journal)))) }
 {}

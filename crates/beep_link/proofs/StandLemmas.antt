@@ -4,7 +4,7 @@ use lib.Seq.{take-append_seam}
 use Rattle.beep_wires.specs.Log.{Entry, read, wrote, quiet, ended, Logs}
 use Rattle.beep_wires.specs.Writing.{AreWrites}
 use Rattle.std.proofs.KnownBytes.{Appends-nil, Appends-trans}
-use Rattle.beep_link.specs.Causes.{GrewByWrites, IsOfReads, IsSpent, ReadsWhere, WhereTold, WithText}
+use Rattle.beep_link.specs.Causes.{GrewByWrites, IsOfReads, IsSpent, ReadsWhere, WhereKnown, WithText}
 use Rattle.beep_link.specs.declared.ended.Ended.{Ended}
 use Rattle.beep_link.specs.declared.left.Reads.{Reads}
 use Rattle.beep_link.specs.declared.left.Left.{Left}
@@ -23,7 +23,7 @@ module _ (S T : List Entry → List ℕ → Type 0) (octets : List ℕ) (gathers
     (law : (log : List Entry) (front rest : List ℕ) → T log (front ++ rest) → T (wrote front ∷ log) rest) where
   -- all was written
   pub wrote-stands : (old new : Option (List Entry)) (more : List Entry) → Logs old new more → AreWrites more octets
-      → WhereTold (λ log. S log []) old → WhereTold (λ log. T log []) new
+      → WhereKnown (λ log. S log []) old → WhereKnown (λ log. T log []) new
   wrote-stands None None more p h s = tt
   wrote-stands None (Some new) more p h s = absurd p
   wrote-stands (Some old) None more p h s = absurd p
@@ -32,7 +32,7 @@ module _ (S T : List Entry → List ℕ → Type 0) (octets : List ℕ) (gathers
 
   -- a beginning of it was written
   pub front-tells : (P : List Entry → Type 0) → ((log : List Entry) (rest : List ℕ) → T log rest → P log) → (old new : Option (List Entry)) (more : List Entry) (front rest : List ℕ)
-      → octets ≡ front ++ rest → Logs old new more → AreWrites more front → WhereTold (λ log. S log []) old → WhereTold P new
+      → octets ≡ front ++ rest → Logs old new more → AreWrites more front → WhereKnown (λ log. S log []) old → WhereKnown P new
   front-tells P stops None None more front rest e p h s = tt
   front-tells P stops None (Some new) more front rest e p h s = absurd p
   front-tells P stops (Some old) None more front rest e p h s = absurd p
@@ -40,28 +40,28 @@ module _ (S T : List Entry → List ℕ → Type 0) (octets : List ℕ) (gathers
       subst P (sym p) (stops (more ++ old) rest (stands-writes T law more old front rest h (subst (T old) e (gathers old s))))
 
 -- what holds of one log holds of the other
-pub told-map : (P Q : List Entry → Type 0) → ((log : List Entry) → P log → Q log) → (log : Option (List Entry)) → WhereTold P log → WhereTold Q log
+pub told-map : (P Q : List Entry → Type 0) → ((log : List Entry) → P log → Q log) → (log : Option (List Entry)) → WhereKnown P log → WhereKnown Q log
 told-map P Q f None s = tt
 told-map P Q f (Some log) s = f log s
 
 -- one entry more is on the log
-pub entered : (P Q : List Entry → Type 0) (entry : Entry) → ((log : List Entry) → P log → Q (entry ∷ log)) → (old new : Option (List Entry)) → Logs old new (entry ∷ []) → WhereTold P old → WhereTold Q new
+pub entered : (P Q : List Entry → Type 0) (entry : Entry) → ((log : List Entry) → P log → Q (entry ∷ log)) → (old new : Option (List Entry)) → Logs old new (entry ∷ []) → WhereKnown P old → WhereKnown Q new
 entered P Q entry f None None l s = tt
 entered P Q entry f None (Some new) l s = absurd l
 entered P Q entry f (Some old) None l s = absurd l
 entered P Q entry f (Some old) (Some new) l s = subst Q (sym l) (f old s)
 
 -- none is
-pub kept : (P : List Entry → Type 0) (old new : Option (List Entry)) → Logs old new [] → WhereTold P old → WhereTold P new
+pub kept : (P : List Entry → Type 0) (old new : Option (List Entry)) → Logs old new [] → WhereKnown P old → WhereKnown P new
 kept P None None l s = tt
 kept P None (Some new) l s = absurd l
 kept P (Some old) None l s = absurd l
 kept P (Some old) (Some new) l s = subst P (sym l) s
 
 -- an empty log stands as such
-pub told-empty : (P : List Entry → Type 0) (log : Option (List Entry)) → P [] → (log ≡ None) ⊎ (log ≡ Some []) → WhereTold P log
-told-empty P log p (inl e) = subst (WhereTold P) (sym e) tt
-told-empty P log p (inr e) = subst (WhereTold P) (sym e) p
+pub told-empty : (P : List Entry → Type 0) (log : Option (List Entry)) → P [] → (log ≡ None) ⊎ (log ≡ Some []) → WhereKnown P log
+told-empty P log p (inl e) = subst (WhereKnown P) (sym e) tt
+told-empty P log p (inr e) = subst (WhereKnown P) (sym e) p
 
 -- ---- what was written to the output
 
@@ -128,14 +128,14 @@ reads-after P (quiet ∷ more) log octets h r = absurd h
 reads-after P (ended ∷ more) log octets h r = absurd h
 
 -- writes are no reads
-pub reads-grown : (P : List Entry → Type 0) (old new : Option (List Entry)) → GrewByWrites old new → WhereTold (ReadsWhere P) old → WhereTold (ReadsWhere P) new
+pub reads-grown : (P : List Entry → Type 0) (old new : Option (List Entry)) → GrewByWrites old new → WhereKnown (ReadsWhere P) old → WhereKnown (ReadsWhere P) new
 reads-grown P None None g r = tt
 reads-grown P None (Some new) (more, octets, logs, writes) r = absurd logs
 reads-grown P (Some old) None (more, octets, logs, writes) r = absurd logs
 reads-grown P (Some old) (Some new) (more, octets, logs, writes) r = subst (ReadsWhere P) (sym logs) (reads-after P more old octets writes r)
 
 -- what holds of a log and what holds of it hold together
-pub told-pair : (P Q : List Entry → Type 0) (log : Option (List Entry)) → WhereTold P log → WhereTold Q log → WhereTold (λ l. P l × Q l) log
+pub told-pair : (P Q : List Entry → Type 0) (log : Option (List Entry)) → WhereKnown P log → WhereKnown Q log → WhereKnown (λ l. P l × Q l) log
 told-pair P Q None p q = tt
 told-pair P Q (Some log) p q = (p, q)
 

@@ -108,9 +108,9 @@ IsWritten cause old new = cause ≡ Ended.WriteFault → Rose old new
 -- ---- what an end stands for
 
 -- of a log that is known this holds
-abbrev pub WhereTold : (List Entry → Type 0) → Option (List Entry) → Type 0
-WhereTold P None = Unit {0}
-WhereTold P (Some log) = P log
+abbrev pub WhereKnown : (List Entry → Type 0) → Option (List Entry) → Type 0
+WhereKnown P None = Unit {0}
+WhereKnown P (Some log) = P log
 
 -- wherever the log shows a read, a quiet one or the end of the link among them, this holds of the
 -- log before it
@@ -157,7 +157,7 @@ TellsLeft reads left (Some log) =
 
 -- a log that is known shows no more octets read than may be
 abbrev pub IsBounded : Reads → Option (List Entry) → Type 0
-IsBounded reads log = WhereTold (λ known. octets_read known ≤ reads.octets) log
+IsBounded reads log = WhereKnown (λ known. octets_read known ≤ reads.octets) log
 
 -- since there were so many quiet reads the count rose, where one of the latest reads was quiet
 pub record CountsQuiet (before : ℕ) (left : Left) (quiets : ℕ) : Type 0 where

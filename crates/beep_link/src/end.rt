@@ -38,7 +38,7 @@ pub trait End {
         requires room { FRAME_ROOM ≤ out.old.spare }
         ensures said { (log : List Entry) (text : List ℕ)
             → Self.stands self.old log out.old.octets text
-            → Self.stands self.new log out.new.octets text }
+            → OnOk result (Self.stands self.new log out.new.octets text) }
         ensures terms { Self.terms self.new ≡ Self.terms self.old };
 
     /// Uses all of these octets, unless it is stopped, and writes what it has to tell.

@@ -11,7 +11,7 @@ pub enum Stop {
     Broken(Rule, u64),
     /// A write of the output failed.
     WriteFault,
-    /// Out of memory.
+    /// Memory ran out.
     NoMemory,
     /// The peer refused what was asked, with this code.
     Refused(u16),
@@ -28,7 +28,7 @@ pub enum Ended {
     WriteFault,
     /// A read or a write of the link failed.
     WireFault,
-    /// Out of memory.
+    /// Memory ran out.
     NoMemory,
     /// The peer refused what was asked, with this code.
     Refused(u16),

@@ -2,7 +2,7 @@
 ghost use Rattle.std.specs.Prelude.{◌≡◌, ◌⊎◌, [], ℕ, List, Option, true, IfErr, OnOk};
 ghost use Rattle.beep_wires.specs.Counts.{Rose};
 ghost use Rattle.beep_wires.specs.Log.{Entry};
-ghost use Rattle.beep_link.specs.Causes.{GrewByWrites, Keeps, SameReads, WhereTold, WithText};
+ghost use Rattle.beep_link.specs.Causes.{GrewByWrites, Keeps, SameReads, WhereKnown, WithText};
 ghost use Rattle.beep_link.specs.declared.ended.Ended.{Ended as EndedValue};
 
 use crate::buffers::BUFFER;
@@ -25,14 +25,14 @@ pub(crate) fn say<E: End, W: Wires>(
     requires open { (W.state wires.old link).is_open ≡ true }
     requires empty { going.old.octets ≡ [] }
     ensures said { (before now : Option (List ℕ))
-        → WhereTold (λ log. WithText before now (E.stands end.old log []))
+        → WhereKnown (λ log. WithText before now (E.stands end.old log []))
         (W.state wires.old link).log → OnOk result
-        (WhereTold (λ log. WithText before now (E.stands end.new log []))
+        (WhereKnown (λ log. WithText before now (E.stands end.new log []))
         (W.state wires.new link).log) }
     ensures stopped { (before now : Option (List ℕ))
-        → WhereTold (λ log. WithText before now (E.stands end.old log []))
+        → WhereKnown (λ log. WithText before now (E.stands end.old log []))
         (W.state wires.old link).log → IfErr result (λ ended.
-        WhereTold (λ log. WithText before now (E.tells (E.terms end.old) ended log))
+        WhereKnown (λ log. WithText before now (E.tells (E.terms end.old) ended log))
         (W.state wires.new link).log) }
     ensures failed { IfErr result (λ ended. (ended ≡ EndedValue.NoMemory)
         ⊎ ((ended ≡ EndedValue.WireFault)
@@ -78,7 +78,7 @@ pub(crate) fn say<E: End, W: Wires>(
 /// Gathers what is due, as far as the buffer goes.
 fn gather_some<E: End>(end: &mut E, going: &mut Octets) -> Result<bool, NoMemory>
     ensures said { (log : List Entry) (text : List ℕ) → E.stands end.old log going.old.octets text
-        → E.stands end.new log going.new.octets text }
+        → OnOk result (E.stands end.new log going.new.octets text) }
     ensures terms { E.terms end.new ≡ E.terms end.old }
 {
     // It takes memory only where the room isn't there.

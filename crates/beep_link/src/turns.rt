@@ -1,7 +1,7 @@
 //! The turns over a link.
 ghost use Rattle.std.specs.Prelude.{◌≡◌, ◌≤◌, ◌<◌, ◌+◌, ◌*◌, ℕ, [], List, Option, true, false, OnOk, IfErr, vec_len};
 ghost use Rattle.beep_wires.specs.Links.{Link};
-ghost use Rattle.beep_link.specs.Causes.{CountsQuiet, IsBounded, IsCaused, IsUnused, IsWritten, Keeps, reads_left, ReadsWhere, TellsLeft, WhereTold, WithText};
+ghost use Rattle.beep_link.specs.Causes.{CountsQuiet, IsBounded, IsCaused, IsUnused, IsWritten, Keeps, reads_left, ReadsWhere, TellsLeft, WhereKnown, WithText};
 ghost use Rattle.beep_link.specs.declared.buffers.TheConstants.{BUFFER};
 ghost use Rattle.beep_link.specs.declared.ended.Ended.{Ended as EndedValue};
 
@@ -29,12 +29,12 @@ pub fn run_turns<E: End, W: Wires, O: Sink>(
         (record { link = W.state wires.old link; quiets = (W.counts wires.old).quiets })
         (record { link = W.state wires.new link; quiets = (W.counts wires.new).quiets }) }
     ensures written { IsWritten result (O.state output.old).faults (O.state output.new).faults }
-    ensures told { E.stands end.old [] [] [] → WhereTold (λ log.
+    ensures told { E.stands end.old [] [] [] → WhereKnown (λ log.
         WithText (O.state output.old).written (O.state output.new).written
         (E.tells (E.terms end.old) result log)) (W.state wires.new link).log }
 
     // Wherever it read, its session wasn't over: the settings may have ended it there.
-    ensures waits { E.stands end.old [] [] [] → WhereTold (ReadsWhere (λ log. (text : List ℕ)
+    ensures waits { E.stands end.old [] [] [] → WhereKnown (ReadsWhere (λ log. (text : List ℕ)
         × E.tells (E.terms end.old) (EndedValue.Idle 0) log text)) (W.state wires.new link).log }
 
     // What stays, and how often is read.
@@ -83,20 +83,20 @@ fn turn<E: End, W: Wires, O: Sink>(
     requires told { TellsLeft reads left.old (W.state wires.old link).log }
     requires buffer { vec_len buffers.old.coming ≡ BUFFER }
     requires empty { buffers.old.going.octets ≡ [] }
-    ensures stands { (before : Option (List ℕ)) → WhereTold (λ log. WithText before
+    ensures stands { (before : Option (List ℕ)) → WhereKnown (λ log. WithText before
         (O.state output.old).written (E.stands end.old log [])) (W.state wires.old link).log
-        → OnOk result (WhereTold (λ log. WithText before
+        → OnOk result (WhereKnown (λ log. WithText before
         (O.state output.new).written (E.stands end.new log [])) (W.state wires.new link).log) }
-    ensures stopped { (before : Option (List ℕ)) → WhereTold (λ log. WithText before
+    ensures stopped { (before : Option (List ℕ)) → WhereKnown (λ log. WithText before
         (O.state output.old).written (E.stands end.old log [])) (W.state wires.old link).log
-        → IfErr result (λ ended. WhereTold (λ log. WithText before
+        → IfErr result (λ ended. WhereKnown (λ log. WithText before
         (O.state output.new).written (E.tells (E.terms end.old) ended log))
         (W.state wires.new link).log) }
-    ensures waits { (before : Option (List ℕ)) → WhereTold (λ log. WithText before
+    ensures waits { (before : Option (List ℕ)) → WhereKnown (λ log. WithText before
         (O.state output.old).written (E.stands end.old log [])) (W.state wires.old link).log
-        → WhereTold (ReadsWhere (λ log. (text : List ℕ)
+        → WhereKnown (ReadsWhere (λ log. (text : List ℕ)
         × E.tells (E.terms end.old) (EndedValue.Idle 0) log text)) (W.state wires.old link).log
-        → WhereTold (ReadsWhere (λ log. (text : List ℕ)
+        → WhereKnown (ReadsWhere (λ log. (text : List ℕ)
         × E.tells (E.terms end.old) (EndedValue.Idle 0) log text)) (W.state wires.new link).log }
     ensures going { OnOk result ((W.state wires.new link).has_ended ≡ false) }
     ensures falls { OnOk result (reads_left reads left.new < reads_left reads left.old) }

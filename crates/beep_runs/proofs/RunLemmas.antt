@@ -6,13 +6,13 @@ use Rattle.beep_lawful.specs.declared.terms.Terms.{Terms}
 use Rattle.beep_settings.specs.declared.settings.Settings.{Settings}
 use Rattle.beep_wires.specs.Log.{Entry}
 use Rattle.beep_link.specs.declared.ended.Ended.{Ended}
-use Rattle.beep_link.specs.Causes.{IsCaused, Keeps, Seen, WhereTold}
+use Rattle.beep_link.specs.Causes.{IsCaused, Keeps, Seen, WhereKnown}
 use Rattle.beep_steps.specs.Ends.{reads_of}
 use Rattle.beep_steps.specs.Logs.{IsLawfulOn, ReadsOnlyGoing, Shows, terms_by}
 use Rattle.beep_steps.specs.Refusing.{GoesUnrefused}
-use Rattle.beep_steps.specs.Scripting.{KeepsAboveOn, KeepsScriptOn}
+use Rattle.beep_steps.specs.Scripting.{KeepsWholeOn, KeepsScriptOn}
 use Rattle.beep_steps.specs.Sending.{sender_plan, SendsAll}
-use Rattle.beep_ends.specs.Listening.{listener_plan}
+use Rattle.beep_listener.specs.Listening.{listener_plan}
 use Rattle.beep_recorder.specs.Kept.{Recording, RecordsKnown}
 use Rattle.beep_runs.specs.Runs.{HasListened, IsRecorded, Ran, SentAll}
 
@@ -28,17 +28,17 @@ starved terms (Ended.Cut left) log s = inl s.sound
 starved terms (Ended.Idle reads) log s = inl s.sound
 starved terms (Ended.Spent octets) log s = inl s.sound
 
-starved-told : (terms : Terms) (cause : Ended) (log : Option (List Entry)) → WhereTold (Shows terms cause) log → WhereTold (Shows terms Ended.NoMemory) log
+starved-told : (terms : Terms) (cause : Ended) (log : Option (List Entry)) → WhereKnown (Shows terms cause) log → WhereKnown (Shows terms Ended.NoMemory) log
 starved-told terms cause None s = tt
 starved-told terms cause (Some log) s = starved terms cause log s
 
 module _ (role : Role) (settings : Settings) (cause : Ended) (before given used after : Seen) (link : ℕ) (is : link ≡ before.counts.given)
     (fresh : IsFresh (given.state link)) (others : SameBeside link before.state given.state) (one : given.counts.given ≡ before.counts.given + 1) (quiets : given.counts.quiets ≡ before.counts.quiets)
     (keeps : Keeps link given used) (caused : IsCaused cause (reads_of settings) (record { link = given.state link; quiets = given.counts.quiets }) (record { link = used.state link; quiets = used.counts.quiets }))
-    (lawful : WhereTold (IsLawfulOn (terms_by role settings)) (used.state link).log) (told : WhereTold (Shows (terms_by role settings) cause) (used.state link).log)
+    (lawful : WhereKnown (IsLawfulOn (terms_by role settings)) (used.state link).log) (told : WhereKnown (Shows (terms_by role settings) cause) (used.state link).log)
     (shut : after.state link ≡ record (used.state link) { is_open = false }) (beside : SameBeside link used.state after.state) (counts : after.counts ≡ used.counts) where
   ran-by : (result : Ended) → IsCaused result (reads_of settings) (record { link = given.state link; quiets = given.counts.quiets }) (record { link = used.state link; quiets = used.counts.quiets })
-      → WhereTold (Shows (terms_by role settings) result) (used.state link).log → Ran role settings result before after
+      → WhereKnown (Shows (terms_by role settings) result) (used.state link).log → Ran role settings result before after
   ran-by result c t = record {
     fresh = given.state link;
     last = used.state link;
@@ -70,20 +70,20 @@ module _ (role : Role) (settings : Settings) (cause : Ended) (before given used 
   }
 
 -- a run that is out of memory says nothing of refusals, and any other says what ended its session
-starved-unrefused : (terms : Terms) (log : Option (List Entry)) → WhereTold (GoesUnrefused terms Ended.NoMemory) log
+starved-unrefused : (terms : Terms) (log : Option (List Entry)) → WhereKnown (GoesUnrefused terms Ended.NoMemory) log
 starved-unrefused terms None = tt
 starved-unrefused terms (Some log) = tt
 
-goes-unrefused : (terms : Terms) (cause result : Ended) (log : Option (List Entry)) → WhereTold (GoesUnrefused terms cause) log → (result ≡ cause) ⊎ (result ≡ Ended.NoMemory)
-    → WhereTold (GoesUnrefused terms result) log
+goes-unrefused : (terms : Terms) (cause result : Ended) (log : Option (List Entry)) → WhereKnown (GoesUnrefused terms cause) log → (result ≡ cause) ⊎ (result ≡ Ended.NoMemory)
+    → WhereKnown (GoesUnrefused terms result) log
 goes-unrefused terms cause result log unrefused =
-    ⊎_elim (λ same. subst (λ (e : Ended). WhereTold (GoesUnrefused terms e) log) (sym same) unrefused)
-    (λ short. subst (λ (e : Ended). WhereTold (GoesUnrefused terms e) log) (sym short) (starved-unrefused terms log))
+    ⊎_elim (λ same. subst (λ (e : Ended). WhereKnown (GoesUnrefused terms e) log) (sym same) unrefused)
+    (λ short. subst (λ (e : Ended). WhereKnown (GoesUnrefused terms e) log) (sym short) (starved-unrefused terms log))
 
 -- what was sent by the end of the session was sent by the end of the run
 pub sent_all : (settings : Settings) (lines : List (List ℕ)) (cause result : Ended) (before used after : Seen) (link : ℕ) → link ≡ before.counts.given → after.state link ≡ record (used.state link) { is_open = false }
-    → (cause ≡ Ended.Released → WhereTold (SendsAll (sender_plan settings lines)) (used.state link).log) → WhereTold (KeepsScriptOn (sender_plan settings lines)) (used.state link).log
-    → WhereTold (GoesUnrefused (terms_by Role.Initiator settings) cause) (used.state link).log → WhereTold (ReadsOnlyGoing (terms_by Role.Initiator settings)) (used.state link).log → (result ≡ cause) ⊎ (result ≡ Ended.NoMemory) → SentAll settings lines result before after
+    → (cause ≡ Ended.Released → WhereKnown (SendsAll (sender_plan settings lines)) (used.state link).log) → WhereKnown (KeepsScriptOn (sender_plan settings lines)) (used.state link).log
+    → WhereKnown (GoesUnrefused (terms_by Role.Initiator settings) cause) (used.state link).log → WhereKnown (ReadsOnlyGoing (terms_by Role.Initiator settings)) (used.state link).log → (result ≡ cause) ⊎ (result ≡ Ended.NoMemory) → SentAll settings lines result before after
 sent_all settings lines cause result before used after link is shut sent above unrefused waits ended = record {
   all = λ released. on (SendsAll (sender_plan settings lines)) (⊎_elim (λ same. sent (sym same ∙ released))
       (λ short. absurd (let h : Ended.NoMemory ≡ Ended.Released = sym short ∙ released in cc)) ended);
@@ -92,21 +92,21 @@ sent_all settings lines cause result before used after link is shut sent above u
   waits = on (ReadsOnlyGoing (terms_by Role.Initiator settings)) waits;
 }
   where
-    on : (P : List Entry → Type 0) → WhereTold P (used.state link).log → WhereTold P (after.state before.counts.given).log
-    on P p = subst (λ (n : ℕ). WhereTold P (after.state n).log) is (subst (λ (l : Link). WhereTold P l.log) (sym shut) p)
+    on : (P : List Entry → Type 0) → WhereKnown P (used.state link).log → WhereKnown P (after.state before.counts.given).log
+    on P p = subst (λ (n : ℕ). WhereKnown P (after.state n).log) is (subst (λ (l : Link). WhereKnown P l.log) (sym shut) p)
 
 -- what a listener kept by the end of its session it kept by the end of the run
 pub has_listened : (settings : Settings) (cause result : Ended) (before used after : Seen) (link : ℕ) → link ≡ before.counts.given → after.state link ≡ record (used.state link) { is_open = false }
-    → WhereTold (KeepsAboveOn (listener_plan settings)) (used.state link).log
-    → WhereTold (GoesUnrefused (terms_by Role.Listener settings) cause) (used.state link).log → WhereTold (ReadsOnlyGoing (terms_by Role.Listener settings)) (used.state link).log → (result ≡ cause) ⊎ (result ≡ Ended.NoMemory) → HasListened settings result before after
-has_listened settings cause result before used after link is shut above unrefused waits ended = record {
-  above = on (KeepsAboveOn (listener_plan settings)) above;
+    → WhereKnown (KeepsWholeOn (listener_plan settings)) (used.state link).log
+    → WhereKnown (GoesUnrefused (terms_by Role.Listener settings) cause) (used.state link).log → WhereKnown (ReadsOnlyGoing (terms_by Role.Listener settings)) (used.state link).log → (result ≡ cause) ⊎ (result ≡ Ended.NoMemory) → HasListened settings result before after
+has_listened settings cause result before used after link is shut script unrefused waits ended = record {
+  script = on (KeepsWholeOn (listener_plan settings)) script;
   unrefused = on (GoesUnrefused (terms_by Role.Listener settings) result) (goes-unrefused (terms_by Role.Listener settings) cause result (used.state link).log unrefused ended);
   waits = on (ReadsOnlyGoing (terms_by Role.Listener settings)) waits;
 }
   where
-    on : (P : List Entry → Type 0) → WhereTold P (used.state link).log → WhereTold P (after.state before.counts.given).log
-    on P p = subst (λ (n : ℕ). WhereTold P (after.state n).log) is (subst (λ (l : Link). WhereTold P l.log) (sym shut) p)
+    on : (P : List Entry → Type 0) → WhereKnown P (used.state link).log → WhereKnown P (after.state before.counts.given).log
+    on P p = subst (λ (n : ℕ). WhereKnown P (after.state n).log) is (subst (λ (l : Link). WhereKnown P l.log) (sym shut) p)
 
 -- what holds of links as a recorder has them holds of the links that were lent to it
 pub moved : {A : Type 0} (P : A → A → Type 0) (before before2 after after2 : A) → before2 ≡ before → after ≡ after2 → P before2 after2 → P before after

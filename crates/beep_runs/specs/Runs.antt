@@ -9,13 +9,13 @@ use Rattle.beep_wires.specs.Links.{Link, Counts, Ask, Asked, Asks, asked_by, IsF
 use Rattle.beep_journal.specs.declared.role.Role.{Role}
 use Rattle.beep_settings.specs.declared.settings.Settings.{Settings}
 use Rattle.beep_link.specs.declared.ended.Ended.{Ended}
-use Rattle.beep_link.specs.Causes.{IsCaused, Seen, WhereTold}
+use Rattle.beep_link.specs.Causes.{IsCaused, Seen, WhereKnown}
 use Rattle.beep_steps.specs.Ends.{reads_of}
 use Rattle.beep_steps.specs.Logs.{IsLawfulOn, ReadsOnlyGoing, Shows, terms_by}
 use Rattle.beep_steps.specs.Refusing.{GoesUnrefused}
-use Rattle.beep_steps.specs.Scripting.{KeepsAboveOn, KeepsScriptOn}
+use Rattle.beep_steps.specs.Scripting.{KeepsWholeOn, KeepsScriptOn}
 use Rattle.beep_steps.specs.Sending.{sender_plan, SendsAll}
-use Rattle.beep_ends.specs.Listening.{listener_plan}
+use Rattle.beep_listener.specs.Listening.{listener_plan}
 use Rattle.beep_recorder.specs.Kept.{RecordsLink}
 
 -- what is known of links
@@ -24,7 +24,7 @@ seen_of state counts asked lent =
     record { state = state; counts = counts; asked = asked; lent = lent }
 
 -- a link was given, the session of an end of this role on it ended by this, and it was shut: what
--- its log shows where it is told, and that nothing else changed
+-- its log shows where it is known, and that nothing else changed
 pub record Ran (role : Role) (settings : Settings) (cause : Ended) (before after : Seen)
     : Type 0 where
   pub fresh : Link
@@ -33,8 +33,8 @@ pub record Ran (role : Role) (settings : Settings) (cause : Ended) (before after
   pub caused : IsCaused cause (reads_of settings)
       (record { link = fresh; quiets = before.counts.quiets })
       (record { link = last; quiets = after.counts.quiets })
-  pub lawful : WhereTold (IsLawfulOn (terms_by role settings)) last.log
-  pub told : WhereTold (Shows (terms_by role settings) cause) last.log
+  pub lawful : WhereKnown (IsLawfulOn (terms_by role settings)) last.log
+  pub told : WhereKnown (Shows (terms_by role settings) cause) last.log
   pub shut : after.state before.counts.given ≡ record last { is_open = false }
   pub given : after.counts.given ≡ before.counts.given + 1
   pub others : SameBeside before.counts.given before.state after.state
@@ -46,23 +46,23 @@ pub record Ran (role : Role) (settings : Settings) (cause : Ended) (before after
 pub record SentAll (settings : Settings) (lines : List (List ℕ)) (cause : Ended)
     (before after : Seen) : Type 0 where
   pub all : cause ≡ Ended.Released
-      → WhereTold (SendsAll (sender_plan settings lines)) (after.state before.counts.given).log
-  pub above : WhereTold (KeepsScriptOn (sender_plan settings lines))
+      → WhereKnown (SendsAll (sender_plan settings lines)) (after.state before.counts.given).log
+  pub above : WhereKnown (KeepsScriptOn (sender_plan settings lines))
       (after.state before.counts.given).log
-  pub unrefused : WhereTold (GoesUnrefused (terms_by Role.Initiator settings) cause)
+  pub unrefused : WhereKnown (GoesUnrefused (terms_by Role.Initiator settings) cause)
       (after.state before.counts.given).log
-  pub waits : WhereTold (ReadsOnlyGoing (terms_by Role.Initiator settings))
+  pub waits : WhereKnown (ReadsOnlyGoing (terms_by Role.Initiator settings))
       (after.state before.counts.given).log
 
--- the log of the link that was given shows that above channel zero the script of a listener was
--- kept, that the peer refused nothing where that didn't end it, and that wherever it read the
+-- the log of the link that was given shows that a listener kept its script, channel zero among its
+-- channels, that the peer refused nothing where that didn't end it, and that wherever it read the
 -- session went on
 pub record HasListened (settings : Settings) (cause : Ended) (before after : Seen) : Type 0 where
-  pub above : WhereTold (KeepsAboveOn (listener_plan settings))
+  pub script : WhereKnown (KeepsWholeOn (listener_plan settings))
       (after.state before.counts.given).log
-  pub unrefused : WhereTold (GoesUnrefused (terms_by Role.Listener settings) cause)
+  pub unrefused : WhereKnown (GoesUnrefused (terms_by Role.Listener settings) cause)
       (after.state before.counts.given).log
-  pub waits : WhereTold (ReadsOnlyGoing (terms_by Role.Listener settings))
+  pub waits : WhereKnown (ReadsOnlyGoing (terms_by Role.Listener settings))
       (after.state before.counts.given).log
 
 -- no link was given, for this reason, where the count of such faults was that and is this

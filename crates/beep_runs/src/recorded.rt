@@ -7,10 +7,11 @@ ghost use Rattle.beep_steps.specs.Ends.{AreFit};
 ghost use Rattle.beep_recorder.specs.Kept.{Recording, RecordsKnown};
 ghost use Rattle.beep_runs.specs.Runs.{AsksThis, HasListened, IsRecorded, NotGiven, Ran, seen_of, SentAll};
 
-use beep_ends::{Ended, listen_end, send_end};
+use beep_listener::{Ended, listen_end};
 use beep_octets::{NoMemory, Octets};
 use beep_record::Role;
 use beep_recorder::{Known, Recorder};
+use beep_sender::send_end;
 use beep_settings::Settings;
 use beep_wires::{NullSink, WireError, Wires};
 use prof_raw::Entries;

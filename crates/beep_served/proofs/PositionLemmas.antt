@@ -15,7 +15,7 @@ use Rattle.beep_history.specs.Broken.{first_of, shape_rules, octet_rules, limit_
 use Rattle.beep_history.proofs.ListsLemmas.{filter-agree, IsNumbered, find-below}
 use Rattle.beep_history.proofs.SoundLemmas.{requests-numbered}
 use Rattle.beep_journal.specs.Broken.{Tuning, session_rules, or_else, broken_head}
-use Rattle.beep_journal.specs.Zero.{zero_history}
+use Rattle.beep_journal.specs.Zero.{channel_of, zero_history}
 use Rattle.beep_journal.specs.Life.{life, life_now, is_of_life, history}
 use Rattle.beep_lawful.specs.declared.terms.Terms.{Terms}
 use Rattle.beep_lawful.specs.Lawful.{unlawful_item, IsLawful}
@@ -220,6 +220,31 @@ few-began past head none few = of (begins_request Side.Sent past head) none
         → length (if b then record { position = length (requests Side.Sent past); number = head.msgno } ∷ requests Side.Sent past else requests Side.Sent past) ≤ count past + MAX_REQUESTS
     of true e = let less = at-least MAX_REQUESTS (length (waiting Side.Sent past)) e in let all = asked-of past in omega (arith, less, all)
     of false e = few
+
+-- ---- channel zero of a lawful journal
+
+module _ (terms : Terms) (tunes : Tuning) where
+  zero-item : (item : Item) (journal : List Item) → unlawful_item terms tunes journal item ≡ None → (channel_of item == 0) ≡ true → IsFew (zero_history journal)
+      → IsFew (item ∷ zero_history journal)
+  zero-item (began Side.Received head) journal lawful is few = omega (arith, few)
+  zero-item (began Side.Sent head) journal lawful is few =
+      few-began (zero_history journal) head
+      (subst (λ (past : List Item). breaks_too_many_requests Side.Sent past head ≡ false)
+      (ap (λ (b : Bool). if b then zero_history journal else life head.channel (life_now head.channel journal) journal) is) (few-head tunes journal head (head-unbroken terms tunes journal head lawful))) few
+  zero-item (passed Side.Received head payload) journal lawful is few = omega (arith, few)
+  zero-item (passed Side.Sent head payload) journal lawful is few = few
+  zero-item (told Side.Received seq) journal lawful is few = omega (arith, few)
+  zero-item (told Side.Sent seq) journal lawful is few = few
+
+  pub few-zero : (journal : List Item) → IsLawful terms tunes journal → length (requests Side.Sent (zero_history journal)) ≤ items_got (zero_history journal) + MAX_REQUESTS
+  few-zero [] lawful = omega arith
+  few-zero (item ∷ journal) lawful = of (channel_of item == 0) refl (few-zero journal (lawful-before terms tunes (item ∷ []) journal lawful))
+    where
+      of : (b : Bool) → (channel_of item == 0) ≡ b → IsFew (zero_history journal) → IsFew (if b then item ∷ zero_history journal else zero_history journal)
+      of true is few = zero-item item journal (item-lawful terms tunes [] journal item lawful) is few
+      of false is few = few
+
+-- ---- a life above zero
 
 module _ (terms : Terms) (tunes : Tuning) (number life_count : ℕ) (above : (number == 0) ≡ false) where
   of-number : (head : Head) (journal : List Item) → (head.channel == number && life_now number journal == life_count) ≡ true

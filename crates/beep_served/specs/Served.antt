@@ -47,7 +47,7 @@ HaveProfile uri journal = (number count : ℕ) → 0 < count → count ≤ lives
     → has_profile uri number count journal ≡ true
 
 -- a frame that passes above channel zero in a live life is of one that began with the profile, and
--- its request has a position that a call tells
+-- its request has a position below 2^64
 abbrev pub ServedAt : PlainPlan → Item → List Item → Type 0
 ServedAt plan (began by head) journal = Unit {0}
 ServedAt plan (passed Side.Received head payload) journal = (head.channel == 0) ≡ false

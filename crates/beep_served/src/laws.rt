@@ -44,7 +44,7 @@ pub fn an_end_serves_on_whatever_comes()
 {}
 
 /// All that comes above channel zero to a lawful end that serves one profile is of lives that began
-/// with it, in which positions are told as they are.
+/// with it, and names a position below 2^64.
 pub fn what_comes_is_served()
     ensures { (plan : PlainPlan) (terms : Terms) (log : List Moment) (past : Past)
         → IsLawfulLog terms none_tunes log → Shows none_tunes log past

@@ -19,7 +19,7 @@ use Rattle.beep_session.specs.Feeds.{Feeds}
 use Rattle.beep_logged.proofs.EndLemmas.{released-gots, broken-gots, reads-lawful, sound-of}
 use Rattle.beep_logged.proofs.ReadLemmas.{first-logged}
 use Rattle.beep_wires.specs.Log.{Entry, read, wrote, quiet, ended}
-use Rattle.beep_link.specs.Causes.{WhereTold, ended_by}
+use Rattle.beep_link.specs.Causes.{WhereKnown, ended_by}
 use Rattle.beep_link.specs.declared.ended.Ended.{Ended}
 use Rattle.beep_link.specs.declared.ended.Stop.{Stop}
 use Rattle.beep_steps.specs.Logs.{moments, IsLawfulOn, StandsOn, WaitsOn, Shows, ShowsRelease, ShowsFault, ShowsCut, StopsInRead, StopsOn, SaysNothing}
@@ -208,11 +208,11 @@ shows-lawful terms (Ended.Cut left) log h = h.sound.lawful
 shows-lawful terms (Ended.Idle count) log h = h.sound.lawful
 shows-lawful terms (Ended.Spent count) log h = h.sound.lawful
 
-pub told-lawful : (terms : Terms) (cause : Ended) (log : Option (List Entry)) → WhereTold (Shows terms cause) log → WhereTold (IsLawfulOn terms) log
+pub told-lawful : (terms : Terms) (cause : Ended) (log : Option (List Entry)) → WhereKnown (Shows terms cause) log → WhereKnown (IsLawfulOn terms) log
 told-lawful terms cause None h = tt
 told-lawful terms cause (Some log) h = shows-lawful terms cause log h
 
 -- nothing was read or written
-pub none-told : (P : List Entry → Type 0) (log : Option (List Entry)) → P [] → (log ≡ None) ⊎ (log ≡ Some []) → WhereTold P log
-none-told P log p (inl e) = subst (WhereTold P) (sym e) tt
-none-told P log p (inr e) = subst (WhereTold P) (sym e) p
+pub none-told : (P : List Entry → Type 0) (log : Option (List Entry)) → P [] → (log ≡ None) ⊎ (log ≡ Some []) → WhereKnown P log
+none-told P log p (inl e) = subst (WhereKnown P) (sym e) tt
+none-told P log p (inr e) = subst (WhereKnown P) (sym e) p

@@ -64,7 +64,7 @@ one_answer place line = map (octet (one_tag place)) (body_of (line ∷ [])) ++ e
 abbrev answers_marks : ℕ → List (List ℕ) → List Mark
 answers_marks place lines = flat_map message_marks (answers_from 0 place lines)
 
--- the answers to the first request are as calls tell them
+-- the answers to the first request are the same modulo 2^64
 answers-modulo : (place : ℕ) (lines : List (List ℕ)) → map mark_modulo_2_64 (answers_marks place lines) ≡ answers_marks place lines
 answers-modulo place [] = refl
 answers-modulo place (line ∷ lines) =
@@ -91,7 +91,7 @@ answers-given plan send =
     ap (map mark_modulo_2_64) (one-reply plan send) ∙ map-append (answers_of plan.lines) (flat_map message_marks (nul 0 ∷ []))
     ∙ ap (λ (ms : List Mark). ms ++ map mark_modulo_2_64 (flat_map message_marks (nul 0 ∷ []))) (answers-modulo 0 plan.lines)
 
--- what was given is the beginning of replies as calls tell them
+-- what was given is the beginning of replies, positions modulo 2^64
 pub record Agrees (plan : PlainPlan) (given : List Mark) : Type 0 where
   pub many : ℕ
   pub rest : List Mark

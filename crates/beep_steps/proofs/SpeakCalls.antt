@@ -1,6 +1,6 @@
 -- What each call of a session leaves of a listener that keeps its script.
 use Rattle.std.proofs.Common.{◌≡◌, ℕ, ◌<◌, ◌==◌, Bool, true, false, not, ◌||◌, if◌then◌else◌, List, [], ◌∷◌, ◌++◌, Option, None, Some, refl, sym, ap, ◌∙◌, subst}
-use Rattle.std.specs.Prelude.{IfSome, IfNone}
+use Rattle.std.specs.Prelude.{IfSome, IfNone, is_some}
 use Rattle.beep_frame.specs.declared.head.Head.{Head}
 use Rattle.beep_frame.specs.declared.rule.Rule.{Rule}
 use Rattle.beep_frame.specs.Frame.{framed, seq_frame}
@@ -9,9 +9,9 @@ use Rattle.beep_history.specs.declared.journal.Side.{Side}
 use Rattle.beep_history.specs.Journal.{Item, began, passed, told}
 use Rattle.beep_history.specs.Broken.{first_of}
 use Rattle.beep_journal.specs.Broken.{none_tunes, or_else, session_rules, broken_head, breaks_size, breaks_no_greeting, breaks_no_such_channel}
-use Rattle.beep_journal.specs.Lives.{Event, lives, is_live}
+use Rattle.beep_journal.specs.Lives.{Event, has_release, lives, is_live}
 use Rattle.beep_journal.specs.Zero.{events}
-use Rattle.beep_journal.specs.Life.{is_there, life_now}
+use Rattle.beep_journal.specs.Life.{is_released, is_there, life_now}
 use Rattle.beep_journal.specs.Log.{Moment, got_all, put_all}
 use Rattle.beep_journal.proofs.JournalLemmas.{began-events, told-events}
 use Rattle.beep_decide.specs.Decide.{is_among}
@@ -21,6 +21,7 @@ use Rattle.beep_lawful.proofs.LawfulLemmas.{head-unbroken, item-lawful}
 use Rattle.beep_channel.specs.Held.{Live}
 use Rattle.beep_inbox.specs.declared.part.Part.{Part}
 use Rattle.beep_standing.specs.Standing.{Marks, AreLiveBy}
+use Rattle.beep_standing.proofs.ZeroLemmas.{none-live}
 use Rattle.beep_hearing.specs.declared.ear.Ear.{Ear}
 use Rattle.beep_hearing.specs.Hears.{Hears}
 use Rattle.beep_giving.proofs.CountLemmas.{turned}
@@ -42,7 +43,8 @@ use Rattle.beep_served.specs.Served.{HaveProfile, IsServing}
 use Rattle.beep_replies.specs.Replies.{first_said}
 use Rattle.beep_steps.specs.Logs.{StandsOn}
 use Rattle.beep_steps.specs.Serving.{ShowsServing}
-use Rattle.beep_steps.specs.Speaking.{Notes, IsSaid, KeepsTold, SpeaksSo, AreNoted, SpeaksOn, SpeaksWaiting, SpeaksGone, IsBorn, KeepsSpeaking}
+use Rattle.beep_steps.specs.Speaking.{Notes, IsSaid, KeepsTold, SpeaksSo, AreNoted, SpeaksOn, SpeaksWaiting, SpeaksGone, IsBorn, IsUnspoken, KeepsSpeaking}
+use Rattle.beep_steps.proofs.BornLemmas.{born-going, born-unclosed, one-born}
 use Rattle.beep_steps.proofs.CallLemmas.{on-so, gained-on, waits-on}
 use Rattle.beep_steps.proofs.SpeakLemmas.{first-begun, asks-now, no-release, sent-release}
 use Rattle.beep_steps.proofs.SpeakLives.{given-told, nothing-told}
@@ -74,8 +76,8 @@ module _ (plan : PlainPlan) (notes : Notes) (old new : List Item) (given now : M
 
 pub noted-same : (notes : Notes) (old new : List Item) → ((n : ℕ) → is_there n new ≡ is_there n old) → AreNoted notes old → AreNoted notes new
 noted-same notes old new same noted = record {
-  starting = λ n above among. same n ∙ noted.starting n above among;
   spoken = λ n above among. same n ∙ noted.spoken n above among;
+  all = λ n above there. noted.all n above (sym (same n) ∙ there);
 }
 
 -- what comes without a whole message of channel zero, or a SEQ that goes out
@@ -152,13 +154,13 @@ same-speaking plan before after old mid new same h = subst (λ (x : Held). Keeps
 -- ---- a session that begins
 
 abbrev nothing : Notes
-nothing = record { starting = []; spoken = []; leaving = false }
+nothing = record { spoken = []; leaving = false }
 
 none-told : (plan : PlainPlan) → KeepsTold plan []
 none-told plan n c above = record { rest = _; whole_is = refl }
 
 pub begins-speaking : (plan : PlainPlan) (session : Held) (size : ℕ) (greeting : List ℕ) (b : Begins size greeting session.peer) (taken : Marks) → plan.command ≡ Command.Listen
-    → (on : StandsOn session []) → on.journal ≡ [] → on.given ≡ b.given → SpeaksOn plan (record { starting = []; spoken = []; leaving = false }) session []
+    → (on : StandsOn session []) → on.journal ≡ [] → on.given ≡ b.given → SpeaksOn plan (record { spoken = []; leaving = false }) session []
 begins-speaking plan session size greeting b taken listens on empty is = record {
   listens = listens;
   on = on;
@@ -168,7 +170,10 @@ begins-speaking plan session size greeting b taken listens on empty is = record 
     leaving = no-release;
     keeps = none-told plan;
   }));
-  noted = record { starting = λ n above among. clash false among refl; spoken = λ n above among. clash false among refl };
+  noted = record {
+    spoken = λ n above among. clash false among refl;
+    all = λ n above there. absurd (let g : true ≡ false = sym there ∙ ap (is_there n) empty ∙ ap (λ (b : Bool). b || is_live n (events [])) above ∙ none-live n in cc);
+  };
 }
 
 -- ---- what comes
@@ -287,44 +292,61 @@ module _ (plan : PlainPlan) (notes : Notes) (head : Head) (payload : List ℕ) (
       scripts-on plan notes journal next given now passing carries s noted notes.leaving release
       (sent-told plan head payload journal there s.keeps (λ above alive. here size taken channels live carries have head.channel above alive))
 
-  -- of a number that was starting nothing is spoken, and what is asked first is by what has come
-  pub gone-born : HaveProfile plan.raw_uri next → (n : ℕ) → (n == 0) ≡ false → is_among n notes.starting ≡ true → is_there n next ≡ true → IsBorn plan notes n next
-  gone-born have n above among there = record {
-    unspoken = unspoken (is_among n notes.spoken) refl;
-    first = ap (λ (k : ℕ). first_said plan n k next) (now-of n next above there)
+  -- one in which nothing was spoken begins by the frame
+  not-live : (n : ℕ) → IsUnspoken notes n next → is_live n (events (began Side.Sent head ∷ journal)) ≡ false
+  not-live n u = ap (is_live n) (began-events Side.Sent head journal) ∙ dead-of n journal u.above (dead (is_there n journal) refl)
+    where
+      dead : (b : Bool) → is_there n journal ≡ b → b ≡ false
+      dead true there = clash (is_among n notes.spoken) (noted.all n u.above there) u.none
+      dead false there = refl
+
+  is-live : (n : ℕ) → IsUnspoken notes n next → is_live n (events next) ≡ true
+  is-live n u = live-of n next u.above u.there
+
+  -- no close of it waits, and what is asked first is by what has come
+  pub gone-born : HaveProfile plan.raw_uri next → is_released journal ≡ false → (n : ℕ) → IsUnspoken notes n next → IsBorn plan notes n next
+  gone-born have going n u = record {
+    going = born-going (passed Side.Sent head payload) (began Side.Sent head ∷ journal) n (ap has_release (began-events Side.Sent head journal) ∙ going) (not-live n u) (is-live n u);
+    unclosed = born-unclosed (passed Side.Sent head payload) (began Side.Sent head ∷ journal) n (not-live n u) (is-live n u);
+    first = ap (λ (k : ℕ). first_said plan n k next) (now-of n next u.above u.there)
         ∙ first-begun plan n (passed Side.Sent head payload) (began Side.Sent head ∷ journal) have more
         ∙ asks-now plan.command (events (began Side.Sent head ∷ journal)) notes.leaving listens (ap has_peer_release (began-events Side.Sent head journal) ∙ s.leaving);
   }
     where
-      dead : is_there n journal ≡ false
-      dead = noted.starting n above among
-
-      unspoken : (b : Bool) → is_among n notes.spoken ≡ b → b ≡ false
-      unspoken true is = clash (is_there n journal) (noted.spoken n above is) dead
-      unspoken false is = refl
-
       more : lives n (events (began Side.Sent head ∷ journal)) < lives n (events next)
-      more = (frame-turns n Side.Sent head payload (began Side.Sent head ∷ journal)).begins
-          (ap (is_live n) (began-events Side.Sent head journal) ∙ dead-of n journal above dead) (live-of n next above there)
+      more = (frame-turns n Side.Sent head payload (began Side.Sent head ∷ journal)).begins (not-live n u) (is-live n u)
 
--- where no life begins none of those that were starting has one
+  -- and one begins at most
+  pub gone-one : (n m : ℕ) → IsUnspoken notes n next → IsUnspoken notes m next → n ≡ m
+  gone-one n m u v =
+      one-born (passed Side.Sent head payload) (began Side.Sent head ∷ journal) n m (not-live n u) (not-live m v) (is-live n u) (is-live m v)
+
+-- where no life begins all are noted
 pub gone-same : (plan : PlainPlan) (notes : Notes) (session : Held) (log : List Moment) (journal : List Item) → plan.command ≡ Command.Listen → (on : StandsOn session log) → SpeaksSo plan notes on.journal on.given
     → AreNoted notes journal → ((n : ℕ) → is_there n on.journal ≡ is_there n journal) → SpeaksGone plan notes session log
 gone-same plan notes session log journal listens on s noted same = record {
   listens = listens;
   on = on;
   scripts = s;
-  born = λ n above among there. clash (is_there n on.journal) there (same n ∙ noted.starting n above among);
+  born = λ n u. absurd (none n u);
+  one = λ n m u v. absurd (none n u);
 }
+  where
+    none : (n : ℕ) → IsUnspoken notes n on.journal → ⊥
+    none n u = clash (is_among n notes.spoken) (noted.all n u.above (sym (same n) ∙ u.there)) u.none
 
 pub rests-gone : (plan : PlainPlan) (notes : Notes) (session : Held) (log : List Moment) → SpeaksOn plan notes session log → SpeaksGone plan notes session log
 rests-gone plan notes session log s = gone-same plan notes session log s.on.journal s.listens s.on s.scripts s.noted (λ n. refl)
 
+unreleased : (a b : Bool) → (a || b) ≡ false → a ≡ false
+unreleased true b e = clash true refl e
+unreleased false b e = refl
+
 module _ (plan : PlainPlan) (notes : Notes) (old new : Held) (before after : List ℕ) (log : List Moment) (s : SpeaksOn plan notes old (put_all before log)) (same : IsOfPeer old new)
     (serving : (on : StandsOn new (put_all after log)) → HaveProfile plan.raw_uri on.journal) where
-  speaks-speaking : (result : Emit) → IsFramed result → SpeaksLawfully result (terms_of old) s.on.fed s.on.rest s.on.journal s.on.given s.on.taken old.peer new.peer before after
+  speaks-speaking : is_released s.on.journal ≡ false → (result : Emit) → IsFramed result → SpeaksLawfully result (terms_of old) s.on.fed s.on.rest s.on.journal s.on.given s.on.taken old.peer new.peer before after
       → SpeaksGone plan notes new (put_all after log)
-  speaks-speaking (Emit.Seq seq) is m =
+  speaks-speaking going (Emit.Seq seq) is m =
       let octets = spelling (seq_frame seq) in
       let journal = told Side.Sent seq ∷ s.on.journal in
       let q = item-quiet plan (told Side.Sent seq) s.on.journal (told-events Side.Sent seq s.on.journal) in
@@ -333,7 +355,7 @@ module _ (plan : PlainPlan) (notes : Notes) (old new : Held) (before after : Lis
       (on-so old new same s.on.fed s.on.rest journal s.on.given s.on.taken (put_all octets (put_all before log)) m.1 (is, s.on.framed)
       (seq-written (terms_of old) s.on.rest s.on.journal (put_all before log) seq s.on.logged is m.1.lawful))
       (scripts-quiet plan notes s.on.journal journal s.on.given q (seq-told plan Side.Sent seq s.on.journal s.scripts.keeps) s.scripts s.noted) s.noted (quiet-there plan s.on.journal journal q))
-  speaks-speaking (Emit.Data head) is m =
+  speaks-speaking going (Emit.Data head) is m =
       let octets = spelling (framed head m.payload) in
       let all = put_all octets (put_all before log) in
       let where_is : put_all after log ≡ all = ap (λ (x : List ℕ). put_all x log) m.spelled ∙ put-append before octets log in
@@ -349,9 +371,10 @@ module _ (plan : PlainPlan) (notes : Notes) (old new : Held) (before after : Lis
         on = on;
         scripts = gone-scripts plan notes head m.payload s.on.journal s.on.given m.sent.given_now s.listens s.scripts s.noted (terms_of old).window m.sent.taken_now new.peer.lives
             m.sent.stands.holds.live m.sent.given_is have (lawful-there (terms_of old) s.on.journal head m.payload m.lawful);
-        born = gone-born plan notes head m.payload s.on.journal s.on.given m.sent.given_now s.listens s.scripts s.noted have;
+        born = gone-born plan notes head m.payload s.on.journal s.on.given m.sent.given_now s.listens s.scripts s.noted have going;
+        one = gone-one plan notes head m.payload s.on.journal s.on.given m.sent.given_now s.listens s.scripts s.noted;
       })
-  speaks-speaking Emit.Nothing is m =
+  speaks-speaking going Emit.Nothing is m =
       subst (λ (x : List ℕ). SpeaksGone plan notes new (put_all x log)) (sym m.0)
       (gone-same plan notes new (put_all before log) s.on.journal s.listens
       (on-so old new same s.on.fed s.on.rest s.on.journal s.on.given s.on.taken (put_all before log) m.1 s.on.framed s.on.logged) s.scripts s.noted (λ n. refl))
@@ -366,5 +389,5 @@ module _ (plan : PlainPlan) (notes : Notes) (old new : Held) (before after : Lis
       let r = rests e in
       subst (λ (x : List ℕ). SpeaksGone plan notes new (put_all x log)) (sym r.2) (subst (λ (x : Held). SpeaksGone plan notes x (put_all before log)) (sym r.1) (rests-gone plan notes old (put_all before log) s))
   emits-speaking result false e speaks frames rests =
-      speaks-speaking result (frames s.on.fed s.on.rest s.on.journal s.on.given s.on.taken e s.on.stands s.on.framed)
+      speaks-speaking (sym s.on.stands.stands.released ∙ unreleased old.peer.released (is_some old.peer.ear.broken) e) result (frames s.on.fed s.on.rest s.on.journal s.on.given s.on.taken e s.on.stands s.on.framed)
       (speaks s.on.fed s.on.rest s.on.journal s.on.given s.on.taken e s.on.stands)

@@ -1,9 +1,8 @@
 -- A message that is given leaves a listener one that keeps its script: what is asked first, and each refusal at its position.
-use Rattle.std.proofs.Common.{◌≡◌, ℕ, ◌+◌, ◌==◌, Bool, true, false, ◌||◌, if◌then◌else◌, List, [], ◌∷◌, ◌++◌, map, flat_map, refl, sym, ap, ◌∙◌, subst, arith, append-nil, append_assoc}
+use Rattle.std.proofs.Common.{◌≡◌, ℕ, ◌+◌, ◌==◌, Bool, true, false, if◌then◌else◌, List, [], ◌∷◌, ◌++◌, map, flat_map, refl, sym, ap, ◌∙◌, subst, arith, append-nil, append_assoc}
 use Rattle.std.specs.Prelude.{is_some, Option, Result, Ok, OnOk}
 use Rattle.std.proofs.lemmas.List.{map-append}
 use Rattle.std.proofs.lemmas.List.Concat.{flat_map-append}
-use Rattle.std.proofs.lemmas.List.Folds.{list_any-append}
 use Rattle.beep_frame.specs.declared.kind.Kind.{Kind}
 use Rattle.beep_frame.specs.declared.tag.Tag.{Tag}
 use Rattle.beep_frame.specs.Modulo.{modulo_2_64 as count_modulo}
@@ -13,6 +12,7 @@ use Rattle.beep_history.specs.Messages.{Message}
 use Rattle.beep_mgmt.specs.Form.{fault}
 use Rattle.beep_mgmt.specs.Message.{message_text}
 use Rattle.beep_journal.specs.Life.{is_there, life_now}
+use Rattle.beep_journal.specs.Zero.{events}
 use Rattle.beep_journal.specs.Log.{Moment}
 use Rattle.beep_journal.proofs.MomentLemmas.{equal-number, same-number}
 use Rattle.beep_decide.specs.Decide.{is_among, note_of}
@@ -29,11 +29,11 @@ use Rattle.beep_session.specs.Lawfully.{KeepsUpright}
 use Rattle.beep_session.specs.Session.{Held}
 use Rattle.beep_talk.specs.declared.plan.Command.{Command}
 use Rattle.beep_talk.specs.Plan.{PlainPlan}
-use Rattle.beep_talk.specs.Talk.{ready, refusal, reply_of}
+use Rattle.beep_talk.specs.Talk.{has_peer_release, ready, refusal, reply_of}
 use Rattle.beep_script.specs.Script.{message_marks}
 use Rattle.beep_replies.specs.Replies.{first_said, replies}
 use Rattle.beep_replies.proofs.SaidLemmas.{next-reply}
-use Rattle.beep_steps.specs.Speaking.{Notes, asked_now, modulo_marks, IsBorn, IsSaid, SpeaksSo, AreNoted, SpeaksOn, KeepsSpeaking}
+use Rattle.beep_steps.specs.Speaking.{Notes, asked_now, modulo_marks, AreNoted, IsSaid, KeepsSpeaking, KeepsTold, SpeaksNew, SpeaksOn, SpeaksSo}
 use Rattle.beep_steps.proofs.CallLemmas.{on-so}
 use Rattle.beep_steps.proofs.SpeakCalls.{peer-speaking, same-speaking}
 use Rattle.beep_steps.proofs.SpeakLives.{no-answers, one-reply, said-ends}
@@ -44,7 +44,7 @@ told-octets : (tag : Tag) (os : List ℕ) (ms : List Mark) → map mark_modulo_2
 told-octets tag [] ms = refl
 told-octets tag (o ∷ os) ms = ap (λ (rest : List Mark). octet (modulo_2_64 tag) o ∷ rest) (told-octets tag os ms)
 
--- one message as calls tell it
+-- one message, its position modulo 2^64
 pub one-told : (m : Message) → modulo_marks (m ∷ []) ≡ given_marks (record { tag = modulo_2_64 m.tag; octets = m.content })
 one-told m = ap (map mark_modulo_2_64) (append-nil (message_marks m)) ∙ told-octets m.tag m.content (end m.tag ∷ [])
 
@@ -98,9 +98,6 @@ none-said plan = record { count = 0; given_is = refl }
 pub with-own : (number : ℕ) (ones : List Mark) (marks : Marks) → with_marks number ones marks number ≡ ones
 with-own number ones marks = ap (λ (b : Bool). if b then ones else marks number) (same-number number)
 
-among-more : (n number : ℕ) (xs : List ℕ) → is_among n (xs ++ number ∷ []) ≡ (is_among n xs || (number == n || false))
-among-more n number xs = list_any-append (λ other. other == n) xs (number ∷ [])
-
 module _ (plan : PlainPlan) (notes : Notes) (number : ℕ) (journal : List Item) (given now : Marks) (others : (n : ℕ) → (number == n) ≡ false → now n ≡ given n)
     (s : SpeaksSo plan notes journal given) where
   said-as : (n : ℕ) → (number == n) ≡ false → IsSaid plan (first_said plan n (life_now n journal) journal) (given n) → IsSaid plan (first_said plan n (life_now n journal) journal) (now n)
@@ -130,51 +127,20 @@ module _ (plan : PlainPlan) (notes : Notes) (number : ℕ) (journal : List Item)
       still n above there none true e = absurd (let g : true ≡ false = sym noted ∙ ap (λ (m : ℕ). is_among m notes.spoken) (equal-number number n e) ∙ none in cc)
       still n above there none false e = others n e ∙ s.silent n above there none
 
-  -- what is asked first was given in a life, which is noted
-  pub first-scripts : IsSaid plan (first_said plan number (life_now number journal) journal) (now number) → SpeaksSo plan (record notes { spoken = notes.spoken ++ number ∷ [] }) journal now
-  first-scripts first = record {
-    said = λ n above there among. of n above there (sym (among-more n number notes.spoken) ∙ among) (number == n) refl;
-    silent = λ n above there none. still n above there (sym (among-more n number notes.spoken) ∙ none) (number == n) refl;
-    leaving = s.leaving;
-    keeps = s.keeps;
-  }
-    where
-      of : (n : ℕ) → (n == 0) ≡ false → is_there n journal ≡ true → (is_among n notes.spoken || (number == n || false)) ≡ true → (b : Bool) → (number == n) ≡ b
-          → IsSaid plan (first_said plan n (life_now n journal) journal) (now n)
-      of n above there among true e = subst (λ (m : ℕ). IsSaid plan (first_said plan m (life_now m journal) journal) (now m)) (equal-number number n e) first
-      of n above there among false e = said-as n e (s.said n above there (was (is_among n notes.spoken) (number == n) among e))
-        where
-          was : (a b : Bool) → (a || (b || false)) ≡ true → b ≡ false → a ≡ true
-          was true b f g = refl
-          was false true f g = absurd (let h : true ≡ false = g in cc)
-          was false false f g = absurd (let h : false ≡ true = f in cc)
-
-      still : (n : ℕ) → (n == 0) ≡ false → is_there n journal ≡ true → (is_among n notes.spoken || (number == n || false)) ≡ false → (b : Bool) → (number == n) ≡ b → now n ≡ []
-      still n above there none b e = others n (apart (is_among n notes.spoken) (number == n) none) ∙ s.silent n above there (was (is_among n notes.spoken) (number == n) none)
-        where
-          apart : (a b : Bool) → (a || (b || false)) ≡ false → b ≡ false
-          apart true b f = absurd (let h : true ≡ false = f in cc)
-          apart false true f = absurd (let h : true ≡ false = f in cc)
-          apart false false f = refl
-
-          was : (a b : Bool) → (a || (b || false)) ≡ false → a ≡ false
-          was true b f = absurd (let h : true ≡ false = f in cc)
-          was false b f = refl
-
-pub first-noted : (notes : Notes) (number : ℕ) (journal : List Item) → is_there number journal ≡ true → AreNoted notes journal → AreNoted (record notes { spoken = notes.spoken ++ number ∷ [] }) journal
-first-noted notes number journal there noted = record {
-  starting = noted.starting;
-  spoken = λ n above among. of n above (sym (among-more n number notes.spoken) ∙ among) (number == n) refl;
+-- what is asked first was given in a life that has just begun
+pub first-scripts : (plan : PlainPlan) (notes : Notes) (number : ℕ) (journal : List Item) (given now : Marks) → ((n : ℕ) → (number == n) ≡ false → now n ≡ given n) → AreNoted notes journal
+    → ((n : ℕ) → (n == 0) ≡ false → is_there n journal ≡ true → (number == n) ≡ false → IsSaid plan (first_said plan n (life_now n journal) journal) (given n))
+    → has_peer_release (events journal) ≡ notes.leaving → KeepsTold plan journal → IsSaid plan (first_said plan number (life_now number journal) journal) (now number) → SpeaksSo plan notes journal now
+first-scripts plan notes number journal given now same noted others leaving keeps first = record {
+  said = λ n above there among. of n above there (number == n) refl;
+  silent = λ n above there none. absurd (let g : true ≡ false = sym (noted.all n above there) ∙ none in cc);
+  leaving = leaving;
+  keeps = keeps;
 }
   where
-    of : (n : ℕ) → (n == 0) ≡ false → (is_among n notes.spoken || (number == n || false)) ≡ true → (b : Bool) → (number == n) ≡ b → is_there n journal ≡ true
-    of n above among true e = ap (λ (m : ℕ). is_there m journal) (sym (equal-number number n e)) ∙ there
-    of n above among false e = noted.spoken n above (was (is_among n notes.spoken) (number == n) among e)
-      where
-        was : (a b : Bool) → (a || (b || false)) ≡ true → b ≡ false → a ≡ true
-        was true b f g = refl
-        was false true f g = absurd (let h : true ≡ false = g in cc)
-        was false false f g = absurd (let h : false ≡ true = f in cc)
+    of : (n : ℕ) → (n == 0) ≡ false → is_there n journal ≡ true → (b : Bool) → (number == n) ≡ b → IsSaid plan (first_said plan n (life_now n journal) journal) (now n)
+    of n above there true e = subst (λ (m : ℕ). IsSaid plan (first_said plan m (life_now m journal) journal) (now m)) (equal-number number n e) first
+    of n above there false e = subst (IsSaid plan (first_said plan n (life_now n journal) journal)) (sym (same n e)) (others n above there e)
 
 -- ---- calls
 
@@ -194,10 +160,9 @@ module _ (plan : PlainPlan) (notes : Notes) (old new : Held) (number : ℕ) (oct
       )) log s
 
   -- what is asked first in a life that begins
-  pub asks-speaking : octets ≡ ready.content → Gives number Kind.Msg octets old new → KeepsUpright old new → (log : List Moment) (s : SpeaksOn plan notes old log)
-      → s.on.given number ≡ [] → is_there number s.on.journal ≡ true → first_said plan number (life_now number s.on.journal) s.on.journal ≡ ready ∷ []
-      → SpeaksOn plan (record notes { spoken = notes.spoken ++ number ∷ [] }) new log
-  asks-speaking text g upright log s none there first =
+  pub asks-speaking : octets ≡ ready.content → Gives number Kind.Msg octets old new → KeepsUpright old new → (log : List Moment) → SpeaksNew plan notes number old log
+      → notes.leaving ≡ false → SpeaksOn plan notes new log
+  asks-speaking text g upright log s going =
       let ones = s.on.given number ++ given_marks (next_message Kind.Msg octets (s.on.given number)) in
       let on = s.on in
       let m = g.gives on.fed on.rest on.journal on.given on.taken on.stands.stands in
@@ -205,38 +170,35 @@ module _ (plan : PlainPlan) (notes : Notes) (old new : Held) (number : ℕ) (oct
         listens = s.listens;
         on = on-so old new g.same on.fed on.rest on.journal (with_marks number ones on.given) on.taken log
             (record { stands = m.stands; upright = upright on.fed on.rest on.journal on.given on.taken on.stands.stands on.stands.upright; lawful = on.stands.lawful }) on.framed on.logged;
-        scripts = first-scripts plan notes number on.journal on.given (with_marks number ones on.given) (λ n apart. with-other number n ones on.given apart) s.scripts
-            (subst (λ (f : List Message). IsSaid plan f (with_marks number ones on.given number)) (sym first)
+        scripts = first-scripts plan notes number on.journal on.given (with_marks number ones on.given) (λ n apart. with-other number n ones on.given apart) s.noted s.others s.leaving s.keeps
+            (subst (λ (f : List Message). IsSaid plan f (with_marks number ones on.given number)) (sym (s.born.first ∙ ap asked_now going))
             (subst (IsSaid plan (ready ∷ [])) (sym (with-own number ones on.given))
-            (subst (λ (ms : List Mark). IsSaid plan (ready ∷ []) (ms ++ given_marks (next_message Kind.Msg octets ms))) (sym none)
+            (subst (λ (ms : List Mark). IsSaid plan (ready ∷ []) (ms ++ given_marks (next_message Kind.Msg octets ms))) (sym s.none)
             (subst (λ (os : List ℕ). IsSaid plan (ready ∷ []) ([] ++ given_marks (next_message Kind.Msg os []))) (sym text) (ready-said plan)))));
-        noted = first-noted notes number on.journal there s.noted;
+        noted = s.noted;
       }
 
 -- nothing is asked in a life that begins once the peer asked to close the session
-pub leaves-speaking : (plan : PlainPlan) (notes : Notes) (session : Held) (number : ℕ) (log : List Moment) (s : SpeaksOn plan notes session log) → (number == 0) ≡ false → is_there number s.on.journal ≡ true
-    → is_among number notes.spoken ≡ false → first_said plan number (life_now number s.on.journal) s.on.journal ≡ []
-    → SpeaksOn plan (record notes { spoken = notes.spoken ++ number ∷ [] }) session log
-leaves-speaking plan notes session number log s above there unspoken first = record {
+pub leaves-speaking : (plan : PlainPlan) (notes : Notes) (session : Held) (number : ℕ) (log : List Moment) → SpeaksNew plan notes number session log → notes.leaving ≡ true
+    → SpeaksOn plan notes session log
+leaves-speaking plan notes session number log s gone = record {
   listens = s.listens;
   on = s.on;
-  scripts = first-scripts plan notes number s.on.journal s.on.given s.on.given (λ n apart. refl) s.scripts
-      (subst (λ (f : List Message). IsSaid plan f (s.on.given number)) (sym first)
-      (subst (IsSaid plan []) (sym (s.scripts.silent number above there unspoken)) (none-said plan)));
-  noted = first-noted notes number s.on.journal there s.noted;
+  scripts = first-scripts plan notes number s.on.journal s.on.given s.on.given (λ n apart. refl) s.noted s.others s.leaving s.keeps
+      (subst (λ (f : List Message). IsSaid plan f (s.on.given number)) (sym (s.born.first ∙ ap asked_now gone))
+      (subst (IsSaid plan []) (sym s.none) (none-said plan)));
+  noted = s.noted;
 }
 
 -- ---- by what a call answers
 
 module _ (plan : PlainPlan) (notes : Notes) (old mid new : Held) (same : mid ≡ old) (number : ℕ) where
   -- what is asked first was asked
-  pub asked-speaking : (octets : List ℕ) → octets ≡ ready.content → Gives number Kind.Msg octets mid new → KeepsUpright mid new → (log : List Moment) (s : SpeaksOn plan notes old log)
-      → (number == 0) ≡ false → is_there number s.on.journal ≡ true → IsBorn plan notes number s.on.journal → notes.leaving ≡ false
-      → SpeaksOn plan (record notes { spoken = notes.spoken ++ number ∷ [] }) new log
-  asked-speaking octets text g upright log s above there born going =
-      subst (λ (x : Held). (log : List Moment) (t : SpeaksOn plan notes x log) → t.on.given number ≡ [] → is_there number t.on.journal ≡ true
-      → first_said plan number (life_now number t.on.journal) t.on.journal ≡ ready ∷ [] → SpeaksOn plan (record notes { spoken = notes.spoken ++ number ∷ [] }) new log) same
-      (asks-speaking plan notes mid new number octets text g upright) log s (s.scripts.silent number above there born.unspoken) there (born.first ∙ ap asked_now going)
+  pub asked-speaking : (octets : List ℕ) → octets ≡ ready.content → Gives number Kind.Msg octets mid new → KeepsUpright mid new → (log : List Moment)
+      → SpeaksNew plan notes number old log → notes.leaving ≡ false → SpeaksOn plan notes new log
+  asked-speaking octets text g upright log s going =
+      subst (λ (x : Held). SpeaksNew plan notes number x log → SpeaksOn plan notes new log) same
+      (λ t. asks-speaking plan notes mid new number octets text g upright log t going) s
 
   -- a refusal was given by a call that gave its handle up
   pub gone-speaking : {A E : Type 0} (result : Result A E) (value : A) (octets : List ℕ) → result ≡ Ok value → OnOk result (Gives number Kind.Err octets mid new × KeepsUpright mid new)

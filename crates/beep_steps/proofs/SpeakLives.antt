@@ -44,12 +44,12 @@ ends-modulo test [] = refl
 ends-modulo test (octet tag value ∷ ms) = ends-modulo test ms
 ends-modulo test (end tag ∷ ms) = ap (λ (k : ℕ). if test tag.kind then k + 1 else k) (ends-modulo test ms)
 
-ends-octets : (test : Kind → Bool) (tag : Tag) (os : List ℕ) (ms : List Mark) → ends_of test (map (octet tag) os ++ ms) ≡ ends_of test ms
+pub ends-octets : (test : Kind → Bool) (tag : Tag) (os : List ℕ) (ms : List Mark) → ends_of test (map (octet tag) os ++ ms) ≡ ends_of test ms
 ends-octets test tag [] ms = refl
 ends-octets test tag (o ∷ os) ms = ends-octets test tag os ms
 
 -- a message ends once
-ends-message : (test : Kind → Bool) (m : Message) (b : Bool) → test m.tag.kind ≡ b → ends_of test (message_marks m) ≡ (if b then 1 else 0)
+pub ends-message : (test : Kind → Bool) (m : Message) (b : Bool) → test m.tag.kind ≡ b → ends_of test (message_marks m) ≡ (if b then 1 else 0)
 ends-message test m b is = ends-octets test m.tag m.content (end m.tag ∷ []) ∙ ap (λ (c : Bool). if c then 0 + 1 else 0) is ∙ of b
   where
     of : (b : Bool) → (if b then 0 + 1 else 0) ≡ (if b then 1 else 0)
@@ -57,7 +57,7 @@ ends-message test m b is = ends-octets test m.tag m.content (end m.tag ∷ []) �
     of false = refl
 
 -- the requests that passed
-ends-requests : (ms : List Mark) → ends_of is_msg ms ≡ length (filter ends_msg ms)
+pub ends-requests : (ms : List Mark) → ends_of is_msg ms ≡ length (filter ends_msg ms)
 ends-requests [] = refl
 ends-requests (octet tag value ∷ ms) = ends-requests ms
 ends-requests (end tag ∷ ms) = of (is_msg tag.kind) (ends-requests ms)
@@ -149,21 +149,21 @@ module _ (plan : PlainPlan) (listens : plan.command ≡ Command.Listen) (size : 
   abbrev k : ℕ
   k = life_now n journal
 
-  channel-at : (c : Live) × (live_at n channels ≡ Some c)
+  pub channel-at : (c : Live) × (live_at n channels ≡ Some c)
   channel-at = of (live_at n channels) refl
     where
       of : (o : Option Live) → live_at n channels ≡ o → (c : Live) × (live_at n channels ≡ Some c)
       of None at = absurd (let h : true ≡ false = sym there ∙ live.there n ∙ ap is_some at in cc)
       of (Some c) at = (c, at)
 
-  stands : Stands size channel-at.0.held (history n journal) (given n) (taken n)
+  pub stands : Stands size channel-at.0.held (history n journal) (given n) (taken n)
   stands = live.above n channel-at.0 above channel-at.1
 
-  past-is : history n journal ≡ life n k journal
+  pub past-is : history n journal ≡ life n k journal
   past-is = ap (λ (b : Bool). if b then zero_history journal else life n k journal) above
 
   -- the marks that were sent and those that weren't
-  all-given : given n ≡ map mark_modulo_2_64 (marks Side.Sent (life n k journal)) ++ unsent_marks channel-at.0.held.queue
+  pub all-given : given n ≡ map mark_modulo_2_64 (marks Side.Sent (life n k journal)) ++ unsent_marks channel-at.0.held.queue
   all-given = stands.all_given ∙ ap (λ (past : List Item). map mark_modulo_2_64 (marks Side.Sent past) ++ unsent_marks channel-at.0.held.queue) past-is
 
   -- no more replies were given than requests have passed

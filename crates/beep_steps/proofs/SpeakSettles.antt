@@ -1,6 +1,6 @@
 -- A message of channel zero that is settled leaves a listener one that keeps its script: it notes a close of 0 by the peer, and begins and ends no life.
 use Rattle.std.proofs.Common.{◌≡◌, ℕ, ◌==◌, Bool, true, false, not, ◌&&◌, ◌||◌, if◌then◌else◌, List, [], ◌∷◌, ◌++◌, length, Option, None, Some, refl, sym, ap, ◌∙◌, subst}
-use Rattle.std.specs.Prelude.{is_some, nat_le}
+use Rattle.std.specs.Prelude.{is_some}
 use Rattle.std.specs.List.{list_any}
 use Rattle.beep_frame.specs.declared.head.Head.{Head}
 use Rattle.beep_frame.specs.declared.kind.Kind.{Kind}
@@ -15,10 +15,8 @@ use Rattle.beep_journal.specs.Zero.{zero_history, zero_events, gathered, asked, 
 use Rattle.beep_journal.specs.Life.{is_there}
 use Rattle.beep_journal.specs.Log.{Moment}
 use Rattle.beep_journal.proofs.MomentLemmas.{equal-number}
-use Rattle.beep_decide.specs.declared.limits.TheConstants.{MAX_CHANNELS}
 use Rattle.beep_decide.specs.Asks.{is_close_of}
-use Rattle.beep_decide.specs.Decide.{PlainStanding, Decision, refuse, choose, tune, grant_close, decide, decide_start, decide_profile, first_offered, first_row, is_among, is_used, used_count}
-use Rattle.beep_decide.specs.Numbers.{may_start, other_role}
+use Rattle.beep_decide.specs.Decide.{PlainStanding, Decision, refuse, choose, tune, grant_close, decide, decide_start, is_among}
 use Rattle.beep_asked.specs.Kept.{Kept, is_leaving, oldest}
 use Rattle.beep_asked.specs.Asked.{EndsReply}
 use Rattle.beep_asked.proofs.LawsLemmas.{reply-waits}
@@ -26,7 +24,7 @@ use Rattle.beep_answering.specs.declared.settled.Settled.{Settled}
 use Rattle.beep_answering.specs.Decided.{SettledBy, IsSettledAs, IsBegunBy, IsClosedBy, refused_as}
 use Rattle.beep_management.specs.declared.wait.Wait.{Wait}
 use Rattle.beep_peer.specs.Calls.{Settles, SettlesReply, SettlesRequest}
-use Rattle.beep_peer.specs.Standing.{live_above, standing_of}
+use Rattle.beep_peer.specs.Standing.{standing_of}
 use Rattle.beep_peer.proofs.WaitingLemmas.{ends-reply}
 use Rattle.beep_upright.specs.Upright.{IsUpright}
 use Rattle.beep_session.specs.Channels.{IsOfPeer}
@@ -38,13 +36,13 @@ use Rattle.beep_served.specs.Served.{IsServing}
 use Rattle.beep_served.proofs.ProfileLemmas.{serving-then}
 use Rattle.beep_steps.specs.Logs.{WaitsOn}
 use Rattle.beep_steps.specs.Serving.{ShowsServing}
-use Rattle.beep_steps.specs.Speaking.{Notes, closes_all, SpeaksWaiting, SettledSpeaking}
+use Rattle.beep_steps.specs.Speaking.{Notes, closes_all, noted_by, SpeaksOn, SpeaksWaiting}
 use Rattle.beep_steps.proofs.CallLemmas.{settles-on}
 use Rattle.beep_steps.proofs.SettleSends.{form-alone, oldest-there}
 use Rattle.beep_steps.proofs.SpeakLemmas.{came-release, asked-release, waiting-asked}
 use Rattle.beep_steps.proofs.SpeakSteps.{came-told, frame-passing}
 use Rattle.beep_steps.proofs.SpeakCalls.{scripts-on, serving-at}
-use Rattle.beep_steps.proofs.SpeakStanding.{above-numbers, closing-leaves}
+use Rattle.beep_steps.proofs.SpeakStanding.{closing-leaves}
 
 -- ---- lives
 
@@ -126,49 +124,6 @@ module _ (standing : PlainStanding) (left : Bool) (settled : Settled) (waits : W
       closed-so number code note leaves ((number == 0 || is_among number standing.live) && not (is_among number standing.closing)) refl b
   request-closes (Some okay) leaves b = refused-same 500 b.0
   request-closes (Some (fault code note)) leaves b = refused-same 500 b.0
-
--- ---- a start that is granted
-
-rows-unused : (place : ℕ) (a b c d : Bool) (last : Decision) → first_row ((a, refuse 550) ∷ (b, refuse 553) ∷ (c, refuse 550) ∷ (d, refuse 450) ∷ []) last ≡ choose place → c ≡ false
-rows-unused place true b c d last e = absurd cc
-rows-unused place false true c d last e = absurd cc
-rows-unused place false false true d last e = absurd cc
-rows-unused place false false false d last e = refl
-
-left-false : (a b : Bool) → (a || b) ≡ false → a ≡ false
-left-false true b e = absurd (let g : true ≡ false = e in cc)
-left-false false b e = refl
-
-module _ (standing : PlainStanding) (settled : Settled) (waits : Wait) (number place : ℕ) (is : settled ≡ Settled.PeerStarts number place) where
-  other-settled : (code : ℕ) → settled ≡ Settled.PeerRefused code → ⊥
-  other-settled code e = let g : Settled.PeerStarts number place ≡ Settled.PeerRefused code = sym is ∙ e in cc
-
-  started-as : (d : Decision) (of : ℕ) (server : Option (List ℕ)) (listed : List PlainProfile) → decide_start standing of listed ≡ d → SettledBy d (Some (start of server listed)) settled waits
-      → is_among number standing.live ≡ false
-  started-as (refuse code) of server listed e b = absurd (other-settled code b.0)
-  started-as (choose at) of server listed e b =
-      let same : Settled.PeerStarts number place ≡ Settled.PeerStarts of at = sym is ∙ b.0 in
-      let one : number ≡ of = cc in
-      ap (λ (k : ℕ). is_among k standing.live) one
-      ∙ left-false (is_among of standing.live) (is_among of standing.starting)
-      (rows-unused at standing.leaving (not (may_start (other_role standing.role) of)) (is_used standing of) (nat_le MAX_CHANNELS (used_count standing)) (decide_profile standing (first_offered standing.offers listed)) e)
-  started-as (tune at content) of server listed e b = absurd b
-  started-as grant_close of server listed e b = absurd b
-
-  closed-not : (of code : ℕ) (note : List ℕ) (t : Bool) → SettledBy (if t then grant_close else refuse 550) (Some (close of code note)) settled waits → ⊥
-  closed-not of code note true b = let g : Settled.PeerStarts number place ≡ Settled.PeerCloses of code = sym is ∙ b.0 in cc
-  closed-not of code note false b = other-settled 550 b.0
-
-  -- its number isn't live
-  pub starts-unused : (said : Option Form) → SettledBy (decide standing said) said settled waits → is_among number standing.live ≡ false
-  starts-unused None b = absurd (other-settled 500 b.0)
-  starts-unused (Some (greeting features localize profiles)) b = absurd (other-settled 500 b.0)
-  starts-unused (Some (start of server listed)) b = started-as (decide_start standing of listed) of server listed refl b
-  starts-unused (Some (chosen profile)) b = absurd (other-settled 500 b.0)
-  starts-unused (Some (close of code note)) b =
-      absurd (closed-not of code note ((of == 0 || is_among of standing.live) && not (is_among of standing.closing)) b)
-  starts-unused (Some okay) b = absurd (other-settled 500 b.0)
-  starts-unused (Some (fault code note)) b = absurd (other-settled 500 b.0)
 
 -- ---- what a reply is settled as
 
@@ -280,23 +235,19 @@ module _ (plan : PlainPlan) (notes : Notes) (old new : Held) (same : IsOfPeer ol
 
   settled-speaking : (m : Settles old.limits.window o.fed o.journal o.given o.taken o.head o.payload new.peer) → IsUpright (terms_of old) now new.peer.lives new.peer.management
       → (is_msg o.head.kind ≡ false → completes_form Side.Received o.head o.payload past ≡ true) → ShowsServing plan log
-      → has_peer_release (events now) ≡ (closes_all settled || notes.leaving)
-      → ((number offer : ℕ) → settled ≡ Settled.PeerStarts number offer → (number == 0) ≡ false → is_there number o.journal ≡ false) → SettledSpeaking plan notes settled new log
-  settled-speaking m upright fits shows flag free =
+      → has_peer_release (events now) ≡ (closes_all settled || notes.leaving) → SpeaksOn plan (noted_by settled notes) new log
+  settled-speaking m upright fits shows flag =
       let serving : IsServing plan.raw_uri o.journal = serving-then plan.raw_uri (passed Side.Received o.head o.payload ∷ []) o.journal (serving-at plan new log shows (settles-on old new same log o m upright fits)) in
       let there : (n : ℕ) → is_there n now ≡ is_there n o.journal = λ n. came-there n o.head o.payload o.journal serving.no_request in
       record {
-        then_on = record {
-          listens = w.listens;
-          on = settles-on old new same log o m upright fits;
-          scripts = scripts-on plan notes o.journal now o.given m.given_now (frame-passing plan Side.Received o.head o.payload o.journal) m.given_is w.scripts w.noted (closes_all settled || notes.leaving) flag
-              (came-told plan o.head o.payload o.journal w.scripts.keeps);
-          noted = record {
-            starting = λ n above among. there n ∙ w.noted.starting n above among;
-            spoken = λ n above among. there n ∙ w.noted.spoken n above among;
-          };
+        listens = w.listens;
+        on = settles-on old new same log o m upright fits;
+        scripts = scripts-on plan notes o.journal now o.given m.given_now (frame-passing plan Side.Received o.head o.payload o.journal) m.given_is w.scripts w.noted (closes_all settled || notes.leaving) flag
+            (came-told plan o.head o.payload o.journal w.scripts.keeps);
+        noted = record {
+          spoken = λ n above among. there n ∙ w.noted.spoken n above among;
+          all = λ n above is. w.noted.all n above (sym (there n) ∙ is);
         };
-        free = λ number offer is above. there number ∙ free number offer is above;
       }
 
   module _ (standing : PlainStanding) (standing-is : standing ≡ standing_of old.role old.offers old.peer)
@@ -310,29 +261,12 @@ module _ (plan : PlainPlan) (notes : Notes) (old new : Held) (same : IsOfPeer ol
     says-no : is_msg o.head.kind ≡ false → says_none settled ≡ true
     says-no is = let one = some-own is (fits is) in reply-says one.0 said settled (replied is one.0 one.1)
 
-    -- the number of a start that is granted is free
-    settles-free : (number offer : ℕ) → settled ≡ Settled.PeerStarts number offer → (number == 0) ≡ false → is_there number o.journal ≡ false
-    settles-free number offer is above = of (is_msg o.head.kind) refl
-      where
-        free : is_among number standing.live ≡ false → (b : Bool) → is_there number o.journal ≡ b → b ≡ false
-        free none false there = refl
-        free none true there =
-            absurd (let live = o.waits.waits.live in
-            let among : is_among number (live_above old.peer) ≡ true =
-            above-numbers number old.peer.lives above live.ascending (sym (live.there 0)) (sym (live.there number) ∙ there) in
-            let g : true ≡ false = sym among ∙ ap (λ (s : PlainStanding). is_among number s.live) (sym standing-is) ∙ none in cc)
-
-        of : (b : Bool) → is_msg o.head.kind ≡ b → is_there number o.journal ≡ false
-        of true msg =
-            let r = request msg in free (starts-unused standing settled r.answer.waits number offer is said r.by) (is_there number o.journal) refl
-        of false msg = absurd (let g : false ≡ true = sym (ap says_none is) ∙ says-no msg in cc)
-
-    pub settles-speaking : IsUpright (terms_of old) now new.peer.lives new.peer.management → ShowsServing plan log → SettledSpeaking plan notes settled new log
+    pub settles-speaking : IsUpright (terms_of old) now new.peer.lives new.peer.management → ShowsServing plan log → SpeaksOn plan (noted_by settled notes) new log
     settles-speaking upright shows = of (is_msg o.head.kind) refl
       where
-        of : (b : Bool) → is_msg o.head.kind ≡ b → SettledSpeaking plan notes settled new log
+        of : (b : Bool) → is_msg o.head.kind ≡ b → SpeaksOn plan (noted_by settled notes) new log
         of true is =
             let r = request is in
-            settled-speaking r.settles upright fits shows (comes true is ∙ request-closes standing notes.leaving settled r.answer.waits said noted-then r.by) settles-free
+            settled-speaking r.settles upright fits shows (comes true is ∙ request-closes standing notes.leaving settled r.answer.waits said noted-then r.by)
         of false is =
-            settled-speaking (reply is).settles upright fits shows (comes false is ∙ ap (λ (b : Bool). b || notes.leaving) (sym (says-open settled (says-no is)))) settles-free
+            settled-speaking (reply is).settles upright fits shows (comes false is ∙ ap (λ (b : Bool). b || notes.leaving) (sym (says-open settled (says-no is))))

@@ -1,4 +1,4 @@
--- The positions that a listener names are below 2^64, so that calls tell its marks as they are: what is the beginning of its script as calls tell marks is so as it is.
+-- The positions that a listener names are below 2^64, so that its marks are the same modulo 2^64: what is the beginning of its script modulo 2^64 is so as it is.
 use Rattle.std.proofs.Common.{◌≡◌, ℕ, ◌+◌, ◌-◌, ◌<◌, ◌≤◌, ◌^◌, ◌==◌, Bool, true, false, ◌&&◌, if◌then◌else◌, List, [], ◌∷◌, ◌++◌, length, map, flat_map, Option, None, Some, refl, sym, ap, ◌∙◌, subst, arith}
 use Rattle.std.specs.Option.{option_map_or}
 use Rattle.std.proofs.lemmas.List.{map-append}
@@ -33,15 +33,15 @@ use Rattle.beep_replies.proofs.StayLemmas.{script-is}
 use Rattle.beep_steps.specs.Speaking.{KeepsTold, ShowsAbove, ShowsTold}
 use Rattle.beep_steps.proofs.SpeakLives.{one-reply}
 
--- ---- marks that calls tell as they are
+-- ---- marks that are the same modulo 2^64
 
-abbrev AreTold : List Mark → Type 0
+abbrev pub AreTold : List Mark → Type 0
 AreTold ms = map mark_modulo_2_64 ms ≡ ms
 
-told-both : (xs ys : List Mark) → AreTold xs → AreTold ys → AreTold (xs ++ ys)
+pub told-both : (xs ys : List Mark) → AreTold xs → AreTold ys → AreTold (xs ++ ys)
 told-both xs ys p q = map-append mark_modulo_2_64 xs ys ∙ ap (λ (ms : List Mark). ms ++ map mark_modulo_2_64 ys) p ∙ ap (λ (ms : List Mark). xs ++ ms) q
 
-tag-told : (t : Tag) → t.request < 2 ^ 64 → modulo_2_64 t ≡ t
+pub tag-told : (t : Tag) → t.request < 2 ^ 64 → modulo_2_64 t ≡ t
 tag-told t less = ap (λ (n : ℕ). record { kind = t.kind; request = n; ansno = t.ansno }) (omega (arith, less))
 
 octets-told : (t : Tag) (os : List ℕ) → modulo_2_64 t ≡ t → AreTold (map (octet t) os)
@@ -52,10 +52,10 @@ end-told : (t : Tag) (b : Bool) → modulo_2_64 t ≡ t → AreTold (if b then [
 end-told t true e = refl
 end-told t false e = ap (λ (u : Tag). end u ∷ []) e
 
-frame-told : (t : Tag) (head : Head) (payload : List ℕ) → modulo_2_64 t ≡ t → AreTold (frame_marks t head payload)
+pub frame-told : (t : Tag) (head : Head) (payload : List ℕ) → modulo_2_64 t ≡ t → AreTold (frame_marks t head payload)
 frame-told t head payload e = told-both (map (octet t) payload) (if head.more then [] else end t ∷ []) (octets-told t payload e) (end-told t head.more e)
 
-message-told : (m : Message) → m.tag.request < 2 ^ 64 → AreTold (message_marks m)
+pub message-told : (m : Message) → m.tag.request < 2 ^ 64 → AreTold (message_marks m)
 message-told m less = told-both (map (octet m.tag) m.content) (end m.tag ∷ []) (octets-told m.tag m.content (tag-told m.tag less)) (end-told m.tag false (tag-told m.tag less))
 
 -- ---- how much came
@@ -78,7 +78,7 @@ life-items n c (item ∷ journal) = of (is_of_life n c item journal) (same_side 
         by true = omega (arith, before)
         by false = before
 
-items-more : (item : Item) (journal : List Item) → items_got journal ≤ items_got (item ∷ journal)
+pub items-more : (item : Item) (journal : List Item) → items_got journal ≤ items_got (item ∷ journal)
 items-more item journal = of (same_side (side_of item) Side.Received)
   where
     of : (b : Bool) → items_got journal ≤ (if b then items_got journal + 1 else items_got journal)
@@ -86,7 +86,7 @@ items-more item journal = of (same_side (side_of item) Side.Received)
     of false = omega arith
 
 -- no more requests came than items
-requests-items : (past : List Item) → length (requests Side.Received past) ≤ items_got past
+pub requests-items : (past : List Item) → length (requests Side.Received past) ≤ items_got past
 requests-items [] = omega arith
 requests-items (began Side.Received head ∷ past) = of (begins_request Side.Received past head) (requests-items past)
   where
@@ -101,7 +101,7 @@ requests-items (told Side.Received seq ∷ past) = let before = requests-items p
 requests-items (told Side.Sent seq ∷ past) = requests-items past
 
 -- a position is one of a request of either side
-position-most : (side : Side) (past : List Item) (head : Head) (most : ℕ) → ((s : Side) → length (requests s past) ≤ most) → position_of side past head ≤ most
+pub position-most : (side : Side) (past : List Item) (head : Head) (most : ℕ) → ((s : Side) → length (requests s past) ≤ most) → position_of side past head ≤ most
 position-most side past head most few = by (is_msg head.kind) (named side past head) refl
   where
     by : (b : Bool) (o : Option Request) → named side past head ≡ o → (if b then length (requests side past) - 1 else option_map_or (λ request. request.position) o 0) ≤ most

@@ -1,5 +1,5 @@
 -- What stands by what a session keeps: a close of 0 that waits, and the numbers that are live.
-use Rattle.std.proofs.Common.{◌≡◌, ℕ, ◌+◌, ◌<◌, ◌==◌, Bool, true, false, ◌&&◌, ◌||◌, if◌then◌else◌, List, [], ◌∷◌, ◌++◌, filter, Some, refl, sym, ap, ◌∙◌, subst, arith}
+use Rattle.std.proofs.Common.{◌≡◌, ℕ, ◌+◌, ◌<◌, ◌≤◌, ◌==◌, Bool, true, false, ◌&&◌, ◌||◌, if◌then◌else◌, List, [], ◌∷◌, ◌++◌, filter, Some, refl, sym, ap, ◌∙◌, subst, arith}
 use Rattle.std.specs.Prelude.{is_some}
 use Rattle.std.proofs.lemmas.Bool.Decides.{nat_tests}
 use Rattle.beep_journal.proofs.MomentLemmas.{equal-number}
@@ -79,3 +79,38 @@ above-numbers n (c ∷ channels) above up first is = of (c.held.number == 0) ref
         let more : 0 < c.held.number + 1 = omega arith in
         let none : is_some (live_at 0 channels) ≡ false = none-below 0 (c.held.number + 1) channels more up.1 in
         absurd (let g : true ≡ false = sym first ∙ ap (λ (b : Bool). is_some (if b then Some c else live_at 0 channels)) e ∙ none in cc)
+
+-- ---- the numbers after the first
+
+among-live : (n : ℕ) (channels : List Live) → is_among n (numbers channels) ≡ true → is_some (live_at n channels) ≡ true
+among-live n [] is = is
+among-live n (c ∷ channels) is = of (c.held.number == n) is (λ e. among-live n channels e)
+  where
+    of : (b : Bool) → (b || is_among n (numbers channels)) ≡ true → (is_among n (numbers channels) ≡ true → is_some (live_at n channels) ≡ true) → is_some (if b then Some c else live_at n channels) ≡ true
+    of true e f = refl
+    of false e f = f e
+
+-- each has a channel
+pub rest-live : (n : ℕ) (channels : List Live) → is_among n (rest_of (numbers channels)) ≡ true → is_some (live_at n channels) ≡ true
+rest-live n [] is = is
+rest-live n (c ∷ channels) is = of (c.held.number == n) (among-live n channels is)
+  where
+    of : (b : Bool) → is_some (live_at n channels) ≡ true → is_some (if b then Some c else live_at n channels) ≡ true
+    of true e = refl
+    of false e = e
+
+among-least : (n least : ℕ) (channels : List Live) → IsAscendingFrom least channels → is_among n (numbers channels) ≡ true → least ≤ n
+among-least n least [] up is = absurd (let g : false ≡ true = is in cc)
+among-least n least (c ∷ channels) up is = of (c.held.number == n) refl is (λ later. among-least n (c.held.number + 1) channels up.1 later)
+  where
+    of : (b : Bool) → (c.held.number == n) ≡ b → (b || is_among n (numbers channels)) ≡ true → (is_among n (numbers channels) ≡ true → c.held.number + 1 ≤ n) → least ≤ n
+    of true e is_here f = subst (λ (m : ℕ). least ≤ m) (equal-number c.held.number n e) up.0
+    of false e is_later f = let later = f is_later in let at = up.0 in omega (arith, later, at)
+
+-- and is above zero
+pub rest-above : (n : ℕ) (channels : List Live) → IsAscendingFrom 0 channels → is_among n (rest_of (numbers channels)) ≡ true → (n == 0) ≡ false
+rest-above n [] up is = absurd (let g : false ≡ true = is in cc)
+rest-above n (c ∷ channels) up is = let least = among-least n (c.held.number + 1) channels up.1 is in positive n (omega (arith, least))
+  where
+    positive : (m : ℕ) → 0 < m → (m == 0) ≡ false
+    positive m e = grind (arith, nat_tests)

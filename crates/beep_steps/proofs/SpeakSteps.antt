@@ -152,7 +152,7 @@ map-front whole front more = record {
   whole_is = ap (map mark_modulo_2_64) more.whole_is ∙ map-append mark_modulo_2_64 front more.rest;
 }
 
--- what was sent in one life is the beginning of its script, as calls tell marks
+-- what was sent in one life is the beginning of its script, positions modulo 2^64
 abbrev pub ToldAt : PlainPlan → ℕ → ℕ → List Item → Type 0
 ToldAt plan n c journal = BeginsWith (map mark_modulo_2_64 (script_marks plan n c journal)) (map mark_modulo_2_64 (marks Side.Sent (life n c journal)))
 

@@ -41,7 +41,7 @@ ended body e is = record {
 
 module _ (law : (payload : List ℕ) (form : Form) → (message_said payload ≡ Some form) ↔ ((length payload ≤ MAX_TEXT) × Says payload form)) where
   -- a message of a lawful element that isn't too long is read as what the element says
-  reads-back : (form : Form) (e : Tree) → element_as form ≡ e → IsElement e → form_said e ≡ Some form → length (message_text form) ≤ MAX_TEXT
+  pub reads-back : (form : Form) (e : Tree) → element_as form ≡ e → IsElement e → form_said e ≡ Some form → length (message_text form) ≤ MAX_TEXT
       → message_said (message_text form) ≡ Some form
   reads-back form e same is said short =
       let text = element_text (element_as form) in

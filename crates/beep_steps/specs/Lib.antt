@@ -6,5 +6,7 @@ pub mod Refusing
 pub mod Sending
 pub mod Serving
 pub mod Steps
-pub mod Turning
 pub mod Scripting
+pub mod Desking
+-- What proofs alone need: what a turn of either end keeps.
+pub mod Turning

@@ -15,7 +15,7 @@ use Rattle.beep_session.specs.Session.{Held}
 use Rattle.beep_standing.specs.Standing.{Marks}
 use Rattle.beep_talk.specs.Plan.{PlainPlan}
 use Rattle.beep_script.specs.Requested.{requests_from, sender_texts}
-use Rattle.beep_script.specs.Script.{message_marks}
+use Rattle.beep_script.specs.Script.{message_marks, KeepsScript}
 use Rattle.beep_script.specs.Sending.{answers_of}
 use Rattle.beep_replies.specs.Replies.{KeepsAbove, replies}
 use Rattle.beep_wires.specs.Log.{Entry}
@@ -25,7 +25,7 @@ use Rattle.beep_steps.specs.Sending.{Progress, SendsOn, SendsWaiting, TellsSent}
 use Rattle.beep_steps.specs.declared.hearing.Came.{Came}
 
 -- what was given: the answers of so many lines; or where these are all of them, the whole replies
--- to so many requests, as calls tell them
+-- to so many requests, positions modulo 2^64
 pub data RepliesGiven (plan : PlainPlan) (next : ℕ) (given : List Mark) : Type 0 where
   part_given : given ≡ answers_of (take next plan.lines) → RepliesGiven plan next given
   whole_given : (count : ℕ) → length plan.lines ≤ next
@@ -69,9 +69,13 @@ ComesScripting plan progress Came.Zero session log = ScriptedWaiting plan progre
 abbrev pub ShowsAbove : PlainPlan → List Moment → Type 0
 ShowsAbove plan log = (past : Past) → Shows none_tunes log past → KeepsAbove plan past.journal
 
+-- a log shows an end that kept its script in each life, channel zero among them
+abbrev pub ShowsWhole : PlainPlan → List Moment → Type 0
+ShowsWhole plan log = (past : Past) → Shows none_tunes log past → KeepsScript plan past.journal
+
 -- the same of each session that the log of a link shows
-abbrev pub KeepsAboveOn : PlainPlan → List Entry → Type 0
-KeepsAboveOn plan log = ShowsAbove plan (moments log)
+abbrev pub KeepsWholeOn : PlainPlan → List Entry → Type 0
+KeepsWholeOn plan log = ShowsWhole plan (moments log)
 
 -- what was asked on channel zero, by its history, is the first of a sender's requests: the start of
 -- channel 1, its close, and the release

@@ -8,7 +8,7 @@ use Rattle.beep_history.specs.Marks.{Mark, marks, mark_modulo_2_64}
 use Rattle.beep_history.specs.Messages.{Message}
 use Rattle.beep_journal.specs.Broken.{none_tunes}
 use Rattle.beep_journal.specs.Journal.{Past, Shows}
-use Rattle.beep_journal.specs.Life.{is_there, life, life_now}
+use Rattle.beep_journal.specs.Life.{is_released, is_there, life, life_now}
 use Rattle.beep_journal.specs.Log.{Moment}
 use Rattle.beep_journal.specs.Zero.{events}
 use Rattle.beep_decide.specs.Decide.{is_among}
@@ -18,6 +18,7 @@ use Rattle.beep_session.specs.Session.{Held}
 use Rattle.beep_talk.specs.declared.plan.Command.{Command}
 use Rattle.beep_talk.specs.Plan.{PlainPlan}
 use Rattle.beep_talk.specs.Talk.{has_peer_release, ready}
+use Rattle.beep_script.specs.Desk.{is_closing}
 use Rattle.beep_script.specs.Script.{script_marks, message_marks, BeginsWith}
 use Rattle.beep_replies.specs.Replies.{first_said, replies}
 pub use Rattle.beep_steps.specs.Scripting.{ShowsAbove}
@@ -26,21 +27,15 @@ use Rattle.beep_steps.specs.declared.hearing.Came.{Came}
 
 -- ---- what a listener notes
 
--- the numbers whose start was granted and hasn't begun a life, the numbers of live lives in which
--- what is asked first was given, and whether a close of 0 by the peer has come
+-- the numbers of live lives in which what is asked first was given, and whether a close of 0 by
+-- the peer has come
 pub record Notes : Type 0 where
-  pub starting : List ℕ
   pub spoken : List ℕ
   pub leaving : Bool
 
 -- nothing
 abbrev pub no_notes : Notes
-no_notes = record { starting = []; spoken = []; leaving = false }
-
--- the same notes, where what is asked first was given in the life of this number
-abbrev pub spoke_in : Bool → ℕ → Notes → Notes
-spoke_in true number notes = record notes { spoken = notes.spoken ++ number ∷ [] }
-spoke_in false number notes = notes
+no_notes = record { spoken = []; leaving = false }
 
 -- what is asked first in a life that begins now
 abbrev pub asked_now : Bool → List Message
@@ -67,7 +62,7 @@ noted_by settled notes = record notes { leaving = closes_all settled || notes.le
 
 -- ---- what was given in a life
 
--- the marks of messages, as calls tell them
+-- the marks of messages, positions modulo 2^64
 abbrev pub modulo_marks : List Message → List Mark
 modulo_marks messages = map mark_modulo_2_64 (flat_map message_marks messages)
 
@@ -76,7 +71,7 @@ pub record IsSaid (plan : PlainPlan) (first : List Message) (given : List Mark) 
   pub count : ℕ
   pub given_is : given ≡ modulo_marks (first ++ replies plan 0 count)
 
--- what passed in each life above channel zero is the beginning of its script, as calls tell marks
+-- what passed in each life above channel zero is the beginning of its script, positions modulo 2^64
 abbrev pub KeepsTold : PlainPlan → List Item → Type 0
 KeepsTold plan journal = (number count : ℕ) → (number == 0) ≡ false
     → BeginsWith (map mark_modulo_2_64 (script_marks plan number count journal))
@@ -96,12 +91,16 @@ pub record SpeaksSo (plan : PlainPlan) (notes : Notes) (journal : List Item) (gi
   pub leaving : has_peer_release (events journal) ≡ notes.leaving
   pub keeps : KeepsTold plan journal
 
--- the numbers that are starting have no life, and those in which was spoken have one
+-- in each live life above zero what is asked first was given
+abbrev pub AllSpoken : Notes → List Item → Type 0
+AllSpoken notes journal = (n : ℕ) → (n == 0) ≡ false → is_there n journal ≡ true
+    → is_among n notes.spoken ≡ true
+
+-- the numbers in which was spoken are those of the live lives above zero
 pub record AreNoted (notes : Notes) (journal : List Item) : Type 0 where
-  pub starting : (n : ℕ) → (n == 0) ≡ false → is_among n notes.starting ≡ true
-      → is_there n journal ≡ false
   pub spoken : (n : ℕ) → (n == 0) ≡ false → is_among n notes.spoken ≡ true
       → is_there n journal ≡ true
+  pub all : AllSpoken notes journal
 
 -- ---- a session on its log
 
@@ -121,26 +120,44 @@ pub record SpeaksWaiting (plan : PlainPlan) (notes : Notes) (session : Held)
   pub scripts : SpeaksSo plan notes on.journal on.given
   pub noted : AreNoted notes on.journal
 
--- a life of this number has begun in which nothing was given, and this is asked first there
+-- a life of this number has begun: the session goes on, no close of the life waits, and this is
+-- asked first there
 pub record IsBorn (plan : PlainPlan) (notes : Notes) (n : ℕ) (journal : List Item) : Type 0 where
-  pub unspoken : is_among n notes.spoken ≡ false
+  pub going : is_released journal ≡ false
+  pub unclosed : is_closing n journal ≡ false
   pub first : first_said plan n (life_now n journal) journal ≡ asked_now notes.leaving
 
--- the same after a frame went out: of the numbers that were starting one may have a life
+-- it is live above zero, and isn't noted
+pub record IsUnspoken (notes : Notes) (n : ℕ) (journal : List Item) : Type 0 where
+  pub above : (n == 0) ≡ false
+  pub there : is_there n journal ≡ true
+  pub none : is_among n notes.spoken ≡ false
+
+-- the same after a frame went out: one life may have begun, in which nothing was given
 pub record SpeaksGone (plan : PlainPlan) (notes : Notes) (session : Held) (log : List Moment)
     : Type 0 where
   pub listens : plan.command ≡ Command.Listen
   pub on : StandsOn session log
   pub scripts : SpeaksSo plan notes on.journal on.given
-  pub born : (n : ℕ) → (n == 0) ≡ false → is_among n notes.starting ≡ true
-      → is_there n on.journal ≡ true → IsBorn plan notes n on.journal
+  pub born : (n : ℕ) → IsUnspoken notes n on.journal → IsBorn plan notes n on.journal
+  pub one : (n m : ℕ) → IsUnspoken notes n on.journal → IsUnspoken notes m on.journal → n ≡ m
 
--- a message of channel zero was settled so: the number of a start that is granted has no life
-pub record SettledSpeaking (plan : PlainPlan) (notes : Notes) (settled : Settled)
-    (session : Held) (log : List Moment) : Type 0 where
-  pub then_on : SpeaksOn plan (noted_by settled notes) session log
-  pub free : (number offer : ℕ) → settled ≡ Settled.PeerStarts number offer
-      → (number == 0) ≡ false → is_there number then_on.on.journal ≡ false
+-- the same where all live lives are noted, and in that of this number, which has just begun,
+-- nothing was given
+pub record SpeaksNew (plan : PlainPlan) (notes : Notes) (number : ℕ) (session : Held)
+    (log : List Moment) : Type 0 where
+  pub listens : plan.command ≡ Command.Listen
+  pub on : StandsOn session log
+  pub noted : AreNoted notes on.journal
+  pub above : (number == 0) ≡ false
+  pub there : is_there number on.journal ≡ true
+  pub born : IsBorn plan notes number on.journal
+  pub none : on.given number ≡ []
+  pub others : (n : ℕ) → (n == 0) ≡ false → is_there n on.journal ≡ true
+      → (number == n) ≡ false
+      → IsSaid plan (first_said plan n (life_now n on.journal) on.journal) (on.given n)
+  pub leaving : has_peer_release (events on.journal) ≡ notes.leaving
+  pub keeps : KeepsTold plan on.journal
 
 -- a call leaves a listener one that keeps its script, with these notes, whatever the log shows
 abbrev pub KeepsSpeaking : PlainPlan → Notes → Notes → Held → Held → Type 0
@@ -155,6 +172,6 @@ ComesSpeaking plan notes Came.Zero session log = SpeaksWaiting plan notes sessio
 
 -- ---- what a log shows
 
--- what passed in each life above channel zero is the beginning of its script, as calls tell marks
+-- what passed in each life above channel zero is the beginning of its script, positions modulo 2^64
 abbrev pub ShowsTold : PlainPlan → List Moment → Type 0
 ShowsTold plan log = (past : Past) → Shows none_tunes log past → KeepsTold plan past.journal

@@ -8,11 +8,12 @@ ghost use Rattle.beep_session.specs.Lawfully.{terms_of};
 ghost use Rattle.beep_link.specs.declared.end.TheConstants.{FRAME_ROOM};
 ghost use Rattle.beep_link.specs.declared.ended.Stop.{Stop as StopValue};
 ghost use Rattle.beep_steps.specs.Steps.{ComesSo, EndsSo, IsUntaken, SettledOn, Spoke, TookNone, TookPart};
-ghost use Rattle.beep_steps.specs.Logs.{command_of, ComesOn, StandsOn, StaysOn, StopsOn, WaitsOn};
+ghost use Rattle.beep_steps.specs.Logs.{command_of, AreTaken, ComesOn, StandsOn, StaysOn, StopsOn, WaitsOn};
 ghost use Rattle.beep_steps.specs.Scripting.{ComesScripting, KeepsScripting, ScriptedOn, ScriptedWaiting};
 ghost use Rattle.beep_steps.specs.Sending.{went_by, ComesSending, KeepsSending, Progress, SendsOn, SendsWaiting, StopsSending};
 ghost use Rattle.beep_steps.specs.Serving.{ComesServing, KeepsServing, ServesOn, ServesWaiting};
-ghost use Rattle.beep_steps.specs.Speaking.{ComesSpeaking, KeepsSpeaking, Notes, SpeaksGone, SpeaksOn, SpeaksWaiting, SettledSpeaking};
+ghost use Rattle.beep_steps.specs.Desking.{ComesDesk, DesksOn, DesksWaiting, DesksWithin, SaidDesk};
+ghost use Rattle.beep_steps.specs.Speaking.{noted_by, ComesSpeaking, KeepsSpeaking, Notes, SpeaksGone, SpeaksOn, SpeaksWaiting};
 ghost use Rattle.beep_steps.specs.Refusing.{closing_by, ComesUnrefused, IsOtherStop, IsUnrefused, RefusesOn, SettlesSo, Unrefused};
 ghost use Rattle.beep_talk.specs.declared.plan.Command.{Command};
 ghost use Rattle.beep_talk.specs.Plan.{PlainPlan};
@@ -52,6 +53,11 @@ pub fn say_next(session: &mut Session, out: &mut Octets) -> Emit
         → ServesOn plan session.old (put_all out.old.octets log)
         → SpeaksOn plan notes session.old (put_all out.old.octets log)
         → SpeaksGone plan notes session.new (put_all out.new.octets log) }
+    ensures desk { (plan : PlainPlan) (notes : Notes) (log : List Moment)
+        → ServesOn plan session.old (put_all out.old.octets log)
+        → SpeaksOn plan notes session.old (put_all out.old.octets log)
+        → DesksOn plan session.old (put_all out.old.octets log)
+        → SaidDesk plan result session.new (put_all out.new.octets log) }
     ensures spoke { (log : List Moment) (s : StandsOn session.old (put_all out.old.octets log))
         → Spoke result session.old session.new s.journal (put_all out.new.octets log) }
     ensures unrefused { (command : Command) (closing : Bool) (log : List Moment)
@@ -85,6 +91,9 @@ pub fn hear_next(session: &mut Session, bytes: &[u8]) -> Result<(usize, Came), S
         → SpeaksOn plan notes session.old log → IfOk result (λ heard.
         ComesSpeaking plan notes heard.1 session.new
         (got_all (take heard.0 bytes.now) log)) }
+    ensures desk { (plan : PlainPlan) (log : List Moment) → DesksOn plan session.old log
+        → IfOk result (λ heard.
+        ComesDesk plan heard.1 session.new (got_all (take heard.0 bytes.now) log)) }
     ensures stops { (plan : PlainPlan) (p : Progress) (log : List Moment)
         → plan.terms ≡ terms_of session.old → SendsOn plan p session.old log
         → IfErr result (λ stop.
@@ -129,6 +138,9 @@ pub fn take_part(session: &mut Session, number: u32, buf: &mut [u8]) -> Option<P
     ensures serving { (plan : PlainPlan) → KeepsServing plan session.old session.new }
     ensures speaking { (plan : PlainPlan) (notes : Notes)
         → KeepsSpeaking plan notes notes session.old session.new }
+    ensures desk { (plan : PlainPlan) (notes : Notes) (log : List Moment)
+        → ServesOn plan session.old log → SpeaksOn plan notes session.old log
+        → DesksWithin plan session.old log → DesksWithin plan session.new log }
     ensures sending { (plan : PlainPlan) (p : Progress)
         → KeepsSending plan p p session.old session.new }
     ensures scripted { (plan : PlainPlan) (p : Progress)
@@ -168,7 +180,11 @@ pub fn settle_message(session: &mut Session) -> Result<Settled, Stop>
         → ServesWaiting plan session.old log → OnOk result (ServesOn plan session.new log) }
     ensures speaking { (plan : PlainPlan) (notes : Notes) (log : List Moment)
         → ServesWaiting plan session.old log → SpeaksWaiting plan notes session.old log
-        → IfOk result (λ settled. SettledSpeaking plan notes settled session.new log) }
+        → IfOk result (λ settled. SpeaksOn plan (noted_by settled notes) session.new log) }
+    ensures desk { (plan : PlainPlan) (notes : Notes) (log : List Moment)
+        → ServesWaiting plan session.old log → SpeaksWaiting plan notes session.old log
+        → DesksWaiting plan session.old log → AreTaken session.old
+        → OnOk result (DesksOn plan session.new log) }
     ensures stopped { (log : List Moment) (octets : List ℕ) → WaitsOn session.old log
         → IfErr result (λ stop. StopsOn (terms_of session.old) stop (got_all octets log)) }
     ensures done { (log : List Moment) (w : WaitsOn session.old log) → OnOk result

@@ -8,6 +8,8 @@
 mod fit;
 mod hearing;
 pub mod laws;
+mod refusing;
 
 pub use fit::{are_fit, limits_of, reads_of};
 pub use hearing::{Came, hear_next, is_open, say_next, settle_message, take_part};
+pub use refusing::denial;

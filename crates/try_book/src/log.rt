@@ -9,9 +9,6 @@ use beep_lawful::{Terms, unlawful_item};
 use beep_octets::Octets;
 use std::alloc::Global;
 
-/// The most items of a journal that are kept and judged: the plain programs are slow.
-const MOST_JUDGED: usize = 60;
-
 /// The journal of an end, the latest item first.
 #[derive(Drop)]
 pub struct Log {
@@ -19,15 +16,18 @@ pub struct Log {
     sent: Decoder,
     received: Decoder,
     items: Vec<JournalItem>,
+    most: usize,
 }
 
 impl Log {
-    pub fn new(alloc: Global) -> Result<Log, Stop> {
+    /// A journal of which so many items are kept and judged at most.
+    pub fn new(alloc: Global, most: usize) -> Result<Log, Stop> {
         Ok(Log {
             alloc,
             sent: Decoder::new(alloc, MAX_PAYLOAD)?,
             received: Decoder::new(alloc, MAX_PAYLOAD)?,
             items: Vec::new(alloc),
+            most,
         })
     }
 
@@ -52,10 +52,10 @@ impl Log {
         Ok(())
     }
 
-    /// Runs the plain programs over the next item, while few are kept: one that arrived breaks no
+    /// Runs the plain programs over the next item, while there may be more: one that arrived breaks no
     /// rule, and one that was sent nothing that `is_lawful` asks of it.
     fn judge(&mut self, terms: &Terms, item: JournalItem) -> Result<(), Stop> {
-        if MOST_JUDGED <= self.items.len() {
+        if self.most <= self.items.len() {
             return Ok(());
         }
         let past = self.items.as_slice();

@@ -1,6 +1,6 @@
 //! Schedules that are drawn, run and checked.
 
-use crate::world::World;
+use crate::world::{Judging, World};
 use std::alloc::Global;
 use try_book::{Counts, Fault, Stop};
 
@@ -14,11 +14,16 @@ pub(crate) struct Place {
 }
 
 /// Runs and checks so many schedules of a seed.
-pub(crate) fn check_all(alloc: Global, seed: u64, count: u64) -> Result<Counts, Place> {
+pub(crate) fn check_all(
+    alloc: Global,
+    seed: u64,
+    count: u64,
+    judging: Judging,
+) -> Result<Counts, Place> {
     let mut counts = Counts::new();
     for schedule in 0..count {
         let mut step = 0;
-        match check(alloc, seed, schedule, &mut step) {
+        match check(alloc, seed, schedule, judging, &mut step) {
             Ok(more) => counts.add(&more),
             Err(stop) => return Err(Place {
                 schedule,
@@ -30,9 +35,15 @@ pub(crate) fn check_all(alloc: Global, seed: u64, count: u64) -> Result<Counts, 
     Ok(counts)
 }
 
-/// Runs and checks one schedule, and tells its steps.
-fn check(alloc: Global, seed: u64, schedule: u64, step: &mut u64) -> Result<Counts, Stop> {
-    let mut world = World::new(alloc, seed, schedule)?;
+/// Runs and checks one schedule, and counts its steps.
+fn check(
+    alloc: Global,
+    seed: u64,
+    schedule: u64,
+    judging: Judging,
+    step: &mut u64,
+) -> Result<Counts, Stop> {
+    let mut world = World::new(alloc, seed, schedule, judging)?;
     match play(&mut world, step) {
         Ok(()) => Ok(world.book.counts),
         Err(stop) => Err(stop),

@@ -46,12 +46,21 @@ pub(crate) struct End {
 }
 
 impl End {
-    pub(crate) fn new(alloc: Global, who: Who, limits: Limits, logs: bool) -> Result<End, Stop> {
+    /// An end of which so many items of its journal are judged, where it keeps one.
+    pub(crate) fn new(
+        alloc: Global,
+        who: Who,
+        limits: Limits,
+        judged: Option<usize>,
+    ) -> Result<End, Stop> {
         let role = match who {
             Who::A => Role::Initiator,
             Who::B => Role::Listener,
         };
-        let log = if logs { Some(Log::new(alloc)?) } else { None };
+        let log = match judged {
+            Some(most) => Some(Log::new(alloc, most)?),
+            None => None,
+        };
         let session = a_peer(alloc, role, limits)?;
         Ok(End {
             alloc,

@@ -8,7 +8,7 @@ mod end;
 mod world;
 
 use crate::checking::{Place, check_all, finish};
-use crate::world::World;
+use crate::world::{Judging, World};
 use std::alloc::Global;
 use std::env::{self, Env};
 use std::io;
@@ -40,13 +40,20 @@ fn words_of<R: Env + Alloc<A = Global>>(rt: &R) -> io::Result<Vec<String>> {
     Ok(words)
 }
 
-/// What the words ask for: so many schedules of a seed are checked, or the acts of one are printed.
+/// What the words ask for: so many schedules of a seed are checked, or the acts of one are printed;
+/// after `each` all items of all journals are judged.
 fn run(rt: &HostRuntime, words: &[String]) -> Result<(), Stop> {
     match words {
         [] => check_short(rt),
-        [seed, count] => check(rt, number_of(seed)?, number_of(count)?),
+        [seed, count] => check(rt, number_of(seed)?, number_of(count)?, Judging::Some),
+        [word, seed, count] if word.as_str() == "each" => {
+            check(rt, number_of(seed)?, number_of(count)?, Judging::Each)
+        }
         [word, seed, schedule] if word.as_str() == "show" => {
-            show(rt, number_of(seed)?, number_of(schedule)?)
+            show(rt, number_of(seed)?, number_of(schedule)?, Judging::Some)
+        }
+        [word, each, seed, schedule] if word.as_str() == "show" && each.as_str() == "each" => {
+            show(rt, number_of(seed)?, number_of(schedule)?, Judging::Each)
         }
         _ => Err(Stop::Words),
     }
@@ -60,8 +67,8 @@ fn number_of(word: &String) -> Result<u64, Stop> {
 }
 
 /// Checks schedules, and prints what was done, or where it stopped.
-fn check(rt: &HostRuntime, seed: u64, count: u64) -> Result<(), Stop> {
-    match check_all(rt.alloc(), seed, count) {
+fn check(rt: &HostRuntime, seed: u64, count: u64, judging: Judging) -> Result<(), Stop> {
+    match check_all(rt.alloc(), seed, count, judging) {
         Ok(counts) => print(rt, seed, &counts),
         Err(at) => report(rt, seed, at),
     }
@@ -69,7 +76,7 @@ fn check(rt: &HostRuntime, seed: u64, count: u64) -> Result<(), Stop> {
 
 /// Checks a few schedules, in which each thing that is counted happens.
 fn check_short(rt: &HostRuntime) -> Result<(), Stop> {
-    let counts = match check_all(rt.alloc(), SEED, COUNT) {
+    let counts = match check_all(rt.alloc(), SEED, COUNT, Judging::Some) {
         Ok(counts) => counts,
         Err(at) => return report(rt, SEED, at),
     };
@@ -108,8 +115,8 @@ fn print(rt: &HostRuntime, seed: u64, counts: &Counts) -> Result<(), Stop> {
 }
 
 /// Prints the acts of one schedule, and where it stopped.
-fn show(rt: &HostRuntime, seed: u64, schedule: u64) -> Result<(), Stop> {
-    let mut world = World::new(rt.alloc(), seed, schedule)?;
+fn show(rt: &HostRuntime, seed: u64, schedule: u64, judging: Judging) -> Result<(), Stop> {
+    let mut world = World::new(rt.alloc(), seed, schedule, judging)?;
     show_acts(rt, seed, &mut world)
 }
 

@@ -11,6 +11,18 @@ use try_book::{Book, Fault, Stop, Who};
 /// Each schedule of so many is short, and its journals are kept and judged.
 const EACH: u64 = 8;
 
+/// The most items of a journal that are judged then: the plain programs are slow.
+const MOST_JUDGED: usize = 60;
+
+/// Which journals are kept and judged by the plain programs.
+#[derive(Clone, Copy, Debug)]
+pub(crate) enum Judging {
+    /// Of each eighth schedule the first items.
+    Some,
+    /// Of each schedule all items, each as it comes. All schedules are short.
+    Each,
+}
+
 /// The most rounds of one drain.
 const ROUNDS: u32 = 100000;
 
@@ -26,12 +38,21 @@ pub(crate) struct World {
 
 impl World {
     /// The beginning of a schedule of a seed.
-    pub(crate) fn new(alloc: Global, seed: u64, schedule: u64) -> Result<World, Stop> {
-        let logs = schedule % EACH == 0;
+    pub(crate) fn new(
+        alloc: Global,
+        seed: u64,
+        schedule: u64,
+        judging: Judging,
+    ) -> Result<World, Stop> {
+        let (logs, most) = match judging {
+            Judging::Some => (schedule % EACH == 0, MOST_JUDGED),
+            Judging::Each => (true, usize::MAX),
+        };
         let mut dice = Dice::new(seed, schedule);
         let mood = drawn_mood(&mut dice, logs);
-        let a = End::new(alloc, Who::A, mood.a, logs)?;
-        let b = End::new(alloc, Who::B, mood.b, logs)?;
+        let most = if logs { Some(most) } else { None };
+        let a = End::new(alloc, Who::A, mood.a, most)?;
+        let b = End::new(alloc, Who::B, mood.b, most)?;
         let mut book = Book::new(alloc);
         book.counts.schedules = 1;
         book.counts.acts = mood.acts as u64;

@@ -1,6 +1,6 @@
 use Rattle.std.proofs.Common.{◌≡◌, ◌+◌, false, inl, inr, sym, ap, ◌∙◌, subst, arith}
 use Rattle.beep_link.specs.declared.ended.Ended.{Ended}
-use Rattle.beep_link.specs.Causes.{Seen, WhereTold}
+use Rattle.beep_link.specs.Causes.{Seen, WhereKnown}
 use Rattle.beep_journal.specs.declared.role.Role.{Role}
 use Rattle.beep_steps.specs.Logs.{IsLawfulOn, terms_by}
 use Rattle.beep_cmd.specs.Ends.{ends_run, IsAcceptOf, SessionCause, seen_of}
@@ -70,7 +70,7 @@ loop-preserved g c =
       given = omega (arith, s.one, i.given);
       cause = subst (λ (e : Ended). SessionCause e Role.Listener settings before after) (sym c.first_of-first.ensures)
           (joined_cause before mid after i.goes_on s.goes_on Role.Listener settings c.loop.first c.in-Ok.ended i.cause s.cause_is);
-      lawful = each_joined before mid after i.goes_on s.goes_on (λ link. WhereTold (IsLawfulOn (terms_by Role.Listener settings)) link.log) i.lawful c.in-Ok.ensures.lawful;
+      lawful = each_joined before mid after i.goes_on s.goes_on (λ link. WhereKnown (IsLawfulOn (terms_by Role.Listener settings)) link.log) i.lawful c.in-Ok.ensures.lawful;
       goes = ap ends_run c.first_of-first.ensures ∙ first_goes c.loop.first c.in-Ok.ended i.goes goes;
       lines = λ told. lines_further settings before mid after c.loop.first c.in-Ok.ended (g.O.Sink.state c.args.output.now).written (g.O.Sink.state c.loop.output).written (g.O.Sink.state c.listen_once.new.output).written i.goes s.goes_on
           (i.lines (told_before before mid after s.goes_on told)) s.one (c.in-Ok.ensures.lines (told_after before mid after i.goes_on.given told)) c.first_of-first.result c.first_of-first.ensures goes;

@@ -1,4 +1,4 @@
-use Rattle.std.proofs.Common.{◌≡◌, List, ℕ, [], refl, rules}
+use Rattle.std.proofs.Common.{◌≡◌, [], refl, rules}
 use Rattle.beep_journal.specs.declared.role.Role.{Role}
 use Rattle.beep_link.specs.Causes.{Seen}
 use Rattle.beep_link.specs.declared.ended.Ended.{Ended}

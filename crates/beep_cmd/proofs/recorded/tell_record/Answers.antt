@@ -1,4 +1,4 @@
-use Rattle.std.proofs.Common.{◌≡◌, ◌≢◌, ◌≤◌, ℕ, sym, subst, rules}
+use Rattle.std.proofs.Common.{◌≢◌, ◌≤◌, ℕ, sym, subst, rules}
 use Rattle.beep_link.specs.declared.ended.Ended.{Ended}
 use Rattle.beep_record.specs.declared.limits.TheConstants.{MAX_STATUS}
 use Rattle.beep_cmd.specs.Recording.{TellsWhole}

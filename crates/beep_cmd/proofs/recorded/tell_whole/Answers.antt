@@ -1,4 +1,4 @@
-use Rattle.std.proofs.Common.{◌≡◌, List, ℕ, [], ◌∷◌, ◌++◌, codes, rules}
+use Rattle.std.proofs.Common.{◌≡◌, [], ◌∷◌, ◌++◌, codes, rules}
 use Rattle.std.specs.Fmt.{decimal}
 use Rattle.beep_cmd.proofs.RecordedLemmas.{record_tells}
 use Rattle.beep_cmd.proofs.recorded.tell_whole.Goals as goal

@@ -13,7 +13,7 @@ use Rattle.beep_steps.specs.Ends.{AreFit}
 use Rattle.beep_steps.proofs.FitLemmas.{fit}
 use Rattle.beep_cmd.specs.Ends.{AcceptsAtMost, DialsOnce, IsAcceptOf, IsDialOf, Listened, listen_starved, seen_of, Sent, session, WritesLawfully}
 use Rattle.beep_cmd.specs.Pair.{Paired}
-use Rattle.beep_link.specs.Causes.{Seen, WhereTold}
+use Rattle.beep_link.specs.Causes.{Seen, WhereKnown}
 use Rattle.beep_journal.specs.declared.role.Role.{Role}
 use Rattle.beep_steps.specs.Logs.{IsLawfulOn, terms_by}
 use Rattle.beep_cmd.specs.Listening.{WritesLines}
@@ -328,8 +328,8 @@ returns-in-Err g c =
       paired = λ settings w. absurd (of.not_pair settings w);
       pair_complete = λ settings w is_runnable no_fault. absurd (of.not_pair settings w);
       usage = λ one. absurd (omega (arith, one));
-      send_lawful = λ settings w. each_none (λ link. WhereTold (IsLawfulOn (terms_by Role.Initiator settings)) link.log) seen seen refl;
-      listen_lawful = λ settings w. each_none (λ link. WhereTold (IsLawfulOn (terms_by Role.Listener settings)) link.log) seen seen refl;
+      send_lawful = λ settings w. each_none (λ link. WhereKnown (IsLawfulOn (terms_by Role.Initiator settings)) link.log) seen seen refl;
+      listen_lawful = λ settings w. each_none (λ link. WhereKnown (IsLawfulOn (terms_by Role.Listener settings)) link.log) seen seen refl;
       dials = λ settings w. asks_none (IsDialOf settings) 1 (g.W.Wires.asked c.args.wires.now);
       accepts = λ settings w. asks_none (IsAcceptOf settings) settings.sessions (g.W.Wires.asked c.args.wires.now);
       unread = λ none. absurd (of.some none);

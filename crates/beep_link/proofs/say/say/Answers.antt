@@ -1,5 +1,5 @@
 -- Each write changes nothing of the reads that the log shows, and what is written is what was gathered.
-use Rattle.std.proofs.Common.{◌∙◌, sym, subst}
+use Rattle.std.proofs.Common.{◌∙◌, [], sym, subst}
 use Rattle.beep_link.specs.declared.ended.Ended.{Ended}
 use Rattle.beep_link.proofs.KeepLemmas.{SameReads-wrote, SameReads-trans, Keeps-wrote}
 use Rattle.beep_link.specs.Causes.{WithText}
@@ -10,9 +10,8 @@ pub returns-in_default-clause-stopped : goal.returns-in_default-clause-stopped
 returns-in_default-clause-stopped g c before now s =
     let E = g.E.End in
     told-map _ _ (λ log h. text-map before now _ (E.tells (E.terms c.args.end.now) Ended.NoMemory log)
-    (λ text k. subst (λ t. E.tells t Ended.NoMemory log text) (c.gather_some.ensures.terms ∙ c.loop.invariant.terms)
-    (g.met.E.End.stops c.gather_some.new.end log c.gather_some.new.going.octets text Ended.NoMemory tt
-    (c.gather_some.ensures.said log text (subst (λ octets. E.stands c.loop.end log octets text) (sym c.loop.invariant.empty) k)))) h) _ (c.loop.invariant.stands before now s)
+    (λ text k. subst (λ t. E.tells t Ended.NoMemory log text) c.loop.invariant.terms
+    (g.met.E.End.stops c.loop.end log [] text Ended.NoMemory tt k)) h) _ (c.loop.invariant.stands before now s)
 
 pub returns-in_default-clause-terms : goal.returns-in_default-clause-terms
 returns-in_default-clause-terms g c = c.gather_some.ensures.terms ∙ c.loop.invariant.terms
@@ -38,7 +37,7 @@ returns-in-Err-clause-stopped g c before now s =
     let w = c.in-Err.ensures in
     front-tells (λ log octets. WithText before now (E.stands c.loop.end log octets)) (λ log octets. WithText before now (E.stands c.gather_some.new.end log octets)) c.as_slice.result.now
     (λ log h. text-map before now _ (E.stands c.gather_some.new.end log c.as_slice.result.now) (λ text k. subst (λ octets. E.stands c.gather_some.new.end log octets text) (sym c.as_slice.ensures)
-    (c.gather_some.ensures.said log text (subst (λ octets. E.stands c.loop.end log octets text) (sym c.loop.invariant.empty) k))) h)
+    (c.in-Ok.ensures.said log text (subst (λ octets. E.stands c.loop.end log octets text) (sym c.loop.invariant.empty) k))) h)
     (λ log front rest h. text-map before now _ _ (λ text k. g.met.E.End.writes c.gather_some.new.end log front rest text k) h)
     (λ log. WithText before now (E.tells (E.terms c.args.end.now) Ended.WireFault log))
     (λ log rest h. text-map before now _ (E.tells (E.terms c.args.end.now) Ended.WireFault log) (λ text k. subst (λ t. E.tells t Ended.WireFault log text) (c.gather_some.ensures.terms ∙ c.loop.invariant.terms)
@@ -51,7 +50,7 @@ returns-then-not-is_more-clause-said g c before now s =
     let w = c.in-Ok-written.ensures in
     wrote-stands (λ log octets. WithText before now (E.stands c.loop.end log octets)) (λ log octets. WithText before now (E.stands c.gather_some.new.end log octets)) c.as_slice.result.now
     (λ log h. text-map before now _ (E.stands c.gather_some.new.end log c.as_slice.result.now) (λ text k. subst (λ octets. E.stands c.gather_some.new.end log octets text) (sym c.as_slice.ensures)
-    (c.gather_some.ensures.said log text (subst (λ octets. E.stands c.loop.end log octets text) (sym c.loop.invariant.empty) k))) h)
+    (c.in-Ok.ensures.said log text (subst (λ octets. E.stands c.loop.end log octets text) (sym c.loop.invariant.empty) k))) h)
     (λ log front rest h. text-map before now _ _ (λ text k. g.met.E.End.writes c.gather_some.new.end log front rest text k) h)
     _ _ w.wrote.more w.wrote.logs w.wrote.writes (c.loop.invariant.stands before now s)
 
@@ -95,7 +94,7 @@ loop-preserved g c =
       terms = c.gather_some.ensures.terms ∙ c.loop.invariant.terms;
       stands = λ before now s. wrote-stands (λ log octets. WithText before now (E.stands c.loop.end log octets)) (λ log octets. WithText before now (E.stands c.gather_some.new.end log octets)) c.as_slice.result.now
           (λ log h. text-map before now _ (E.stands c.gather_some.new.end log c.as_slice.result.now) (λ text k. subst (λ octets. E.stands c.gather_some.new.end log octets text) (sym c.as_slice.ensures)
-          (c.gather_some.ensures.said log text (subst (λ octets. E.stands c.loop.end log octets text) (sym c.loop.invariant.empty) k))) h)
+          (c.in-Ok.ensures.said log text (subst (λ octets. E.stands c.loop.end log octets text) (sym c.loop.invariant.empty) k))) h)
           (λ log front rest h. text-map before now _ _ (λ text k. g.met.E.End.writes c.gather_some.new.end log front rest text k) h)
           _ _ w.wrote.more w.wrote.logs w.wrote.writes (c.loop.invariant.stands before now s);
       keeps = Keeps-wrote c.args.link _ _ _ c.loop.invariant.keeps w.still_open w.kept w.others w.same_counts w.same_asked w.same_lent;

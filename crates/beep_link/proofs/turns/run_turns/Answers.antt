@@ -1,6 +1,6 @@
 -- The log tells what ended the session.
 use Rattle.std.proofs.Common.{rules, ℕ, List, ◌∙◌, [], arith, subst, sym}
-use Rattle.beep_link.specs.Causes.{ReadsWhere, WhereTold, WithText}
+use Rattle.beep_link.specs.Causes.{ReadsWhere, WhereKnown, WithText}
 use Rattle.beep_link.specs.declared.ended.Ended.{Ended}
 use Rattle.beep_link.proofs.KeepLemmas.{Keeps-trans}
 use Rattle.beep_link.proofs.StandLemmas.{text-none, told-empty}
@@ -9,16 +9,16 @@ use Rattle.beep_link.proofs.turns.run_turns.Goals as goal
 pub returns-in-Err-clause-told : goal.returns-in-Err-clause-told
 returns-in-Err-clause-told g c begun =
     let E = g.E.End in
-    subst (λ t. WhereTold (λ log. WithText (g.O.Sink.state c.args.output.now).written (g.O.Sink.state c.turn.new.output).written (E.tells t c.in-Err.ended log))
+    subst (λ t. WhereKnown (λ log. WithText (g.O.Sink.state c.args.output.now).written (g.O.Sink.state c.turn.new.output).written (E.tells t c.in-Err.ended log))
     (g.W.Wires.state c.turn.new.wires c.args.link).log) c.loop-ended.invariant.terms
     (c.in-Err.ensures.stopped (g.O.Sink.state c.args.output.now).written (c.loop-ended.invariant.stands begun))
 
 pub returns-in-Err-clause-waits : goal.returns-in-Err-clause-waits
 returns-in-Err-clause-waits g c begun =
     let E = g.E.End in
-    subst (λ t. WhereTold (ReadsWhere (λ log. (text : List ℕ) × E.tells t (Ended.Idle 0) log text)) (g.W.Wires.state c.turn.new.wires c.args.link).log) c.loop-ended.invariant.terms
+    subst (λ t. WhereKnown (ReadsWhere (λ log. (text : List ℕ) × E.tells t (Ended.Idle 0) log text)) (g.W.Wires.state c.turn.new.wires c.args.link).log) c.loop-ended.invariant.terms
     (c.turn.ensures.waits (g.O.Sink.state c.args.output.now).written (c.loop-ended.invariant.stands begun)
-    (subst (λ t. WhereTold (ReadsWhere (λ log. (text : List ℕ) × E.tells t (Ended.Idle 0) log text)) (g.W.Wires.state c.loop-ended.wires c.args.link).log) (sym c.loop-ended.invariant.terms) (c.loop-ended.invariant.waits begun)))
+    (subst (λ t. WhereKnown (ReadsWhere (λ log. (text : List ℕ) × E.tells t (Ended.Idle 0) log text)) (g.W.Wires.state c.loop-ended.wires c.args.link).log) (sym c.loop-ended.invariant.terms) (c.loop-ended.invariant.waits begun)))
 
 pub returns-in_default-clause-waits : goal.returns-in_default-clause-waits
 returns-in_default-clause-waits g c begun =
@@ -29,7 +29,7 @@ pub returns-in_default-clause-told : goal.returns-in_default-clause-told
 returns-in_default-clause-told g c begun =
     let E = g.E.End in
     let now = (g.O.Sink.state c.args.output.now).written in
-    let h : WhereTold (λ log. WithText now now (E.tells (E.terms c.args.end.now) Ended.NoMemory log)) (g.W.Wires.state c.args.wires.now c.args.link).log =
+    let h : WhereKnown (λ log. WithText now now (E.tells (E.terms c.args.end.now) Ended.NoMemory log)) (g.W.Wires.state c.args.wires.now c.args.link).log =
     told-empty (λ log. WithText now now (E.tells (E.terms c.args.end.now) Ended.NoMemory log)) (g.W.Wires.state c.args.wires.now c.args.link).log
     (text-none now (E.tells (E.terms c.args.end.now) Ended.NoMemory []) (g.met.E.End.stops c.args.end.now [] [] [] Ended.NoMemory tt begun)) c.requires.unused.unread in
     search (rules, h)
@@ -41,9 +41,9 @@ loop-ended-preserved g c = record {
   stands = λ begun. c.in-Ok-turn.ensures.stands (g.O.Sink.state c.args.output.now).written (c.loop-ended.invariant.stands begun);
   waits = λ begun.
       let E = g.E.End in
-      subst (λ t. WhereTold (ReadsWhere (λ log. (text : List ℕ) × E.tells t (Ended.Idle 0) log text)) (g.W.Wires.state c.turn.new.wires c.args.link).log) c.loop-ended.invariant.terms
+      subst (λ t. WhereKnown (ReadsWhere (λ log. (text : List ℕ) × E.tells t (Ended.Idle 0) log text)) (g.W.Wires.state c.turn.new.wires c.args.link).log) c.loop-ended.invariant.terms
       (c.turn.ensures.waits (g.O.Sink.state c.args.output.now).written (c.loop-ended.invariant.stands begun)
-      (subst (λ t. WhereTold (ReadsWhere (λ log. (text : List ℕ) × E.tells t (Ended.Idle 0) log text)) (g.W.Wires.state c.loop-ended.wires c.args.link).log) (sym c.loop-ended.invariant.terms) (c.loop-ended.invariant.waits begun)));
+      (subst (λ t. WhereKnown (ReadsWhere (λ log. (text : List ℕ) × E.tells t (Ended.Idle 0) log text)) (g.W.Wires.state c.loop-ended.wires c.args.link).log) (sym c.loop-ended.invariant.terms) (c.loop-ended.invariant.waits begun)));
   going = c.in-Ok-turn.ensures.going;
   buffer = c.turn.ensures.buffer;
   told = c.in-Ok-turn.ensures.told;

@@ -2,7 +2,7 @@
 use Rattle.std.proofs.Common.{rules, ◌≡◌, ◌∷◌, [], ◌++◌, ℕ, List, take, subst, sym, ◌∙◌}
 use Rattle.beep_wires.specs.Log.{Logs, read, quiet, ended}
 use Rattle.beep_wires.specs.Links.{Counts}
-use Rattle.beep_link.specs.Causes.{CountsQuiet, IsOfReads, ReadsWhere, WhereTold, WithText, ended_by}
+use Rattle.beep_link.specs.Causes.{CountsQuiet, IsOfReads, ReadsWhere, WhereKnown, WithText, ended_by}
 use Rattle.beep_link.specs.declared.ended.Ended.{Ended}
 use Rattle.beep_link.proofs.StandLemmas.{entered, kept, reads-grown, spent-is, take-front, text-map, text-more, told-map, told-pair}
 use Rattle.beep_link.proofs.turns.turn.Goals as goal
@@ -15,7 +15,7 @@ returns-in-Some-clause-stopped g c before s =
     let E = g.E.End in
     let now = (g.O.Sink.state c.args.output.now).written in
     let old = E.terms c.args.end.now in
-    subst (λ e. WhereTold (λ log. WithText before now (E.tells old e log)) (g.W.Wires.state c.say.new.wires c.args.link).log) (sym c.of.ensures)
+    subst (λ e. WhereKnown (λ log. WithText before now (E.tells old e log)) (g.W.Wires.state c.say.new.wires c.args.link).log) (sym c.of.ensures)
     (told-map (λ log. WithText before now (E.stands c.say.new.end log [])) (λ log. WithText before now (E.tells old (ended_by c.in-Some.stop) log))
     (λ log h. text-map before now (E.stands c.say.new.end log []) (E.tells old (ended_by c.in-Some.stop) log)
     (λ text k. subst (λ t. E.tells t (ended_by c.in-Some.stop) log text) c.say.ensures.terms (search (rules, k))) h)
@@ -34,7 +34,7 @@ returns-in-Some-is_spent-clause-stopped g c before s =
     let E = g.E.End in
     let now = (g.O.Sink.state c.args.output.now).written in
     let t : IsOfReads c.in-Some-is_spent.ended = spent-is c.in-Some-is_spent.ended c.args.reads c.args.left.now c.in-Some-is_spent.ensures.some in
-    let h : WhereTold (λ log. WithText before now (E.tells (E.terms c.args.end.now) c.in-Some-is_spent.ended log)) (g.W.Wires.state c.say.new.wires c.args.link).log =
+    let h : WhereKnown (λ log. WithText before now (E.tells (E.terms c.args.end.now) c.in-Some-is_spent.ended log)) (g.W.Wires.state c.say.new.wires c.args.link).log =
     told-map (λ log. WithText before now (E.stands c.say.new.end log [])) (λ log. WithText before now (E.tells (E.terms c.args.end.now) c.in-Some-is_spent.ended log))
     (λ log h. text-map before now (E.stands c.say.new.end log []) (E.tells (E.terms c.args.end.now) c.in-Some-is_spent.ended log)
     (λ text k. subst (λ e. E.tells e c.in-Some-is_spent.ended log text) c.say.ensures.terms (g.met.E.End.spends c.say.new.end log text c.in-Some-is_spent.ended t (search rules) k)) h)
@@ -60,7 +60,7 @@ returns-in-Err-hear-clause-stopped g c before s =
     let logged : Logs (g.W.Wires.state c.say.new.wires c.args.link).log (g.W.Wires.state c.read_once.new.wires c.args.link).log (read (take c.in-Ok-Bytes.count c.read_once.new.coming) ∷ []) = search rules in
     let same : c.deref.result.now ≡ c.read_once.new.coming = c.deref.ensures.value ∙ take-front c.read_once.new.coming _ _ (c.read_once.ensures.buffer ∙ sym c.requires.buffer) in
     let old = E.terms c.args.end.now in
-    subst (λ e. WhereTold (λ log. WithText before (g.O.Sink.state c.hear.new.output).written (E.tells old e log)) (g.W.Wires.state c.read_once.new.wires c.args.link).log) (sym c.of-in-Err-hear.ensures)
+    subst (λ e. WhereKnown (λ log. WithText before (g.O.Sink.state c.hear.new.output).written (E.tells old e log)) (g.W.Wires.state c.read_once.new.wires c.args.link).log) (sym c.of-in-Err-hear.ensures)
     (entered (λ log. WithText before now (E.stands c.say.new.end log [])) (λ log. WithText before (g.O.Sink.state c.hear.new.output).written (E.tells old (ended_by c.in-Err-hear.stop) log)) (read (take c.in-Ok-Bytes.count c.deref.result.now))
     (λ log h. text-more before now (g.O.Sink.state c.hear.new.output).written (E.stands c.say.new.end log []) (E.tells old (ended_by c.in-Err-hear.stop) (read (take c.in-Ok-Bytes.count c.deref.result.now) ∷ log))
     (λ text k. text-map now (g.O.Sink.state c.hear.new.output).written (λ more. E.tells (E.terms c.say.new.end) (ended_by c.in-Err-hear.stop) (read (take c.in-Ok-Bytes.count c.deref.result.now) ∷ log) (text ++ more)) (λ more. E.tells old (ended_by c.in-Err-hear.stop) (read (take c.in-Ok-Bytes.count c.deref.result.now) ∷ log) (text ++ more))
@@ -72,7 +72,7 @@ pub returns-in-Ok-Quiet-clause-stands : goal.returns-in-Ok-Quiet-clause-stands
 returns-in-Ok-Quiet-clause-stands g c before s =
     let E = g.E.End in
     let now = (g.O.Sink.state c.args.output.now).written in
-    let h : WhereTold (λ log. WithText before now (E.stands c.say.new.end log [])) (g.W.Wires.state c.read_once.new.wires c.args.link).log =
+    let h : WhereKnown (λ log. WithText before now (E.stands c.say.new.end log [])) (g.W.Wires.state c.read_once.new.wires c.args.link).log =
     entered (λ log. WithText before now (E.stands c.say.new.end log [])) (λ log. WithText before now (E.stands c.say.new.end log [])) quiet
     (λ log h. text-map before now (E.stands c.say.new.end log []) (E.stands c.say.new.end (quiet ∷ log) []) (λ text k. g.met.E.End.quiets c.say.new.end log text k) h)
     (g.W.Wires.state c.say.new.wires c.args.link).log (g.W.Wires.state c.read_once.new.wires c.args.link).log
@@ -84,7 +84,7 @@ returns-in-Ok-End-clause-stopped g c before s =
     let E = g.E.End in
     let now = (g.O.Sink.state c.args.output.now).written in
     let old = E.terms c.args.end.now in
-    let h : WhereTold (λ log. WithText before now (E.tells old (Ended.Cut c.left.result) log)) (g.W.Wires.state c.read_once.new.wires c.args.link).log =
+    let h : WhereKnown (λ log. WithText before now (E.tells old (Ended.Cut c.left.result) log)) (g.W.Wires.state c.read_once.new.wires c.args.link).log =
     entered (λ log. WithText before now (E.stands c.say.new.end log [])) (λ log. WithText before now (E.tells old (Ended.Cut c.left.result) log)) ended
     (λ log h. text-map before now (E.stands c.say.new.end log []) (E.tells old (Ended.Cut c.left.result) (ended ∷ log))
     (λ text k. subst (λ e. E.tells e (Ended.Cut c.left.result) (ended ∷ log) text) c.say.ensures.terms (c.left.ensures.cut (ended ∷ log) text (search rules) (g.met.E.End.closes c.say.new.end log text k))) h)
@@ -97,7 +97,7 @@ returns-in-Err-clause-stopped g c before s =
     let E = g.E.End in
     let now = (g.O.Sink.state c.args.output.now).written in
     let old = E.terms c.args.end.now in
-    let h : WhereTold (λ log. WithText before now (E.tells old Ended.WireFault log)) (g.W.Wires.state c.read_once.new.wires c.args.link).log =
+    let h : WhereKnown (λ log. WithText before now (E.tells old Ended.WireFault log)) (g.W.Wires.state c.read_once.new.wires c.args.link).log =
     kept (λ log. WithText before now (E.tells old Ended.WireFault log)) (g.W.Wires.state c.say.new.wires c.args.link).log (g.W.Wires.state c.read_once.new.wires c.args.link).log (search rules)
     (told-map (λ log. WithText before now (E.stands c.say.new.end log [])) (λ log. WithText before now (E.tells old Ended.WireFault log))
     (λ log h. text-map before now (E.stands c.say.new.end log []) (E.tells old Ended.WireFault log)

@@ -13,6 +13,7 @@ use Rattle.beep_steps.proofs.HeardScripts.{FedScripting, hears-scripting}
 use Rattle.beep_steps.proofs.GoLemmas.{CameBy, came-by}
 use Rattle.beep_steps.proofs.OnLemmas.{Heard, hears-on}
 use Rattle.beep_steps.proofs.SpeakCalls.{HeardScripted, hears-speaking}
+use Rattle.beep_steps.proofs.DeskAnswers.{FrameCame, HeardDesk, hears-desk}
 use Rattle.beep_steps.specs.declared.hearing.Came.{Came}
 use Rattle.beep_steps.proofs.RefusesLemmas.{comes-unrefused, feed-unrefused}
 use Rattle.beep_steps.proofs.hearing.hear_next.Goals as goal
@@ -241,3 +242,33 @@ returns-in-Released-clause-refuses c closing log s u =
     let old = c.args.session.now in
     let f = c.feed-count in
     feed-unrefused c.args.bytes.now old log s closing u f.result.1 old.peer.released refl c.in-Released.is f.result.0 f.new.self f.ensures.answers
+
+pub returns-in-More-clause-desk : goal.returns-in-More-clause-desk
+returns-in-More-clause-desk c plan log d =
+    let old = c.args.session.now in
+    let f = c.feed-count in
+    let octets = take f.result.0 c.args.bytes.now in
+    let came = subst (λ (e : Event). FrameCame e old f.new.self d.on.journal (got_all octets log)) (sym c.in-More.is) (returns-in-More-clause-came c log d.on) in
+    subst (λ (e : Event). HeardDesk plan e f.new.self (got_all octets log)) c.in-More.is
+    (hears-desk plan octets old f.new.self log f.ensures.same d f.ensures.kept.1 f.ensures.stuck f.result.1 old.peer.released refl f.ensures.kept.0 f.ensures.lawful
+    (λ over. (f.ensures.released over).1) came)
+
+pub returns-in-Arrived-clause-desk : goal.returns-in-Arrived-clause-desk
+returns-in-Arrived-clause-desk c plan log d =
+    let old = c.args.session.now in
+    let f = c.feed-count in
+    let octets = take f.result.0 c.args.bytes.now in
+    let came = subst (λ (e : Event). FrameCame e old f.new.self d.on.journal (got_all octets log)) (sym c.in-Arrived.is) (returns-in-Arrived-clause-came c log d.on) in
+    subst (λ (e : Event). HeardDesk plan e f.new.self (got_all octets log)) c.in-Arrived.is
+    (hears-desk plan octets old f.new.self log f.ensures.same d f.ensures.kept.1 f.ensures.stuck f.result.1 old.peer.released refl f.ensures.kept.0 f.ensures.lawful
+    (λ over. (f.ensures.released over).1) came)
+
+pub returns-in-Zero-clause-desk : goal.returns-in-Zero-clause-desk
+returns-in-Zero-clause-desk c plan log d =
+    let old = c.args.session.now in
+    let f = c.feed-count in
+    let octets = take f.result.0 c.args.bytes.now in
+    let came = subst (λ (e : Event). FrameCame e old f.new.self d.on.journal (got_all octets log)) (sym c.in-Zero.is) tt in
+    subst (λ (e : Event). HeardDesk plan e f.new.self (got_all octets log)) c.in-Zero.is
+    (hears-desk plan octets old f.new.self log f.ensures.same d f.ensures.kept.1 f.ensures.stuck f.result.1 old.peer.released refl f.ensures.kept.0 f.ensures.lawful
+    (λ over. (f.ensures.released over).1) came)

@@ -16,6 +16,9 @@ use Rattle.beep_steps.proofs.GoLemmas.{rests-so, spoke-so}
 use Rattle.beep_served.proofs.ProfileLemmas.{have-profile}
 use Rattle.beep_steps.proofs.ServeLemmas.{shows-served}
 use Rattle.beep_steps.proofs.SpeakCalls.{emits-speaking, rests-gone, serving-at}
+use Rattle.beep_steps.specs.Speaking.{AllSpoken}
+use Rattle.beep_steps.proofs.DeskAnswers.{emits-desk}
+use Rattle.beep_steps.proofs.DeskCalls.{one-journal}
 use Rattle.beep_steps.proofs.RefusesLemmas.{spoke-unrefused}
 use Rattle.beep_steps.proofs.hearing.say_next.Goals as goal
 
@@ -82,3 +85,19 @@ pub returns-clause-unrefused : goal.returns-clause-unrefused
 returns-clause-unrefused c command closing log s u =
     let old = c.args.session.now in
     spoke-unrefused command closing c.emit.result old c.emit.new.self (put_all c.args.out.now.octets log) (put_all c.emit.new.out.octets log) s (returns-clause-spoke c log s) u
+
+pub returns-then-zero_waits-clause-desk : goal.returns-then-zero_waits-clause-desk
+returns-then-zero_waits-clause-desk c plan notes log served s d = d
+
+pub returns-clause-desk : goal.returns-clause-desk
+returns-clause-desk c plan notes log served s d =
+    let old = c.args.session.now in
+    let new = c.emit.new.self in
+    let after = put_all c.emit.new.out.octets log in
+    let gone = returns-clause-speaking c plan notes log served s in
+    let shows = shows-served plan new [] after (returns-clause-serving c plan log served) in
+    emits-desk plan notes old new c.args.out.now.octets c.emit.new.out.octets log d c.emit.ensures.same c.emit.ensures.still gone
+    (have-profile plan.raw_uri gone.on.journal (serving-at plan new after shows gone.on))
+    (subst (AllSpoken notes) (one-journal old (put_all c.args.out.now.octets log) s.on d.on) s.noted.all) (min MAX_PIECE old.limits.piece) c.emit.result (is_over old.peer) refl
+    c.emit.ensures.lawful c.emit.ensures.framed c.emit.ensures.speaks c.emit.ensures.told c.emit.ensures.stuck
+    (λ e. let r = c.emit.ensures.over e in (r.0, r.1, ap (λ (o : Octets). o.octets) r.2))

@@ -14,6 +14,7 @@ use Rattle.beep_steps.proofs.ServeCalls.{settles-serving}
 use Rattle.beep_session.specs.Lawfully.{terms_of}
 use Rattle.beep_steps.proofs.ServeLemmas.{shows-served}
 use Rattle.beep_steps.proofs.SpeakSettles.{settles-speaking}
+use Rattle.beep_steps.proofs.DeskAnswers.{settles-desk}
 use Rattle.beep_steps.proofs.hearing.settle_message.Goals as goal
 
 pub returns-in-Ok-clause-settled : goal.returns-in-Ok-clause-settled
@@ -98,3 +99,15 @@ returns-in-Ok-clause-refuses c command closing log w u =
     (λ reply. e.fits w.fed w.journal w.given w.taken w.head w.payload w.waits reply refl)
     (λ is one at. e.replied w.fed w.journal w.given w.taken w.head w.payload one w.waits is at)
     (λ is. oldest-waits old log w is (e.fits w.fed w.journal w.given w.taken w.head w.payload w.waits is refl))
+
+pub returns-in-Ok-clause-desk : goal.returns-in-Ok-clause-desk
+returns-in-Ok-clause-desk c plan notes log serving w d taken =
+    let e = c.in-Ok.ensures in
+    let o = d.on in
+    let new = c.settle.new.self in
+    settles-desk plan notes c.args.session.now new e.same log d c.in-Ok.settled (returns-in-Ok-clause-speaking c plan notes log serving w)
+    ((returns-in-Ok-clause-done c log d.on).taken taken) (shows-served plan new [] log (returns-in-Ok-clause-serving c plan log serving))
+    (λ is. e.asked o.fed o.journal o.given o.taken o.head o.payload o.waits is)
+    (λ is. e.answered o.fed o.journal o.given o.taken o.head o.payload o.waits is)
+    (λ reply. e.fits o.fed o.journal o.given o.taken o.head o.payload o.waits reply refl)
+    (e.upright o.fed o.journal o.given o.taken o.head o.payload o.waits o.upright) e.stuck

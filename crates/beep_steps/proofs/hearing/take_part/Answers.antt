@@ -1,5 +1,5 @@
 -- A part that is taken leaves what the session stands for.
-use Rattle.std.proofs.Common.{◌≡◌, ◌∙◌, true, false, sym, subst, rules}
+use Rattle.std.proofs.Common.{◌≡◌, ◌∙◌, true, false, [], sym, subst, rules}
 use Rattle.std.specs.Prelude.{IfSome}
 use Rattle.beep_session.specs.Session.{Held}
 use Rattle.beep_steps.specs.Logs.{StaysOn}
@@ -14,6 +14,9 @@ use Rattle.beep_steps.proofs.ServeCalls.{took-serves}
 use Rattle.beep_steps.specs.Serving.{KeepsServing}
 use Rattle.beep_steps.specs.Speaking.{KeepsSpeaking}
 use Rattle.beep_steps.proofs.SpeakCalls.{took-speaking}
+use Rattle.beep_steps.specs.Desking.{DesksWithin}
+use Rattle.beep_steps.proofs.DeskAnswers.{took-desk}
+use Rattle.beep_steps.proofs.ServeLemmas.{shows-served}
 use Rattle.beep_steps.proofs.hearing.take_part.Goals as goal
 
 pub returns-in-Some-clause-stays : goal.returns-in-Some-clause-stays
@@ -144,3 +147,33 @@ returns-in-Some-closing_channel-clause-speaking c plan notes =
     let f : (x : Held) → x ≡ t.new.self.session.now → KeepsSpeaking plan notes notes c.args.session.now x =
     λ x e. subst (λ (y : Held). KeepsSpeaking plan notes notes y x) none (subst (KeepsSpeaking plan notes notes c.open_channel.follows.lender-at-none) (sym e) h) in
     f _ (search rules)
+
+pub returns-in-Some-clause-desk : goal.returns-in-Some-clause-desk
+returns-in-Some-clause-desk c plan notes log serves s d =
+    let k = c.in-Some in
+    let t = c.take in
+    let h : DesksWithin plan t.new.self.session.now log =
+    took-desk plan notes t.result k.channel.at t.new.buf c.args.session.now k.channel.session.now t.new.self.session.now k.ensures.same.0 t.ensures.some t.ensures.stuck t.ensures.upright
+    t.ensures.kept log (shows-served plan c.args.session.now [] log serves) s d in
+    let f : (x : Held) → x ≡ t.new.self.session.now → DesksWithin plan x log = λ x e. subst (λ (y : Held). DesksWithin plan y log) (sym e) h in
+    f _ (search rules)
+
+pub returns-in-Some-closing_channel-clause-desk : goal.returns-in-Some-closing_channel-clause-desk
+returns-in-Some-closing_channel-clause-desk c plan notes log serves s d =
+    let k = c.in-Some-closing_channel in
+    let t = c.take-in-Some-closing_channel in
+    let none : c.open_channel.follows.lender-at-none ≡ c.args.session.now = search (rules, c.open_channel.follows.holds-at-none) in
+    let h : DesksWithin plan t.new.self.session.now log =
+    took-desk plan notes t.result k.channel.at t.new.buf c.args.session.now k.channel.session.now t.new.self.session.now (k.ensures.same.0 ∙ none) t.ensures.some t.ensures.stuck t.ensures.upright
+    t.ensures.kept log (shows-served plan c.args.session.now [] log serves) s d in
+    let f : (x : Held) → x ≡ t.new.self.session.now → DesksWithin plan x log = λ x e. subst (λ (y : Held). DesksWithin plan y log) (sym e) h in
+    f _ (search rules)
+
+pub returns-then-zero_waits-clause-desk : goal.returns-then-zero_waits-clause-desk
+returns-then-zero_waits-clause-desk c plan notes log serves s d = d
+
+pub returns-clause-desk : goal.returns-clause-desk
+returns-clause-desk c plan notes log serves s d =
+    let one : c.open_channel.follows.lender-at-none ≡ c.args.session.now = search (rules, c.open_channel.follows.holds-at-none) in
+    let two : c.closing_channel.follows.lender-at-none ≡ c.open_channel.follows.lender-at-none = search (rules, c.closing_channel.follows.holds-at-none) in
+    subst (λ (y : Held). DesksWithin plan y log) (sym (two ∙ one)) d

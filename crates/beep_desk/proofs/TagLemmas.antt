@@ -1,0 +1,249 @@
+-- What a listener gave on channel zero has the tags that its script says: each message answers its request, in turn.
+use Rattle.std.proofs.Common.{◌≡◌, ◌∙◌, refl, sym, ap, subst, ℕ, ◌+◌, Bool, true, false, not, if◌then◌else◌, List, [], ◌∷◌, ◌++◌, map, filter, flat_map, take, Option, None, Some, append_assoc, append-nil}
+use Rattle.std.specs.Prelude.{is_some}
+use Rattle.std.specs.List.{prefix_len}
+use Rattle.std.proofs.lemmas.List.{map-append}
+use Rattle.std.proofs.lemmas.Grind.{flat_map-append}
+use Rattle.beep_frame.specs.declared.kind.Kind.{Kind}
+use Rattle.beep_frame.specs.declared.tag.Tag.{Tag}
+use Rattle.beep_frame.specs.Frame.{is_ans, is_msg}
+use Rattle.beep_frame.specs.Modulo.{modulo_2_64 as count_modulo_2_64}
+use Rattle.beep_history.specs.declared.journal.Side.{Side}
+use Rattle.beep_history.specs.Journal.{Item}
+use Rattle.beep_history.specs.Marks.{Mark, end, mark_modulo_2_64, marks, modulo_2_64, octet}
+use Rattle.beep_mgmt.specs.Form.{Form, greeting, start, chosen, close, okay, fault}
+use Rattle.beep_mgmt.specs.Message.{message_text}
+use Rattle.beep_journal.specs.Laws.{pieces_from}
+use Rattle.beep_journal.specs.Zero.{zero_history}
+use Rattle.beep_exchange.specs.Given.{ends_reply, message_number}
+use Rattle.beep_outbox.specs.Queue.{Message, marks_of, message_marks, marks_of as unsent_marks}
+use Rattle.beep_channel.specs.Held.{Live}
+use Rattle.beep_channel.specs.Stands.{AreNumbered, IsInOrder, Stands, answers_with}
+use Rattle.beep_lives.specs.Lives.{live_at}
+use Rattle.beep_standing.specs.Standing.{Marks}
+use Rattle.beep_management.specs.Managed.{Prepared}
+use Rattle.beep_spoken.specs.Spoken.{Spoken, kinds_of, text_of}
+use Rattle.beep_answering.specs.Decided.{NoneTunes}
+use Rattle.beep_peer.specs.declared.peer.Peer.{Peer}
+use Rattle.beep_talk.specs.declared.plan.Command.{Command}
+use Rattle.beep_talk.specs.AtZero.{Answer, ZeroMessage, answer_message, kind_of}
+use Rattle.beep_talk.specs.Plan.{PlainPlan}
+use Rattle.beep_script.specs.Desk.{decided, desk, is_clear}
+use Rattle.beep_script.specs.Laws.{replied_positions}
+use Rattle.beep_script.specs.Script.{BeginsWith, message_marks as script_message, script_marks, whole_message}
+use Rattle.beep_desk.specs.Desks.{IsDeskOf, IsDeskWithin, StandsIn, queue_at}
+use Rattle.beep_desk.specs.Listed.{ArePlacedFrom, spoken_of}
+use Rattle.beep_desk.proofs.QueueLemmas.{take-pass}
+use Rattle.beep_desk.proofs.QuietLemmas.{asks-nothing}
+use Rattle.beep_desk.proofs.StandLemmas.{replied-answers, replied-append}
+use Rattle.beep_desk.proofs.StepLemmas.{all-pass}
+use Rattle.beep_desk.proofs.TurnLemmas.{desk-positions, in-turn}
+
+-- ---- what a listener lists
+
+-- a reply that is one message, with no number
+abbrev pub IsPlain : ZeroMessage → Type 0
+IsPlain one = (is_msg one.tag.kind ≡ false) × (is_ans one.tag.kind ≡ false) × (ends_reply one.tag.kind ≡ true) × (one.tag.ansno ≡ 0)
+
+abbrev pub AllPlain : List ZeroMessage → Type 0
+AllPlain [] = Unit {0}
+AllPlain (one ∷ others) = IsPlain one × AllPlain others
+
+kind-plain : (form : Form) → (is_msg (kind_of form) ≡ false) × (is_ans (kind_of form) ≡ false) × (ends_reply (kind_of form) ≡ true)
+kind-plain (greeting features localize profiles) = (refl, refl, refl)
+kind-plain (start number server profiles) = (refl, refl, refl)
+kind-plain (chosen profile) = (refl, refl, refl)
+kind-plain (close number code note) = (refl, refl, refl)
+kind-plain okay = (refl, refl, refl)
+kind-plain (fault code note) = (refl, refl, refl)
+
+plain-append : (xs : List ZeroMessage) (answers : List Answer) → AllPlain xs → AllPlain (xs ++ map answer_message answers)
+plain-append [] [] a = tt
+plain-append [] (answer ∷ answers) a =
+    let k = kind-plain answer.form in ((k.0, k.1, k.2, refl), plain-append [] answers tt)
+plain-append (x ∷ xs) answers a = (a.0, plain-append xs answers a.1)
+
+pub desk-plain : (plan : PlainPlan) (journal : List Item) → plan.command ≡ Command.Listen → AllPlain (desk plan journal).listed
+desk-plain plan [] listens = ((refl, refl, refl, refl), tt)
+desk-plain plan (item ∷ journal) listens =
+    let d = desk plan journal in
+    let queue = d.owed ++ decided plan d item journal in
+    let said = map answer_message (take (prefix_len (is_clear plan d.listed (item ∷ journal)) queue) queue) in
+    subst AllPlain (sym (ap (λ l. d.listed ++ said ++ l) (asks-nothing plan item journal listens) ∙ append-nil (d.listed ++ said)))
+    (plain-append d.listed (take (prefix_len (is_clear plan d.listed (item ∷ journal)) queue) queue) (desk-plain plan journal listens))
+
+-- ---- the marks of one message
+
+module _ (t : Tag) (rest : List Mark) where
+  pieces-first : (begun os : List ℕ) → pieces_from begun ((map (octet t) os ++ end t ∷ []) ++ rest) ≡ (begun ++ os) ∷ pieces_from [] rest
+  pieces-first begun [] = ap (λ l. l ∷ pieces_from [] rest) (sym (append-nil begun))
+  pieces-first begun (o ∷ os) = pieces-first (begun ++ o ∷ []) os ∙ ap (λ l. l ∷ pieces_from [] rest) (append_assoc begun (o ∷ []) os)
+
+  kinds-first : (os : List ℕ) → kinds_of ((map (octet t) os ++ end t ∷ []) ++ rest) ≡ t.kind ∷ kinds_of rest
+  kinds-first [] = refl
+  kinds-first (o ∷ os) = kinds-first os
+
+  order-first : (own reply : ℕ) (os : List ℕ) → IsInOrder own reply ((map (octet t) os ++ end t ∷ []) ++ rest)
+      → (t.request ≡ count_modulo_2_64 (if is_msg t.kind then own else reply)) × IsInOrder (if is_msg t.kind then own + 1 else own) (if ends_reply t.kind then reply + 1 else reply) rest
+  order-first own reply [] o = o
+  order-first own reply (x ∷ os) o = order-first own reply os o.1
+
+  numbered-first : (n : ℕ) (os : List ℕ) → AreNumbered n ((map (octet t) os ++ end t ∷ []) ++ rest)
+      → (t.ansno ≡ (if is_ans t.kind then message_number n else 0)) × AreNumbered (answers_with t.kind n) rest
+  numbered-first n [] o = o
+  numbered-first n (x ∷ os) o = numbered-first n os o.1
+
+-- a message, its position modulo 2^64
+modulo-message : (t : Tag) (os : List ℕ) → map mark_modulo_2_64 (map (octet t) os ++ end t ∷ []) ≡ map (octet (modulo_2_64 t)) os ++ end (modulo_2_64 t) ∷ []
+modulo-message t [] = refl
+modulo-message t (o ∷ os) = ap (λ l. octet (modulo_2_64 t) o ∷ l) (modulo-message t os)
+
+tag-same : (t u : Tag) → t.kind ≡ u.kind → t.request ≡ count_modulo_2_64 u.request → t.ansno ≡ u.ansno → t ≡ modulo_2_64 u
+tag-same t u k r a =
+    ap (λ (x : Kind). record { kind = x; request = t.request; ansno = t.ansno }) k
+    ∙ ap (λ (x : ℕ). record { kind = u.kind; request = x; ansno = t.ansno }) r
+    ∙ ap (λ (x : ℕ). record { kind = u.kind; request = count_modulo_2_64 u.request; ansno = x }) a
+
+-- ---- all of them
+
+abbrev request_of : ZeroMessage → ℕ
+request_of one = one.tag.request
+
+abbrev is_reply_of : ZeroMessage → Bool
+is_reply_of one = not (is_msg one.tag.kind)
+
+told-marks : (own reply : ℕ) (listed : List ZeroMessage) (messages : List Message) → AllPlain listed → ArePlacedFrom reply (replied_positions listed)
+    → pieces_from [] (marks_of messages) ≡ map text_of (map spoken_of listed) → kinds_of (marks_of messages) ≡ map (λ (one : Spoken). one.kind) (map spoken_of listed)
+    → IsInOrder own reply (marks_of messages) → AreNumbered 0 (marks_of messages)
+    → marks_of messages ≡ map mark_modulo_2_64 (flat_map script_message (map whole_message listed))
+told-marks own reply [] [] a p t k o n = refl
+told-marks own reply [] (m ∷ messages) a p t k o n = absurd (let h : m.tag.kind ∷ kinds_of (marks_of messages) ≡ [] = sym (kinds-first m.tag (marks_of messages) m.octets) ∙ k in cc)
+told-marks own reply (l ∷ listed) [] a p t k o n = absurd (cc k)
+told-marks own reply (l ∷ listed) (m ∷ messages) a p t k o n =
+    let rest = marks_of messages in
+    let texts : m.octets ∷ pieces_from [] rest ≡ message_text l.form ∷ map text_of (map spoken_of listed) = sym (pieces-first m.tag rest [] m.octets) ∙ t in
+    let kinds : m.tag.kind ∷ kinds_of rest ≡ l.tag.kind ∷ map (λ (one : Spoken). one.kind) (map spoken_of listed) = sym (kinds-first m.tag rest m.octets) ∙ k in
+    let text : m.octets ≡ message_text l.form = cc (texts) in
+    let more : pieces_from [] rest ≡ map text_of (map spoken_of listed) = cc (texts) in
+    let kind : m.tag.kind ≡ l.tag.kind = cc (kinds) in
+    let others : kinds_of rest ≡ map (λ (one : Spoken). one.kind) (map spoken_of listed) = cc (kinds) in
+    let placed : ArePlacedFrom reply (l.tag.request ∷ replied_positions listed) =
+    subst (ArePlacedFrom reply) (ap (λ (b : Bool). map request_of (if not b then l ∷ filter is_reply_of listed else filter is_reply_of listed)) a.0.0) p in
+    let order = order-first m.tag rest own reply m.octets o in
+    let number = numbered-first m.tag rest 0 m.octets n in
+    let msg : is_msg m.tag.kind ≡ false = ap is_msg kind ∙ a.0.0 in
+    let ans : is_ans m.tag.kind ≡ false = ap is_ans kind ∙ a.0.1 in
+    let ends : ends_reply m.tag.kind ≡ true = ap ends_reply kind ∙ a.0.2 in
+    let tag : m.tag ≡ modulo_2_64 l.tag =
+    tag-same m.tag l.tag kind (order.0 ∙ ap (λ (b : Bool). count_modulo_2_64 (if b then own else reply)) msg ∙ ap count_modulo_2_64 (sym placed.0))
+    (number.0 ∙ ap (λ (b : Bool). if b then message_number 0 else 0) ans ∙ sym a.0.3) in
+    let first : message_marks m ≡ map mark_modulo_2_64 (script_message (whole_message l)) =
+    ap (λ (u : Tag). map (octet u) m.octets ++ end u ∷ []) tag
+    ∙ ap (λ (os : List ℕ). map (octet (modulo_2_64 l.tag)) os ++ end (modulo_2_64 l.tag) ∷ []) text
+    ∙ sym (modulo-message l.tag (message_text l.form)) in
+    let after : marks_of messages ≡ map mark_modulo_2_64 (flat_map script_message (map whole_message listed)) =
+    told-marks own (reply + 1) listed messages a.1 placed.1 more others
+    (subst (λ (r : ℕ). IsInOrder own r rest) (ap (λ (b : Bool). if b then reply + 1 else reply) ends)
+    (subst (λ (w : ℕ). IsInOrder w (if ends_reply m.tag.kind then reply + 1 else reply) rest) (ap (λ (b : Bool). if b then own + 1 else own) msg) order.1))
+    (subst (λ (c : ℕ). AreNumbered c rest) (ap (λ (b : Bool). if b then 0 + 1 else (if is_msg m.tag.kind then 0 else 0)) ans ∙ ap (λ (b : Bool). if b then 0 else 0) msg) number.1) in
+    ap (λ (ms : List Mark). ms ++ marks_of messages) first ∙ ap (λ (ms : List Mark). map mark_modulo_2_64 (script_message (whole_message l)) ++ ms) after
+    ∙ sym (map-append mark_modulo_2_64 (script_message (whole_message l)) (flat_map script_message (map whole_message listed)))
+
+front-placed : (k : ℕ) (xs ys : List ℕ) → ArePlacedFrom k (xs ++ ys) → ArePlacedFrom k xs
+front-placed k [] ys p = tt
+front-placed k (x ∷ xs) ys p = (p.0, front-placed (k + 1) xs ys p.1)
+
+some-at : (o : Option Live) → is_some o ≡ true → (c : Live) × (o ≡ Some c)
+some-at None e = absurd cc
+some-at (Some c) e = (c, refl)
+
+module _ (plan : PlainPlan) (listens : plan.command ≡ Command.Listen) (none : NoneTunes plan.offers) (size : ℕ) (journal : List Item) (given taken : Marks) (peer : Peer)
+    (s : StandsIn size journal given taken peer) (d : IsDeskOf plan journal (given 0) peer.management.answers) (count : ℕ) where
+  zero-at : (c : Live) × (live_at 0 peer.lives ≡ Some c)
+  zero-at = some-at (live_at 0 peer.lives) (sym (s.live.there 0))
+
+  stands : Stands size zero-at.0.held (zero_history journal) (given 0) (taken 0)
+  stands = s.live.zero zero-at.0 zero-at.1
+
+  -- what was given is what is listed
+  pub given-listed : given 0 ≡ map mark_modulo_2_64 (script_marks plan 0 count journal)
+  given-listed =
+      let listed = (desk plan journal).listed in
+      let w = d.whole in
+      let counted = stands.counted in
+      w.marks_are
+      ∙ told-marks _ 0 listed w.messages (desk-plain plan journal listens)
+      (front-placed 0 (replied_positions listed) (map (λ (answer : Answer). answer.position) (desk plan journal).owed) (in-turn plan journal none).0)
+      (ap (pieces_from []) (sym w.marks_are) ∙ d.given_is.octets) (ap kinds_of (sym w.marks_are) ∙ d.given_is.kinds)
+      (subst (IsInOrder _ 0) w.marks_are counted.order) (subst (AreNumbered 0) w.marks_are counted.numbered)
+
+  -- and so what was sent is the beginning of it
+  pub sent-listed : BeginsWith (map mark_modulo_2_64 (script_marks plan 0 count journal)) (map mark_modulo_2_64 (marks Side.Sent (zero_history journal)))
+  sent-listed = record { rest = unsent_marks zero-at.0.held.queue; whole_is = sym given-listed ∙ stands.all_given }
+
+-- ---- within a step
+
+-- what is listed once an item has happened begins with these answers
+listed-with : (plan : PlainPlan) (item : Item) (journal : List Item) (given : List Mark) (answers : List Prepared) → plan.command ≡ Command.Listen → (w : IsDeskWithin plan item journal given answers)
+    → (desk plan (item ∷ journal)).listed
+    ≡ ((desk plan journal).listed ++ map answer_message w.said) ++ map answer_message (take (prefix_len (is_clear plan (desk plan journal).listed (item ∷ journal)) w.left) w.left)
+listed-with plan item journal given answers listens w =
+    let ours = (desk plan journal).listed in
+    let p = is_clear plan ours (item ∷ journal) in
+    let more = take (prefix_len p w.left) w.left in
+    ap (λ l. ours ++ map answer_message (take (prefix_len p (queue_at plan item journal)) (queue_at plan item journal)) ++ l) (asks-nothing plan item journal listens)
+    ∙ append-nil (ours ++ map answer_message (take (prefix_len p (queue_at plan item journal)) (queue_at plan item journal)))
+    ∙ ap (λ q. ours ++ map answer_message (take (prefix_len p q) q)) w.split
+    ∙ ap (λ l. ours ++ map answer_message l) (take-pass p w.said w.left (all-pass plan ours (item ∷ journal) w.said w.clear))
+    ∙ ap (λ l. ours ++ l) (map-append answer_message w.said more) ∙ sym (append_assoc ours (map answer_message w.said) (map answer_message more))
+
+module _ (plan : PlainPlan) (listens : plan.command ≡ Command.Listen) (none : NoneTunes plan.offers) (size : ℕ) (item : Item) (journal : List Item) (given taken : Marks) (peer : Peer)
+    (s : StandsIn size (item ∷ journal) given taken peer) (w : IsDeskWithin plan item journal (given 0) peer.management.answers) (count : ℕ) where
+  abbrev now : List Item
+  now = item ∷ journal
+
+  abbrev front : List ZeroMessage
+  front = (desk plan journal).listed ++ map answer_message w.said
+
+  abbrev positions_of : List Answer → List ℕ
+  positions_of answers = map (λ (answer : Answer). answer.position) answers
+
+  all-placed : ArePlacedFrom 0 (replied_positions front ++ positions_of w.left)
+  all-placed =
+      subst (ArePlacedFrom 0)
+      (desk-positions plan item journal ∙ append_assoc (replied_positions (desk plan journal).listed) (positions_of (desk plan journal).owed) (positions_of (decided plan (desk plan journal) item journal))
+      ∙ ap (λ l. replied_positions (desk plan journal).listed ++ l)
+      (sym (map-append (λ (answer : Answer). answer.position) (desk plan journal).owed (decided plan (desk plan journal) item journal)) ∙ ap positions_of w.split
+      ∙ map-append (λ (answer : Answer). answer.position) w.said w.left)
+      ∙ sym (append_assoc (replied_positions (desk plan journal).listed) (positions_of w.said) (positions_of w.left))
+      ∙ ap (λ l. l ++ positions_of w.left) (sym (replied-append (desk plan journal).listed (map answer_message w.said) ∙ ap (λ l. replied_positions (desk plan journal).listed ++ l) (replied-answers w.said))))
+      (in-turn plan now none).0
+
+  at-zero : (c : Live) × (live_at 0 peer.lives ≡ Some c)
+  at-zero = some-at (live_at 0 peer.lives) (sym (s.live.there 0))
+
+  stood : Stands size at-zero.0.held (zero_history now) (given 0) (taken 0)
+  stood = s.live.zero at-zero.0 at-zero.1
+
+  given-front : given 0 ≡ map mark_modulo_2_64 (flat_map script_message (map whole_message front))
+  given-front =
+      let m = w.whole in
+      m.marks_are
+      ∙ told-marks _ 0 front m.messages (plain-append (desk plan journal).listed w.said (desk-plain plan journal listens)) (front-placed 0 (replied_positions front) (positions_of w.left) all-placed)
+      (ap (pieces_from []) (sym m.marks_are) ∙ w.given_is.octets) (ap kinds_of (sym m.marks_are) ∙ w.given_is.kinds)
+      (subst (IsInOrder _ 0) m.marks_are stood.counted.order) (subst (AreNumbered 0) m.marks_are stood.counted.numbered)
+
+  -- what was sent is the beginning of what is listed then
+  pub sent-within : BeginsWith (map mark_modulo_2_64 (script_marks plan 0 count now)) (map mark_modulo_2_64 (marks Side.Sent (zero_history now)))
+  sent-within =
+      let more = map answer_message (take (prefix_len (is_clear plan (desk plan journal).listed now) w.left) w.left) in
+      let f = λ (l : List ZeroMessage). map mark_modulo_2_64 (flat_map script_message (map whole_message l)) in
+      record {
+        rest = unsent_marks at-zero.0.held.queue ++ f more;
+        whole_is = ap f (listed-with plan item journal (given 0) peer.management.answers listens w)
+            ∙ ap (λ l. map mark_modulo_2_64 (flat_map script_message l)) (map-append whole_message front more)
+            ∙ ap (map mark_modulo_2_64) (flat_map-append script_message (map whole_message front) (map whole_message more))
+            ∙ map-append mark_modulo_2_64 (flat_map script_message (map whole_message front)) (flat_map script_message (map whole_message more))
+            ∙ ap (λ (ms : List Mark). ms ++ f more) (sym given-front ∙ stood.all_given)
+            ∙ append_assoc (map mark_modulo_2_64 (marks Side.Sent (zero_history now))) (unsent_marks at-zero.0.held.queue) (f more);
+      }

@@ -1,0 +1,11 @@
+-- Proofs.
+mod GatherLemmas
+mod HearLemmas
+mod ListenLemmas
+pub mod NoteLemmas
+mod PartLemmas
+mod PruneLemmas
+mod SpeakingLemmas
+mod RefusingLemmas
+pub mod ServingLemmas
+mod TextLemmas

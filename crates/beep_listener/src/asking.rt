@@ -1,0 +1,132 @@
+//! What a listener says on its channels: it asks for lines, and refuses what is asked (RFC 3195,
+//! section 3.1).
+ghost use Rattle.std.specs.Prelude.{◌≡◌, true, false, ℕ, List, IfNone, IfOk, IfSome, OnOk};
+ghost use Rattle.beep_journal.specs.Log.{Moment};
+ghost use Rattle.beep_mgmt.specs.Form.{fault};
+ghost use Rattle.beep_mgmt.specs.Message.{message_text};
+ghost use Rattle.beep_decide.specs.Decide.{is_among, note_of};
+ghost use Rattle.beep_talk.specs.Plan.{PlainPlan};
+ghost use Rattle.beep_peer.specs.Standing.{live_above};
+ghost use Rattle.beep_steps.specs.Logs.{StaysOn};
+ghost use Rattle.beep_steps.specs.Desking.{DesksOn, DesksWithin};
+ghost use Rattle.beep_steps.specs.Speaking.{KeepsSpeaking, Notes, SpeaksNew, SpeaksOn};
+ghost use Rattle.beep_steps.specs.Serving.{KeepsServing, ServesOn};
+
+use beep_channel::AskError;
+use beep_chars::Text;
+use beep_mgmt::{Mgmt, write_mgmt};
+use beep_octets::{NoMemory, Octets};
+use beep_outbox::GiveError;
+use beep_session::{Duty, Session};
+use beep_steps::is_open;
+use std::alloc::Global;
+
+/// What a listener asks on each channel: an empty MIME header and a word of its own.
+const READY: &[u8] = b"\r\nready\r\n";
+
+/// The message that refuses a request, with code 550.
+pub(crate) fn refusal_text(alloc: Global) -> Result<Octets, NoMemory>
+    ensures { IfOk result (λ text. text.octets ≡ message_text (fault 550 (note_of 550))) }
+{
+    let note = Text::of(alloc, "requested action not taken")?;
+    let mut text = Octets::new(alloc);
+    write_mgmt(&Mgmt::Fault { code: 550, note }, &mut text)?;
+    Ok(text)
+}
+
+/// Puts the numbers of the live channels above zero in place of those that are there.
+pub(crate) fn list_live(session: &Session, numbers: &mut Vec<u32>) -> Result<(), NoMemory>
+    ensures { OnOk result (numbers.new.items ≡ live_above session.now.peer) }
+{
+    numbers.clear();
+    while let Some(number) = session.number_at(numbers.len()) {
+        let Ok(()) = numbers.push(number) else {
+            return Err(NoMemory);
+        };
+    }
+    Ok(())
+}
+
+/// The first of these numbers that isn't among the others.
+pub(crate) fn first_other(numbers: &[u32], others: &[u32]) -> Option<u32>
+    ensures some { IfSome result (λ n. (is_among n numbers.now ≡ true)
+        × (is_among n others.now ≡ false)) }
+    ensures none { IfNone result ((n : ℕ) → is_among n numbers.now ≡ true
+        → is_among n others.now ≡ true) }
+{
+    for i in 0..numbers.len() {
+        if !has_number(others, numbers[i]) {
+            return Some(numbers[i]);
+        }
+    }
+    None
+}
+
+/// Whether a number is one of these.
+pub(crate) fn has_number(numbers: &[u32], number: u32) -> bool
+    ensures { result ≡ is_among number numbers.now }
+{
+    numbers.contains(&number)
+}
+
+/// Asks for lines on a channel. In a life that has just begun nothing refuses that.
+pub(crate) fn ask_lines(session: &mut Session, number: u32) -> Result<(), NoMemory>
+    ensures stays { StaysOn session.old session.new }
+    ensures serving { (plan : PlainPlan) → KeepsServing plan session.old session.new }
+    ensures speaking { (plan : PlainPlan) (notes : Notes) (log : List Moment)
+        → ServesOn plan session.old log → SpeaksNew plan notes number session.old log
+        → notes.leaving ≡ false
+        → OnOk result (SpeaksOn plan notes session.new log) }
+    ensures desk { (plan : PlainPlan) (log : List Moment)
+        → DesksWithin plan session.old log → DesksWithin plan session.new log }
+{
+    if session.zero_waits() {
+        return Ok(());
+    }
+    let Some(mut channel) = session.open_channel(number) else {
+        return Ok(());
+    };
+    match channel.ask(READY) {
+        Ok(_) => Ok(()),
+        Err(AskError::NoMemory) => Err(NoMemory),
+        Err(AskError::Closing | AskError::TooManyAsked | AskError::Full { .. }) => Ok(()),
+    }
+}
+
+/// Refuses the oldest request of a channel, and answers whether there was room.
+pub(crate) fn refuse_oldest(
+    session: &mut Session,
+    number: u32,
+    refusal: &[u8],
+) -> Result<bool, NoMemory>
+    ensures stays { StaysOn session.old session.new }
+    ensures serving { (plan : PlainPlan) → KeepsServing plan session.old session.new }
+    ensures speaking { (plan : PlainPlan) (notes : Notes) → is_among number notes.spoken ≡ true
+        → refusal.now ≡ message_text (fault 550 (note_of 550))
+        → KeepsSpeaking plan notes notes session.old session.new }
+    ensures desk { (plan : PlainPlan) (log : List Moment)
+        → DesksOn plan session.old log → DesksOn plan session.new log }
+{
+    if !is_open(session, number) {
+        return Ok(true);
+    }
+    match session.owed(number) {
+        None => Ok(true),
+        Some(Duty::Fresh(owed)) => match owed.refuse(refusal) {
+            Ok(()) => Ok(true),
+            Err((_owed, error)) => found_no_room(error),
+        },
+        Some(Duty::Begun(answering)) => match answering.done() {
+            Ok(()) => Ok(true),
+            Err((_answering, NoMemory)) => Err(NoMemory),
+        },
+    }
+}
+
+/// Whether a message waits for room, and not for memory.
+fn found_no_room(error: GiveError) -> Result<bool, NoMemory> {
+    match error {
+        GiveError::Full { .. } => Ok(false),
+        GiveError::NoMemory => Err(NoMemory),
+    }
+}

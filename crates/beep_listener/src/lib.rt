@@ -1,0 +1,12 @@
+//! The end of a session over one link that listens: it takes lines of syslog, by the profile RAW
+//! (RFC 3195, section 3).
+#![tactic(auto)]
+
+mod asking;
+mod listener;
+mod listening;
+mod pruning;
+
+pub use beep_link::Ended;
+pub use beep_steps::are_fit;
+pub use listening::listen_end;

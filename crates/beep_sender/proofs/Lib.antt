@@ -1,0 +1,6 @@
+-- Proofs.
+mod GivesLemmas
+mod RefusedLemmas
+mod RepliesLemmas
+mod ScriptedLemmas
+mod SenderLemmas

@@ -1,0 +1,27 @@
+-- What went out was a frame.
+use Rattle.std.proofs.Common.{subst}
+use Rattle.beep_speaking.specs.declared.emit.Emit.{Emit}
+use Rattle.beep_steps.specs.Sending.{SendsOn, went_by}
+use Rattle.beep_sender.specs.Sender.{plan_of, progress_of}
+use Rattle.beep_steps.specs.Scripting.{ScriptedOn}
+use Rattle.beep_sender.proofs.sender.Sender.said.Goals as goal
+
+pub returns-in-Ok-clause-sends : goal.returns-in-Ok-clause-sends
+returns-in-Ok-clause-sends c log s =
+    let one = c.args.self.now in
+    c.went.ensures.sends log (subst (λ (e : Emit). SendsOn (plan_of one) (went_by e (progress_of one)) one.session log) c.in-Data.is s)
+
+pub returns-in-Err-clause-sends : goal.returns-in-Err-clause-sends
+returns-in-Err-clause-sends c log s =
+    let one = c.args.self.now in
+    c.went.ensures.sends log (subst (λ (e : Emit). SendsOn (plan_of one) (went_by e (progress_of one)) one.session log) c.in-Data.is s)
+
+pub returns-in-Ok-clause-scripted : goal.returns-in-Ok-clause-scripted
+returns-in-Ok-clause-scripted c log s =
+    let one = c.args.self.now in
+    c.went.ensures.scripted log (subst (λ (e : Emit). ScriptedOn (plan_of one) (went_by e (progress_of one)) one.session log) c.in-Data.is s)
+
+pub returns-in-Err-clause-scripted : goal.returns-in-Err-clause-scripted
+returns-in-Err-clause-scripted c log s =
+    let one = c.args.self.now in
+    c.went.ensures.scripted log (subst (λ (e : Emit). ScriptedOn (plan_of one) (went_by e (progress_of one)) one.session log) c.in-Data.is s)

@@ -1,0 +1,41 @@
+-- A message that is settled leaves a sender so far.
+use Rattle.std.proofs.Common.{ap}
+use Rattle.beep_session.specs.Lawfully.{terms_of}
+use Rattle.beep_talk.specs.declared.plan.Command.{Command}
+use Rattle.beep_steps.specs.Logs.{command_of}
+use Rattle.beep_steps.proofs.CallScripts.{with-terms-scripted}
+use Rattle.beep_steps.proofs.CallSends.{with-terms}
+use Rattle.beep_steps.proofs.OnLemmas.{err-map, ok-then}
+use Rattle.beep_steps.proofs.SettledLemmas.{settled-on, settled-stops}
+use Rattle.beep_sender.specs.Sender.{plan_of, progress_of, ScriptsBy, SendsBy}
+use Rattle.beep_sender.proofs.SenderLemmas.{always-ok}
+use Rattle.beep_sender.proofs.sender.Sender.settle.Goals as goal
+
+pub returns-clause-settled : goal.returns-clause-settled
+returns-clause-settled c log w =
+    let one = c.args.self.now in
+    let new = c.settle_message.new.session in
+    always-ok c.follow.result (SendsBy c.follow.new.self log)
+    (c.follow.ensures.sends log
+    (with-terms (plan_of one) (terms_of new) (progress_of one) new log (c.in_ok-settled.ensures.sending (plan_of one) (progress_of one) log w)))
+
+pub returns-clause-scripted : goal.returns-clause-scripted
+returns-clause-scripted c log w =
+    let one = c.args.self.now in
+    let new = c.settle_message.new.session in
+    always-ok c.follow.result (ScriptsBy c.follow.new.self log)
+    (c.follow.ensures.scripted log
+    (with-terms-scripted (plan_of one) (terms_of new) (progress_of one) new log c.settle_message.ensures.terms
+    (c.in_ok-settled.ensures.scripted (plan_of one) (progress_of one) log w)))
+
+pub returns-clause-unrefused : goal.returns-clause-unrefused
+returns-clause-unrefused c log w u =
+    let one = c.args.self.now in
+    let k = c.in_ok-settled.ensures.refuses Command.Send one.is_closing log w.on u in
+    ok-then c.follow.result _ _ (λ none. settled-on Command.Send one.is_closing c.in_ok-settled.settled log k none) c.follow.ensures.unrefused
+
+pub returns-clause-refuses : goal.returns-clause-refuses
+returns-clause-refuses c log octets w u =
+    let one = c.args.self.now in
+    let k = c.in_ok-settled.ensures.refuses Command.Send one.is_closing log w.on u in
+    err-map c.follow.result _ _ (λ stop r. settled-stops Command.Send one.is_closing c.in_ok-settled.settled log k (terms_of one.session) (ap command_of w.sender.role) octets stop r) c.follow.ensures.refuses

@@ -1,0 +1,180 @@
+-- The positions that a listener names on channel zero are below 2^64, so that what it sent there is the beginning of its script as it is.
+use Rattle.std.proofs.Common.{◌≡◌, ◌∙◌, refl, sym, ap, subst, ℕ, ◌+◌, ◌<◌, ◌≤◌, ◌^◌, ◌==◌, Bool, true, false, not, ◌&&◌, if◌then◌else◌, List, [], ◌∷◌, ◌++◌, length, map, filter, flat_map, arith, length-append}
+use Rattle.beep_frame.specs.declared.head.Head.{Head}
+use Rattle.beep_frame.specs.Frame.{is_msg}
+use Rattle.beep_history.specs.declared.journal.Side.{Side}
+use Rattle.beep_history.specs.declared.limits.TheConstants.{MAX_REQUESTS}
+use Rattle.beep_history.specs.Journal.{Item, began, passed, told, same_side}
+use Rattle.beep_history.specs.Marks.{Mark, carries, frame_marks, marks, mark_modulo_2_64, requests, tag_of}
+use Rattle.beep_journal.specs.Zero.{asked, channel_of, gathered, zero_history}
+use Rattle.beep_journal.specs.Life.{life}
+use Rattle.beep_journal.specs.Broken.{none_tunes}
+use Rattle.beep_journal.specs.Log.{Moment}
+use Rattle.beep_journal.proofs.MomentLemmas.{equal-number}
+use Rattle.beep_lawful.specs.declared.terms.Terms.{Terms}
+use Rattle.beep_lawful.specs.Lawful.{IsLawful, IsLawfulLog}
+use Rattle.beep_lawful.proofs.LawfulLemmas.{lawful-before}
+use Rattle.beep_mgmt.specs.Message.{message_said}
+use Rattle.beep_answering.specs.Decided.{NoneTunes}
+use Rattle.beep_talk.specs.declared.plan.Command.{Command}
+use Rattle.beep_talk.specs.AtZero.{Answer, ZeroMessage}
+use Rattle.beep_talk.specs.Plan.{PlainPlan}
+use Rattle.beep_script.specs.Desk.{desk}
+use Rattle.beep_script.specs.Laws.{replied_positions}
+use Rattle.beep_script.specs.Script.{BeginsWith, KeepsScript, history_at, message_marks, script_marks, whole_message}
+use Rattle.beep_served.specs.Served.{items_got, octets_got, side_of}
+use Rattle.beep_served.proofs.PositionLemmas.{few-zero}
+use Rattle.beep_served.proofs.ShownLemmas.{items-shown}
+use Rattle.beep_replies.specs.Replies.{KeepsAbove}
+use Rattle.beep_desk.specs.Listed.{ArePlacedFrom}
+use Rattle.beep_desk.proofs.TagLemmas.{AllPlain, desk-plain}
+use Rattle.beep_desk.proofs.TurnLemmas.{in-turn}
+use Rattle.beep_steps.specs.Desking.{ShowsToldZero, ToldZero}
+use Rattle.beep_steps.specs.Scripting.{ShowsWhole}
+use Rattle.beep_steps.specs.Speaking.{ShowsTold}
+use Rattle.beep_steps.proofs.SpeakSmall.{shown-above, AreTold, frame-told, items-more, message-told, position-most, requests-items, tag-told, told-both}
+
+-- ---- how much came
+
+zero-items : (journal : List Item) → items_got (zero_history journal) ≤ items_got journal + 2
+zero-items [] = omega arith
+zero-items (item ∷ journal) = of (channel_of item == 0) (same_side (side_of item) Side.Received) refl (zero-items journal)
+  where
+    of : (b s : Bool) → same_side (side_of item) Side.Received ≡ s → items_got (zero_history journal) ≤ items_got journal + 2
+        → items_got (if b then item ∷ zero_history journal else zero_history journal) ≤ items_got (item ∷ journal) + 2
+    of true true is before =
+        let here = ap (λ (x : Bool). if x then items_got (zero_history journal) + 1 else items_got (zero_history journal)) is in
+        let there = ap (λ (x : Bool). if x then items_got journal + 1 else items_got journal) is in
+        omega (arith, here, there, before)
+    of true false is before =
+        let here = ap (λ (x : Bool). if x then items_got (zero_history journal) + 1 else items_got (zero_history journal)) is in
+        let there = ap (λ (x : Bool). if x then items_got journal + 1 else items_got journal) is in
+        omega (arith, here, there, before)
+    of false s is before = let more = items-more item journal in omega (arith, before, more)
+
+-- no more requests of the peer are whole than items came
+asked-most : (past : List Item) → length (asked Side.Received past) ≤ items_got past
+asked-most [] = omega arith
+asked-most (began Side.Received head ∷ past) = let before = asked-most past in omega (arith, before)
+asked-most (began Side.Sent head ∷ past) = asked-most past
+asked-most (told Side.Received seq ∷ past) = let before = asked-most past in omega (arith, before)
+asked-most (told Side.Sent seq ∷ past) = asked-most past
+asked-most (passed Side.Sent head payload ∷ past) = asked-most past
+asked-most (passed Side.Received head payload ∷ past) = of (is_msg head.kind && not head.more) (asked-most past)
+  where
+    of : (b : Bool) → length (asked Side.Received past) ≤ items_got past
+        → length (if b then message_said (gathered Side.Received past ++ payload) ∷ asked Side.Received past else asked Side.Received past) ≤ items_got past + 1
+    of true before = omega (arith, before)
+    of false before = omega (arith, before)
+
+-- ---- what was sent
+
+sent-less : (zero : List Item) (head : Head) (journal : List Item) → length (requests Side.Sent zero) ≤ items_got zero + MAX_REQUESTS → items_got zero ≤ items_got journal + 2
+    → items_got journal < 2 ^ 32 → (tag_of Side.Sent zero head).request < 2 ^ 64
+sent-less zero head journal asks within few =
+    let came = requests-items zero in
+    let at = position-most Side.Sent zero head (items_got journal + 2 + MAX_REQUESTS) (λ s. of s asks came within) in
+    omega (arith, at, few)
+  where
+    of : (s : Side) → length (requests Side.Sent zero) ≤ items_got zero + MAX_REQUESTS → length (requests Side.Received zero) ≤ items_got zero → items_got zero ≤ items_got journal + 2
+        → length (requests s zero) ≤ items_got journal + 2 + MAX_REQUESTS
+    of Side.Sent asks came within = omega (arith, asks, within)
+    of Side.Received asks came within = omega (arith, came, within)
+
+zero-told : (terms : Terms) (journal : List Item) → IsLawful terms none_tunes journal → items_got journal < 2 ^ 32 → AreTold (marks Side.Sent (zero_history journal))
+zero-told terms [] lawful few = refl
+zero-told terms (item ∷ journal) lawful few =
+    let earlier = lawful-before terms none_tunes (item ∷ []) journal lawful in
+    let more = items-more item journal in
+    let less : items_got journal < 2 ^ 32 = omega (arith, few, more) in
+    of (channel_of item == 0) (item-told item (few-zero terms none_tunes journal earlier) less (zero-told terms journal earlier less)) (zero-told terms journal earlier less)
+  where
+    item-told : (item : Item) → length (requests Side.Sent (zero_history journal)) ≤ items_got (zero_history journal) + MAX_REQUESTS → items_got journal < 2 ^ 32
+        → AreTold (marks Side.Sent (zero_history journal)) → AreTold (marks Side.Sent (item ∷ zero_history journal))
+    item-told (began by head) asks few before = before
+    item-told (told by seq) asks few before = before
+    item-told (passed by head payload) asks few before =
+        let past = zero_history journal in
+        told-both (marks Side.Sent past) (if carries Side.Sent past by head then frame_marks (tag_of Side.Sent past head) head payload else []) before (by-carries (carries Side.Sent past by head))
+      where
+        by-carries : (b : Bool) → AreTold (if b then frame_marks (tag_of Side.Sent (zero_history journal) head) head payload else [])
+        by-carries true =
+            frame-told (tag_of Side.Sent (zero_history journal) head) head payload
+            (tag-told (tag_of Side.Sent (zero_history journal) head) (sent-less (zero_history journal) head journal asks (zero-items journal) few))
+        by-carries false = refl
+
+    of : (b : Bool) → AreTold (marks Side.Sent (item ∷ zero_history journal)) → AreTold (marks Side.Sent (zero_history journal))
+        → AreTold (marks Side.Sent (if b then item ∷ zero_history journal else zero_history journal))
+    of true one other = one
+    of false one other = other
+
+-- ---- what is listed
+
+abbrev request_of : ZeroMessage → ℕ
+request_of one = one.tag.request
+
+abbrev is_reply_of : ZeroMessage → Bool
+is_reply_of one = not (is_msg one.tag.kind)
+
+plain-count : (listed : List ZeroMessage) → AllPlain listed → length (replied_positions listed) ≡ length listed
+plain-count [] a = refl
+plain-count (l ∷ listed) a =
+    ap (λ (b : Bool). length (map request_of (if not b then l ∷ filter is_reply_of listed else filter is_reply_of listed))) a.0.0 ∙ more (plain-count listed a.1)
+  where
+    more : length (replied_positions listed) ≡ length listed → length (l.tag.request ∷ replied_positions listed) ≡ length (l ∷ listed)
+    more e = omega (arith, e)
+
+listed-told : (k : ℕ) (listed : List ZeroMessage) → AllPlain listed → ArePlacedFrom k (replied_positions listed) → k + length listed < 2 ^ 64
+    → AreTold (flat_map message_marks (map whole_message listed))
+listed-told k [] a p less = refl
+listed-told k (l ∷ listed) a p less =
+    let placed : ArePlacedFrom k (l.tag.request ∷ replied_positions listed) =
+    subst (ArePlacedFrom k) (ap (λ (b : Bool). map request_of (if not b then l ∷ filter is_reply_of listed else filter is_reply_of listed)) a.0.0) p in
+    let at = placed.0 in
+    told-both (message_marks (whole_message l)) (flat_map message_marks (map whole_message listed)) (message-told (whole_message l) (omega (arith, at, less)))
+    (listed-told (k + 1) listed a.1 placed.1 (omega (arith, less)))
+
+front-placed : (k : ℕ) (xs ys : List ℕ) → ArePlacedFrom k (xs ++ ys) → ArePlacedFrom k xs
+front-placed k [] ys p = tt
+front-placed k (x ∷ xs) ys p = (p.0, front-placed (k + 1) xs ys p.1)
+
+script-told : (plan : PlainPlan) (count : ℕ) (journal : List Item) → plan.command ≡ Command.Listen → NoneTunes plan.offers → items_got journal < 2 ^ 32 → AreTold (script_marks plan 0 count journal)
+script-told plan count journal listens none few =
+    let listed = (desk plan journal).listed in
+    let owed = map (λ (answer : Answer). answer.position) (desk plan journal).owed in
+    let t = in-turn plan journal none in
+    let plain = desk-plain plan journal listens in
+    let counted = plain-count listed plain in
+    let each = t.1 in
+    let both = length-append (replied_positions listed) owed in
+    let most = asked-most (zero_history journal) in
+    let within = zero-items journal in
+    listed-told 0 listed plain (front-placed 0 (replied_positions listed) owed t.0) (omega (arith, counted, each, both, most, within, few))
+
+-- ---- the whole
+
+zero-exact : (plan : PlainPlan) (terms : Terms) (count : ℕ) (journal : List Item) → plan.command ≡ Command.Listen → NoneTunes plan.offers → IsLawful terms none_tunes journal
+    → items_got journal < 2 ^ 32 → ToldZero plan journal → BeginsWith (script_marks plan 0 count journal) (marks Side.Sent (zero_history journal))
+zero-exact plan terms count journal listens none lawful few told_zero =
+    subst (λ (ms : List Mark). BeginsWith ms (marks Side.Sent (zero_history journal))) (script-told plan count journal listens none few)
+    (subst (λ (ms : List Mark). BeginsWith (map mark_modulo_2_64 (script_marks plan 0 count journal)) ms) (zero-told terms journal lawful few) (told_zero count))
+
+-- what passed in each life, channel zero among them, is the beginning of its script
+whole-script : (plan : PlainPlan) (terms : Terms) (journal : List Item) → plan.command ≡ Command.Listen → NoneTunes plan.offers → IsLawful terms none_tunes journal → items_got journal < 2 ^ 32
+    → KeepsAbove plan journal → ToldZero plan journal → KeepsScript plan journal
+whole-script plan terms journal listens none lawful few above told_zero number count = of (number == 0) refl
+  where
+    of : (b : Bool) → (number == 0) ≡ b → BeginsWith (script_marks plan number count journal) (marks Side.Sent (history_at number count journal))
+    of true zero =
+        subst (λ (n : ℕ). BeginsWith (script_marks plan n count journal) (marks Side.Sent (history_at n count journal))) (sym (equal-number number 0 zero))
+        (zero-exact plan terms count journal listens none lawful few told_zero)
+    of false apart =
+        subst (λ (past : List Item). BeginsWith (script_marks plan number count journal) (marks Side.Sent past)) (sym (ap (λ (b : Bool). if b then zero_history journal else life number count journal) apart))
+        (above number count apart)
+
+-- so of each session that a lawful log shows
+pub shown-whole : (plan : PlainPlan) (terms : Terms) (log : List Moment) → plan.command ≡ Command.Listen → NoneTunes plan.offers → IsLawfulLog terms none_tunes log → octets_got log < 2 ^ 32
+    → ShowsTold plan log → ShowsToldZero plan log → ShowsWhole plan log
+shown-whole plan terms log listens none lawful few above zero past shows =
+    let most = items-shown none_tunes log past shows in
+    whole-script plan terms past.journal listens none (lawful.items past shows) (omega (arith, few, most)) (shown-above plan terms log listens lawful few above past shows) (zero past shows)

@@ -1,0 +1,133 @@
+-- What a listener keeps of its script on channel zero: what it gave there is what its script lists,
+-- and the answers that it prepared are those that the script owes (RFC 3080, section 2.3.1).
+-- The code keeps no list: it prepares an answer as its request is settled, and lets it go as what
+-- it waits for comes.
+use Rattle.std.specs.Prelude.{◌≡◌, ◌⊎◌, ℕ, Bool, true, ◌||◌, List, [], ◌∷◌, None, Some, map}
+use Rattle.beep_frame.specs.declared.head.Head.{Head}
+use Rattle.beep_frame.specs.declared.kind.Kind.{Kind}
+use Rattle.beep_frame.specs.Frame.{same_kind}
+use Rattle.beep_history.specs.declared.journal.Side.{Side}
+use Rattle.beep_history.specs.Journal.{Item}
+use Rattle.beep_history.specs.Marks.{is_answered, marks, mark_modulo_2_64, previous}
+use Rattle.beep_history.specs.Broken.{under_way}
+use Rattle.beep_journal.specs.Broken.{is_greeting, none_tunes}
+use Rattle.beep_journal.specs.Journal.{Past, Shows}
+use Rattle.beep_journal.specs.Log.{Moment}
+use Rattle.beep_journal.specs.Zero.{zero_history}
+use Rattle.beep_mgmt.specs.Message.{message_said, message_text}
+use Rattle.beep_decide.specs.Decide.{PlainOffer}
+use Rattle.beep_answering.specs.Decided.{NoneTunes}
+use Rattle.beep_answering.specs.Sent.{greeting_of}
+use Rattle.beep_peer.specs.Waiting.{IsStuck}
+use Rattle.beep_session.specs.Session.{Held}
+use Rattle.beep_speaking.specs.declared.emit.Emit.{Emit}
+use Rattle.beep_talk.specs.declared.plan.Command.{Command}
+use Rattle.beep_talk.specs.Plan.{PlainPlan}
+use Rattle.beep_script.specs.Script.{BeginsWith, script_marks}
+use Rattle.beep_desk.specs.Desks.{IsDeskOf, IsDeskWithin}
+use Rattle.beep_steps.specs.Logs.{StandsOn, WaitsOn}
+use Rattle.beep_steps.specs.declared.hearing.Came.{Came}
+
+-- ---- greetings
+
+-- the greeting of an end with these offers is read as what it says
+abbrev pub IsGreetingRead : List PlainOffer → Type 0
+IsGreetingRead offers =
+    message_said (message_text (greeting_of offers)) ≡ Some (greeting_of offers)
+
+-- a reply of this kind is one message
+abbrev pub is_single : Kind → Bool
+is_single kind = same_kind Kind.Rpy kind || same_kind Kind.Err kind
+
+-- no frame of the peer has passed, and one that is under way is its greeting
+pub record IsGreetingDue (journal : List Item) : Type 0 where
+  pub none : previous Side.Received journal ≡ None
+  pub under : (head : Head) → under_way Side.Received journal ≡ Some head
+      → is_greeting head ≡ true
+
+-- of such a reply on channel zero some frames have passed and not the last, and what is under way
+-- goes on with it
+pub record IsGreetingOpen (zero : List Item) : Type 0 where
+  pub before : Head
+  pub last : previous Side.Received zero ≡ Some before
+  pub more : before.more ≡ true
+  pub single : is_single before.kind ≡ true
+  pub under : (head : Head) → under_way Side.Received zero ≡ Some head
+      → is_single head.kind ≡ true
+
+-- the peer's greeting has come, or is the next to come
+abbrev pub Meets : List Item → Type 0
+Meets journal = (is_answered Side.Sent 0 (zero_history journal) ≡ true)
+    ⊎ (IsGreetingDue journal ⊎ IsGreetingOpen (zero_history journal))
+
+-- ---- what was sent
+
+-- what was sent on channel zero is the beginning of what its script lists there, positions modulo
+-- 2^64
+abbrev pub ToldZero : PlainPlan → List Item → Type 0
+ToldZero plan journal = (count : ℕ)
+    → BeginsWith (map mark_modulo_2_64 (script_marks plan 0 count journal))
+    (map mark_modulo_2_64 (marks Side.Sent (zero_history journal)))
+
+-- so it is in the session that a log shows
+abbrev pub ShowsToldZero : PlainPlan → List Moment → Type 0
+ShowsToldZero plan log = (past : Past) → Shows none_tunes log past → ToldZero plan past.journal
+
+-- it was so at each moment
+abbrev pub AllTold : PlainPlan → List Item → Type 0
+AllTold plan [] = ToldZero plan []
+AllTold plan (item ∷ journal) = ToldZero plan (item ∷ journal) × AllTold plan journal
+
+-- ---- a session on its log
+
+-- a session listens by this plan, and offers no profile that tunes
+pub record IsPlanOf (plan : PlainPlan) (session : Held) : Type 0 where
+  pub listens : plan.command ≡ Command.Listen
+  pub role : plan.terms.role ≡ session.role
+  pub offers : plan.offers ≡ session.offers
+  pub none : NoneTunes plan.offers
+
+-- a listener's session stands for what a log shows. What it gave and prepared on channel zero is
+-- what its script lists and owes, and no answer is held back whose wait is over
+pub record DesksOn (plan : PlainPlan) (session : Held) (log : List Moment) : Type 0 where
+  pub plan_is : IsPlanOf plan session
+  pub on : StandsOn session log
+  pub meets : Meets on.journal
+  pub listed : AllTold plan on.journal
+  pub desk : IsDeskOf plan on.journal (on.given 0) session.peer.management.answers
+  pub stuck : IsStuck session.peer.lives session.peer.management
+
+-- the same while a message of channel zero waits
+pub record DesksWaiting (plan : PlainPlan) (session : Held) (log : List Moment) : Type 0 where
+  pub plan_is : IsPlanOf plan session
+  pub on : WaitsOn session log
+  pub meets : Meets on.journal
+  pub listed : AllTold plan on.journal
+  pub desk : IsDeskOf plan on.journal (on.given 0) session.peer.management.answers
+
+-- the same after an item that may clear answers: all that came may not be taken yet, and what is
+-- asked first in a life that began may not be given
+pub record DesksWithin (plan : PlainPlan) (session : Held) (log : List Moment) : Type 0 where
+  pub plan_is : IsPlanOf plan session
+  pub on : StandsOn session log
+  pub meets : Meets on.journal
+  pub listed : AllTold plan on.journal
+  pub item : Item
+  pub before : List Item
+  pub journal_is : on.journal ≡ item ∷ before
+  pub desk : IsDeskWithin plan item before (on.given 0) session.peer.management.answers
+  pub stuck : IsStuck session.peer.lives session.peer.management
+
+-- ---- what a call leaves
+
+-- what came of some octets that a listener uses
+abbrev pub ComesDesk : PlainPlan → Came → Held → List Moment → Type 0
+ComesDesk plan Came.More session log = DesksOn plan session log
+ComesDesk plan (Came.Arrived number) session log = DesksWithin plan session log
+ComesDesk plan Came.Zero session log = DesksWaiting plan session log
+
+-- what went out
+abbrev pub SaidDesk : PlainPlan → Emit → Held → List Moment → Type 0
+SaidDesk plan (Emit.Seq seq) session log = DesksOn plan session log
+SaidDesk plan (Emit.Data head) session log = DesksWithin plan session log
+SaidDesk plan Emit.Nothing session log = DesksOn plan session log
