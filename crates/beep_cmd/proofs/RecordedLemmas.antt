@@ -143,7 +143,7 @@ sent_recorded settings before after result run octets consumed recording ended l
     sent settings before after run octets consumed (ended_status cause) text result
     (over ended lines are cause n c.0 c.1 refl (subst (λ b. IsEnding b Role.Initiator before after (ended_status cause) (ended_line cause) text) (sym recording) ending)) tells
 sent_recorded settings before after result run octets consumed recording ended lines are (record_starved cause c is none) =
-    send_starved is (record { octets = octets; text = []; consumed = consumed; appended = none; holds = (refl, inr (lines, are, c.1.above)) })
+    send_starved is (record { octets = octets; text = []; consumed = consumed; appended = none; holds = (refl, inr (lines, are, cause, c.1)) })
 
 pub listened_recorded : (settings : Settings) (before after : Seen) (result : ℕ) (source : SourceState) (sink sink_after : SinkState) → ListenRecorded settings before after result sink sink_after
     → Listened settings before after result (run_of source source sink sink_after)

@@ -199,10 +199,12 @@ pub record BeginsSendReport (settings : Settings) (old new : SourceState) (befor
   pub others : List ℕ
   pub report : IsSendReport settings old new before after octets (text ++ others) status
 
--- no link was asked for; or the script of the lines of these octets was kept
+-- no link was asked for; or the lines of these octets were sent, as far as a session goes that
+-- ended so
 abbrev pub KeepsInput : Settings → Seen → Seen → List ℕ → Type 0
 KeepsInput settings before after octets = (after ≡ before)
-    ⊎ (lines : List (List ℕ)) × AreLines lines octets × KeepsLines settings lines before after
+    ⊎ (lines : List (List ℕ)) × AreLines lines octets
+    × (cause : Ended) × SendsLines cause settings lines before after
 
 -- what a run of `send` that ended so reports: a status with its report; 5, where a write failed; 7,
 -- where it was out of memory, and still sent nothing but its lines
