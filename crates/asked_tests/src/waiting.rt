@@ -17,13 +17,12 @@ enum Step {
     Refuse(Side),
 }
 
-/// How many requests and how many starts wait, and whether a close of 1 and one of 0 do: those
+/// How many requests wait, and whether a close of 1 and one of 0 do: those
 /// that were received, and those that were sent. `live` is whether channel 1 is.
 #[derive(Clone, Copy, Debug, PartialEq)]
 struct Left {
     live: bool,
     waits: [usize; 2],
-    starts: [usize; 2],
     closes: [bool; 2],
     leaves: [bool; 2],
 }
@@ -46,7 +45,6 @@ struct Ends {
 const NOTHING: Left = Left {
     live: false,
     waits: [0, 0],
-    starts: [0, 0],
     closes: [false, false],
     leaves: [false, false],
 };
@@ -64,7 +62,6 @@ static STORIES: [Story; 11] = [
         steps: &[Step::Start(Side::Received)],
         left: Left {
             waits: [1, 0],
-            starts: [1, 0],
             ..NOTHING
         },
     },
@@ -208,7 +205,13 @@ fn grant(alloc: Global, said: &Option<Mgmt>) -> Result<Mgmt, NoMemory> {
         Some(Mgmt::Start { .. }) => Ok(Mgmt::Chosen {
             profile: profile(alloc)?,
         }),
-        Some(_) => Ok(Mgmt::Okay),
+        Some(
+            Mgmt::Greeting { .. }
+            | Mgmt::Chosen { .. }
+            | Mgmt::Close { .. }
+            | Mgmt::Okay
+            | Mgmt::Fault { .. },
+        ) => Ok(Mgmt::Okay),
         None => Ok(Mgmt::Greeting {
             features: None,
             localize: None,
@@ -292,7 +295,6 @@ fn what_is_left(ends: &Ends) -> Left {
     Left {
         live: ends.live,
         waits: [received.len(), sent.len()],
-        starts: [received.count_starts(), sent.count_starts()],
         closes: [received.closes(1), sent.closes(1)],
         leaves: [received.is_leaving(), sent.is_leaving()],
     }
@@ -325,10 +327,7 @@ fn each_story_leaves_its_requests(rt: HostRuntime) -> Result<(), Fail> {
 #[test]
 fn the_implied_request_waits_at_first(rt: HostRuntime) -> Result<(), Fail> {
     let mut waiting = Waiting::new(rt.alloc())?;
-    assert_eq!(rt;
-        (waiting.len(), waiting.is_empty(), waiting.starts(1)),
-        (1, false, false)
-    );
+    assert_eq!(rt; (waiting.len(), waiting.is_empty()), (1, false));
     let greeting = Some(grant(rt.alloc(), &None)?);
     assert!(rt; waiting.fits(Kind::Rpy, &greeting));
     let _answered = waiting.pop();

@@ -14,7 +14,7 @@ use Rattle.beep_journal.specs.Zero.{has_form}
 use Rattle.beep_decide.specs.declared.decision.Offer.{Offer}
 use Rattle.beep_decide.specs.declared.decision.Placed.{Placed}
 use Rattle.beep_decide.specs.Plain.{plain_offer}
-use Rattle.beep_decide.specs.declared.limits.TheConstants.{MAX_CHANNELS}
+use Rattle.beep_turns.specs.declared.turns.TheConstants.{MAX_CHANNELS}
 use Rattle.beep_decide.specs.Numbers.{other_role, may_start, has_parity}
 use Rattle.beep_decide.specs.Decide.{PlainOffer, PlainStanding, Decision, refuse, choose, tune, grant_close, is_among, is_used, used_count, later, offer_of, first_offered, first_row, has_other_encoding, decide_offer, decide_profile, decide_start, decide, uri_at}
 use Rattle.beep_decide.specs.Laws.{IsOfferAt}

@@ -1,9 +1,10 @@
 -- What a decision on a request of channel zero calls for: the answer, the channel that is to be
 -- granted, and what the request is settled as; and what a reply settles an own request as (RFC
 -- 3080, section 2.3.1).
-use Rattle.std.specs.Prelude.{◌≡◌, ℕ, ◌-◌, ◌^◌, ◌==◌, Bool, true, false, ◌||◌, if◌then◌else◌, List, [], ◌∷◌, ◌++◌, length, min, bytes_eq, Option, None, Some}
+use Rattle.std.specs.Prelude.{◌≡◌, ℕ, ◌-◌, ◌==◌, Bool, true, false, ◌||◌, if◌then◌else◌, List, [], ◌∷◌, ◌++◌, length, min, bytes_eq, Option, None, Some}
 use Rattle.std.specs.List.{list_any}
 use Rattle.std.specs.Option.{option_to_list}
+use Rattle.beep_octets.specs.Numbers.{numbers_32}
 use Rattle.beep_octets.specs.declared.octets.Octets.{Octets}
 use Rattle.beep_frame.specs.declared.kind.Kind.{Kind}
 use Rattle.beep_mgmt.specs.Form.{Form, PlainProfile, greeting, start, chosen, close, okay, fault}
@@ -109,7 +110,7 @@ pub record IsFirstOf (listed : List PlainProfile) (uri : List ℕ) (place : ℕ)
   pub whole : listed ≡ before ++ profile ∷ after
   pub same : bytes_eq profile.uri uri ≡ true
   pub none_before : list_any (λ other. bytes_eq other.uri uri) before ≡ false
-  pub placed : place ≡ min (length before) (2 ^ 32 - 1)
+  pub placed : place ≡ min (length before) (numbers_32 - 1)
 
 -- a start of this number, which listed these profiles, was granted with this one
 pub record IsBegun (number : ℕ) (listed : List PlainProfile) (profile : PlainProfile)

@@ -76,14 +76,14 @@ pub fn close_of(alloc: Global, number: u32) -> Mgmt
     }
 }
 
-/// Its message.
+/// The octets of such a close as a message: its MIME header and its element.
 pub fn close_text(alloc: Global, number: u32) -> Result<Octets, NoMemory>
     ensures { IfOk result (λ octets. IsMessage octets.octets (closing_of number)) }
 {
     message_of(alloc, &close_of(alloc, number))
 }
 
-/// The message of a value.
+/// The octets of a value as a message: its MIME header and its element.
 pub fn message_of(alloc: Global, value: &Mgmt) -> Result<Octets, NoMemory>
     requires writable { IsTrue (is_writable (form_of value.now)) }
     ensures text { IfOk result (λ octets. octets.octets ≡ message_text (form_of value.now)) }

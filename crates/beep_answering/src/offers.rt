@@ -50,7 +50,7 @@ impl Offers {
         Ok(())
     }
 
-    /// How many they are.
+    /// How many profiles are offered, at most `MAX_OFFERS`.
     pub fn len(&self) -> usize
         ensures { result ≡ length self.now }
     {

@@ -9,7 +9,7 @@ ghost use Rattle.beep_mgmt.specs.Form.{Form};
 ghost use Rattle.beep_journal.specs.Plain.{form_in};
 ghost use Rattle.beep_seq.specs.declared.limits.TheConstants.{MIN_WINDOW, MAX_WINDOW};
 ghost use Rattle.beep_decide.specs.Decide.{PlainStanding, used_count, refuse, choose, grant_close, decide as decided};
-ghost use Rattle.beep_decide.specs.declared.limits.TheConstants.{MAX_CHANNELS};
+ghost use Rattle.beep_turns.specs.declared.turns.TheConstants.{MAX_CHANNELS};
 ghost use Rattle.beep_decide.specs.Plain.{plain_standing};
 ghost use Rattle.beep_management.specs.Values.{prepared_of};
 ghost use Rattle.beep_answering.specs.Sent.{is_uri};

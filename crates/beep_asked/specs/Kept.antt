@@ -1,13 +1,13 @@
 -- What an end keeps of a request of channel zero that waits for its reply, by value (RFC 3080,
 -- sections 2.3.1.2 and 2.3.1.3).
 -- The code keeps texts and lists of profiles; here what a request says is its form.
-use Rattle.std.specs.Prelude.{ℕ, ◌-◌, ◌==◌, nat_lt, Bool, true, false, not, ◌&&◌, ◌||◌, if◌then◌else◌, List, length, map, filter, take, slice_get, Option, None, Some}
+use Rattle.std.specs.Prelude.{ℕ, ◌-◌, ◌==◌, nat_lt, Bool, true, false, not, ◌&&◌, ◌||◌, if◌then◌else◌, List, length, map, take, slice_get, Option, None, Some}
 use Rattle.std.specs.List.{list_any}
 use Rattle.beep_frame.specs.declared.kind.Kind.{Kind}
 use Rattle.beep_frame.specs.Frame.{same_kind}
 use Rattle.beep_mgmt.specs.Form.{Form, greeting, start, chosen, close, okay, fault}
 use Rattle.beep_journal.specs.Zero.{has_form}
-use Rattle.beep_decide.specs.Asks.{is_start_of, is_start, is_close_of}
+use Rattle.beep_decide.specs.Asks.{is_start_of, is_close_of}
 
 -- what the request says, whether it is the implied one, and of a close above 0 whether the life
 -- that it names is live; of others never
@@ -88,13 +88,13 @@ after_grant kept requests = cleared_by kept.said kept.names requests
 
 -- ---- what is asked of those that wait
 
--- a start of this number waits
-abbrev pub starts : ℕ → List Kept → Bool
-starts number requests = list_any (λ kept. is_start_of number kept.said) requests
-
 -- it is a close of 0, or one of this number whose life is live
 abbrev pub closes_one : ℕ → Kept → Bool
 closes_one number kept = is_close_of number kept.said && (number == 0 || kept.names)
+
+-- a start of this number waits
+abbrev pub starts : ℕ → List Kept → Bool
+starts number requests = list_any (λ kept. is_start_of number kept.said) requests
 
 -- a close of this number waits: of 0, or one whose life is live
 abbrev pub closes : ℕ → List Kept → Bool
@@ -107,7 +107,3 @@ is_leaving requests = list_any (λ kept. is_close_of 0 kept.said) requests
 -- one waits that is no close of 0
 abbrev pub asks_otherwise : List Kept → Bool
 asks_otherwise requests = list_any (λ kept. not (is_close_of 0 kept.said)) requests
-
--- how many starts wait
-abbrev pub count_starts : List Kept → ℕ
-count_starts requests = length (filter (λ kept. is_start kept.said) requests)

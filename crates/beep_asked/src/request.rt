@@ -16,7 +16,7 @@ pub struct Request {
 }
 
 impl Request {
-    ghost use Rattle.beep_decide.specs.Asks.{is_start, is_start_of, is_close_of};
+    ghost use Rattle.beep_decide.specs.Asks.{is_close_of};
     ghost use Rattle.beep_asked.specs.Kept.{closes_one, clear_one, fits};
     ghost use Rattle.beep_asked.specs.Request.{kept_of};
 
@@ -28,40 +28,6 @@ impl Request {
             said: None,
             implied: true,
             names: false,
-        }
-    }
-
-    /// Whether it is a start.
-    pub(crate) fn is_start(&self) -> bool
-        ensures { result ≡ is_start (kept_of self.now).said }
-    {
-        match &self.said {
-            Some(Mgmt::Start { .. }) => true,
-            Some(
-                Mgmt::Greeting { .. }
-                | Mgmt::Chosen { .. }
-                | Mgmt::Close { .. }
-                | Mgmt::Okay
-                | Mgmt::Fault { .. },
-            )
-            | None => false,
-        }
-    }
-
-    /// Whether it is a start of this number.
-    pub(crate) fn is_start_of(&self, number: u32) -> bool
-        ensures { result ≡ is_start_of number (kept_of self.now).said }
-    {
-        match &self.said {
-            Some(Mgmt::Start { number: of, .. }) => *of == number,
-            Some(
-                Mgmt::Greeting { .. }
-                | Mgmt::Chosen { .. }
-                | Mgmt::Close { .. }
-                | Mgmt::Okay
-                | Mgmt::Fault { .. },
-            )
-            | None => false,
         }
     }
 

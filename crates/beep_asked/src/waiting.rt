@@ -1,12 +1,12 @@
 //! The requests of one side of channel zero that wait for their reply (RFC 3080, sections 2.3.1
 //! and 2.6.1).
-ghost use Rattle.std.specs.Prelude.{◌≡◌, ◌∷◌, ◌++◌, ◌+◌, ◌<◌, ◌≤◌, ◌==◌, [], length, filter, not, option_map, false, IfOk, OnOk, IsOk};
+ghost use Rattle.std.specs.Prelude.{◌≡◌, ◌∷◌, ◌++◌, ◌+◌, ◌<◌, ◌≤◌, ◌==◌, [], length, not, option_map, false, IfOk, OnOk, IsOk};
 ghost use Rattle.std.specs.List.{list_any};
 ghost use Rattle.std.specs.Option.{option_copied, option_to_list, option_map_or};
 ghost use Rattle.std.specs.VecDeque.{deque_len, deque_capacity};
 ghost use Rattle.beep_mgmt.specs.Form.{form_of};
-ghost use Rattle.beep_decide.specs.Asks.{is_start, is_start_of, is_close_of};
-ghost use Rattle.beep_asked.specs.Kept.{implied_request, oldest, others, fits, after_grant, closes_one, starts, closes, is_leaving, asks_otherwise, count_starts};
+ghost use Rattle.beep_decide.specs.Asks.{is_close_of};
+ghost use Rattle.beep_asked.specs.Kept.{implied_request, oldest, others, fits, after_grant, closes_one, closes, is_leaving, asks_otherwise};
 ghost use Rattle.beep_asked.specs.Kept.{clear as cleared};
 ghost use Rattle.beep_asked.specs.Request.{kept_of, all_kept};
 
@@ -151,13 +151,6 @@ impl Waiting {
         }
     }
 
-    /// Whether a start of this number waits.
-    pub fn starts(&self, number: u32) -> bool
-        ensures { result ≡ starts number self.now.requests }
-    {
-        has_start_of(&self.list, number)
-    }
-
     /// Whether a close of this number waits: one of 0, or one whose life is live.
     pub fn closes(&self, number: u32) -> bool
         ensures { result ≡ closes number self.now.requests }
@@ -178,13 +171,6 @@ impl Waiting {
     {
         has_other(&self.list)
     }
-
-    /// How many starts wait.
-    pub fn count_starts(&self) -> usize
-        ensures { result ≡ count_starts self.now.requests }
-    {
-        number_of_starts(&self.list)
-    }
 }
 
 /// Clears each of the requests.
@@ -196,14 +182,6 @@ fn clear_all(list: &mut VecDeque<Request>, number: u32)
     for i in 0..list.len() {
         list[i].clear(number);
     }
-}
-
-/// Whether one of them is a start of this number.
-fn has_start_of(list: &VecDeque<Request>, number: u32) -> bool
-    ensures { result ≡ list_any
-        (λ request. is_start_of number (kept_of request).said) list.now.items }
-{
-    list.iter().any(|request| request.is_start_of(number))
 }
 
 /// Whether one of them is a close of 0, or one of this number whose life is live.
@@ -226,18 +204,4 @@ fn has_other(list: &VecDeque<Request>) -> bool
         list.now.items }
 {
     list.iter().any(|request| !request.is_close_of(0))
-}
-
-/// How many of them are starts.
-fn number_of_starts(list: &VecDeque<Request>) -> usize
-    ensures { result ≡ length
-        (filter (λ request. is_start (kept_of request).said) list.now.items) }
-{
-    let mut count = 0;
-    for i in 0..list.len() {
-        if list[i].is_start() {
-            count += 1;
-        }
-    }
-    count
 }

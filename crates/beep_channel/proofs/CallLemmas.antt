@@ -377,7 +377,7 @@ owed-place given n e = of (given.owed == 0) e
     of true e = cc
     of false e = ap (λ (o : Option ℕ). option_map_or (λ (m : ℕ). m) o n) (sym e)
 
--- ---- what the calls below tell
+-- ---- what the calls below answer
 
 pub some-same : (x y : Head) → Some x ≡ Some y → x ≡ y
 some-same x y e = ap (λ (o : Option Head). option_map_or (λ (h : Head). h) o x) e

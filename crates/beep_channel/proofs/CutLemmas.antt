@@ -206,7 +206,7 @@ module _ (size : ℕ) (c : Held) (past : List Item) (s : HeldStands size c past)
     };
   }
 
-  -- ---- the head, as it is told
+  -- ---- the head, as it is answered
 
   told-number : next_number place k c.life.sent c.life.received ≡ next_number count k c.life.sent c.life.received
   told-number = of (is_msg k) refl (was_more c.life.sent) refl

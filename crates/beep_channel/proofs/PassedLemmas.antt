@@ -73,7 +73,7 @@ module _ (size : ℕ) (c : Held) (past : List Item) (s : HeldStands size c past)
   open-is : is_msg head.kind ≡ true → as_number (is_open c.life.received) ≡ 1
   open-is m = rw (begun, m) refl
 
-  -- its tag is that of the history, told modulo 2^64
+  -- its tag is that of the history, modulo 2^64
   tag-is : modulo_2_64 (tag_of Side.Received past head) ≡ arrived-tag
   tag-is =
       let e : Some arrived-tag ≡ Some (modulo_2_64 (tag_of Side.Received past head))

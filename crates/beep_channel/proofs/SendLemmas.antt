@@ -177,7 +177,7 @@ module _ (life : Life) (past : List Item) (channel seqno size ansno place : ℕ)
           on false true q = refl
           on false false q = refl
 
-  -- the first message has its tag as the history tells it
+  -- the first message has the tag that the history gives, modulo 2^64
   pub tag-told : (reply : ℕ) → reply ≡ length (requests Side.Received past) - life.received.waiting
       → IsTagged own-first reply (message ∷ ms) → modulo_2_64 (tag_of Side.Sent (began Side.Sent head ∷ past) head) ≡ message.tag
   tag-told reply e t = ap (λ (x : Tag). modulo_2_64 x) (tag-is reply (e ∙ ap (λ (n : ℕ). length (requests Side.Received past) - n) (ap (λ (kept : Kept). kept.waiting) stands.received))) ∙ sym t.0

@@ -116,11 +116,6 @@ next_head most c =
     head_from (next_size most c.sends.room c.queue) c.queue c.number c.seqno c.life.sent
     c.life.received
 
--- a reply is next
-abbrev pub is_reply_next : List Message → Bool
-is_reply_next [] = false
-is_reply_next (m ∷ ms) = is_reply m.tag.kind
-
 -- ---- a SEQ
 
 -- the SEQ with the full window

@@ -123,7 +123,7 @@ AreNumbered answers (end tag ∷ marks) =
     (tag.ansno ≡ (if is_ans tag.kind then message_number answers else 0))
     × AreNumbered (answers_with tag.kind answers) marks
 
--- so many answers as a call tells them
+-- the number of so many answers, modulo 2^31, where there are any
 abbrev pub answer_number : ℕ → Option ℕ
 answer_number answers = if nat_lt 0 answers then Some (message_number answers) else None
 
@@ -144,8 +144,8 @@ pub record IsCounted (is_zero : Bool) (kept : Given) (given taken : List Mark) :
 -- ---- the relation
 
 -- a channel whose own window has this size stands for the history of its life, and for the marks
--- that were given and taken in it, as calls tell them: the sent marks and then the unsent ones are
--- those that were given, and the untaken ones are the last of those that arrived
+-- that were given and taken in it, positions modulo 2^64: the sent marks and then the unsent ones
+-- are those that were given, and the untaken ones are the last of those that arrived
 pub record Stands (size : ℕ) (c : Held) (past : List Item) (given taken : List Mark) : Type 0 where
   pub held : HeldStands size c past
   pub all_given : given ≡ map mark_modulo_2_64 (marks Side.Sent past) ++ unsent_marks c.queue
@@ -205,7 +205,7 @@ pub record IsNext (size most : ℕ) (old new : Held) (past : List Item) (given t
   pub stands : Stands size new (passed Side.Sent head payload ∷ began Side.Sent head ∷ past)
       given taken
 
--- ---- a SEQ that was told
+-- ---- a SEQ that was sent
 
 -- the octets that were taken: those that arrived, but for the untaken ones
 abbrev pub taken_octets : Held → List Item → ℕ

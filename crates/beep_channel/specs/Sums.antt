@@ -71,8 +71,8 @@ abbrev pub tag_at : ℕ → ℕ → Message → Tag
 tag_at own reply m =
     record m.tag { request = if is_msg m.tag.kind then own else reply }
 
--- each message has its tag as a call tells it, from the position of the next own request and that
--- of the next reply on
+-- each message has its tag modulo 2^64, from the position of the next own request and that of the
+-- next reply on
 abbrev pub IsTagged : ℕ → ℕ → List Message → Type 0
 IsTagged own reply [] = Unit {0}
 IsTagged own reply (m ∷ ms) =

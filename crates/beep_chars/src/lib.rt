@@ -7,5 +7,5 @@ mod limits;
 mod text;
 
 pub use characters::{are_allowed, is_allowed, is_name_char, is_name_start, is_space};
-pub use limits::MAX_NAME;
+pub use limits::{MAX_NAME, MAX_URI};
 pub use text::Text;

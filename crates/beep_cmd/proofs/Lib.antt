@@ -9,3 +9,4 @@ mod StatusLemmas
 mod PairLemmas
 mod ListenLemmas
 mod RecordedLemmas
+mod ShortLemmas

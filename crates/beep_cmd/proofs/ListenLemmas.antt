@@ -11,8 +11,8 @@ use Rattle.beep_settings.specs.declared.settings.Settings.{Settings}
 use Rattle.beep_link.specs.declared.ended.Ended.{Ended}
 use Rattle.beep_link.specs.Causes.{Seen, WhereKnown, WithText}
 use Rattle.beep_steps.specs.Refusing.{GoesUnrefused}
-use Rattle.beep_steps.specs.Scripting.{KeepsWholeOn}
-use Rattle.beep_steps.specs.Logs.{moments, Shows, terms_by, ReadsOnlyGoing}
+use Rattle.beep_steps.specs.EachEnd.{EachEndOn}
+use Rattle.beep_steps.specs.Logs.{moments, Shows, terms_by}
 use Rattle.beep_listener.specs.Listening.{is_whole, listener_plan, AreLinesOf}
 use Rattle.beep_cmd.specs.Ends.{ended_line, ended_status, ends_run, Tells, whole_line}
 use Rattle.beep_cmd.specs.Listening.{AreTold, EndsBy, first_of, run_cause, Session, SessionsOver, text_of, WritesLines, WritesOf}
@@ -36,27 +36,26 @@ module _ (settings : Settings) (cause : Ended) (before used after : Seen) (link 
   at_it = ap (λ (n : ℕ). (after.state n).log) (sym is) ∙ ap (λ (l : Link). l.log) shut
 
   session_by : (log : List Entry) → (after.state before.counts.given).log ≡ Some log → Shows (terms_by Role.Listener settings) cause log
-      → WithText old new (AreLinesOf (listener_plan settings) (is_whole cause) (moments log)) → KeepsWholeOn (listener_plan settings) log
-      → GoesUnrefused (terms_by Role.Listener settings) cause log → ReadsOnlyGoing (terms_by Role.Listener settings) log → WritesSession settings cause before after old new
-  session_by log told shows text script unrefused waits = record {
+      → WithText old new (AreLinesOf (listener_plan settings) (is_whole cause) (moments log))
+      → GoesUnrefused (terms_by Role.Listener settings) cause log → EachEndOn (listener_plan settings) cause log → WritesSession settings cause before after old new
+  session_by log told shows text unrefused each = record {
     text = text.0;
     lines = text.1;
-    writes = subst (WhereKnown (WritesOf settings (record { cause = cause; text = text.0 }))) (sym told) (record { shows = shows; lines = text.2; script = script; unrefused = unrefused; waits = waits });
+    writes = subst (WhereKnown (WritesOf settings (record { cause = cause; text = text.0 }))) (sym told) (record { shows = shows; lines = text.2; unrefused = unrefused; each = each });
   }
 
   pub session_lines : WhereKnown (Shows (terms_by Role.Listener settings) cause) (used.state link).log
       → WhereKnown (λ log. WithText old new (AreLinesOf (listener_plan settings) (is_whole cause) (moments log))) (used.state link).log
-      → WhereKnown (KeepsWholeOn (listener_plan settings)) (used.state link).log → WhereKnown (GoesUnrefused (terms_by Role.Listener settings) cause) (used.state link).log
-      → WhereKnown (ReadsOnlyGoing (terms_by Role.Listener settings)) (used.state link).log
+      → WhereKnown (GoesUnrefused (terms_by Role.Listener settings) cause) (used.state link).log
+      → WhereKnown (EachEndOn (listener_plan settings) cause) (used.state link).log
       → AreTold before after → WritesSession settings cause before after old new
-  session_lines shows text script unrefused waits told =
+  session_lines shows text unrefused each told =
       let it = told before.counts.given (omega arith) (omega (arith, one)) in
       let of : (used.state link).log ≡ Some it.0 = sym at_it ∙ it.1 in
       session_by it.0 it.1 (subst (WhereKnown (Shows (terms_by Role.Listener settings) cause)) of shows)
       (subst (WhereKnown (λ log. WithText old new (AreLinesOf (listener_plan settings) (is_whole cause) (moments log)))) of text)
-      (subst (WhereKnown (KeepsWholeOn (listener_plan settings))) of script)
       (subst (WhereKnown (GoesUnrefused (terms_by Role.Listener settings) cause)) of unrefused)
-      (subst (WhereKnown (ReadsOnlyGoing (terms_by Role.Listener settings))) of waits)
+      (subst (WhereKnown (EachEndOn (listener_plan settings) cause)) of each)
 
 -- ---- session after session
 

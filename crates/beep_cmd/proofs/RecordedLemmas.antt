@@ -12,9 +12,10 @@ use Rattle.beep_wires.specs.Links.{Link, dial, accept}
 use Rattle.beep_settings.specs.declared.settings.Settings.{Settings}
 use Rattle.beep_link.specs.declared.ended.Ended.{Ended}
 use Rattle.beep_link.specs.Causes.{Seen, WhereKnown}
-use Rattle.beep_steps.specs.Logs.{IsLawfulOn, ReadsOnlyGoing, terms_by}
+use Rattle.beep_steps.specs.EachEnd.{EachEndOn}
+use Rattle.beep_steps.specs.Logs.{IsLawfulOn, terms_by}
 use Rattle.beep_steps.specs.Refusing.{GoesUnrefused}
-use Rattle.beep_steps.specs.Scripting.{KeepsWholeOn, KeepsScriptOn}
+use Rattle.beep_steps.specs.Resting.{AreShort}
 use Rattle.beep_steps.specs.Sending.{sender_plan, SendsAll}
 use Rattle.beep_listener.specs.Listening.{listener_plan}
 use Rattle.beep_recorder.specs.Kept.{RecordsLink}
@@ -156,21 +157,19 @@ pub send_caused : (settings : Settings) (cause : Ended) (before after : Seen) �
 send_caused settings cause before after r = session (cause_of Role.Initiator settings cause before after r) (λ e. r.given)
 
 -- what was sent over the one link was sent over each
-pub send_sends : (settings : Settings) (lines : List (List ℕ)) (cause : Ended) (before after : Seen) → after.counts.given ≡ before.counts.given + 1 → SentAll settings lines cause before after → SendsLines cause settings lines before after
-send_sends settings lines cause before after one sent = record {
+pub send_sends : (settings : Settings) (lines : List (List ℕ)) (cause : Ended) (before after : Seen) → after.counts.given ≡ before.counts.given + 1 → AreShort lines → SentAll settings lines cause before after → SendsLines cause settings lines before after
+send_sends settings lines cause before after one short sent = record {
   all = λ released. each_one (λ link. WhereKnown (SendsAll (sender_plan settings lines)) link.log) before after before.counts.given refl one (sent.all released);
-  above = each_one (λ link. WhereKnown (KeepsScriptOn (sender_plan settings lines)) link.log) before after before.counts.given refl one sent.above;
   unrefused = each_one (λ link. WhereKnown (GoesUnrefused (terms_by Role.Initiator settings) cause) link.log) before after before.counts.given refl one sent.unrefused;
-  waits = each_one (λ link. WhereKnown (ReadsOnlyGoing (terms_by Role.Initiator settings)) link.log) before after before.counts.given refl one sent.waits;
+  each = each_one (λ link. WhereKnown (EachEndOn (sender_plan settings lines) cause) link.log) before after before.counts.given refl one (sent.each short);
 }
 
 -- no link was given, so that none was released, and none shows otherwise
 pub unlinked_sends : (settings : Settings) (lines : List (List ℕ)) (cause : Ended) → (cause ≡ Ended.Released → ⊥) → (before after : Seen) → after.counts.given ≡ before.counts.given → SendsLines cause settings lines before after
 unlinked_sends settings lines cause other before after same = record {
   all = λ e. absurd (other e);
-  above = each_none (λ link. WhereKnown (KeepsScriptOn (sender_plan settings lines)) link.log) before after same;
   unrefused = each_none (λ link. WhereKnown (GoesUnrefused (terms_by Role.Initiator settings) cause) link.log) before after same;
-  waits = each_none (λ link. WhereKnown (ReadsOnlyGoing (terms_by Role.Initiator settings)) link.log) before after same;
+  each = each_none (λ link. WhereKnown (EachEndOn (sender_plan settings lines) cause) link.log) before after same;
 }
 
 pub listen_caused : (settings : Settings) (cause : Ended) (before after : Seen) → settings.sessions ≡ 1 → Ran Role.Listener settings cause before after → ListenCause cause settings before after
@@ -180,14 +179,12 @@ listen_caused settings cause before after one r =
 -- what was kept over the one link was kept over each
 pub listen_keeps : (settings : Settings) (cause : Ended) (before after : Seen) → after.counts.given ≡ before.counts.given + 1 → HasListened settings cause before after → KeepsListening cause settings before after
 listen_keeps settings cause before after one kept = record {
-  script = each_one (λ link. WhereKnown (KeepsWholeOn (listener_plan settings)) link.log) before after before.counts.given refl one kept.script;
   unrefused = each_one (λ link. WhereKnown (GoesUnrefused (terms_by Role.Listener settings) cause) link.log) before after before.counts.given refl one kept.unrefused;
-  waits = each_one (λ link. WhereKnown (ReadsOnlyGoing (terms_by Role.Listener settings)) link.log) before after before.counts.given refl one kept.waits;
+  each = each_one (λ link. WhereKnown (EachEndOn (listener_plan settings) cause) link.log) before after before.counts.given refl one kept.each;
 }
 
 pub unlinked_keeps : (settings : Settings) (cause : Ended) (before after : Seen) → after.counts.given ≡ before.counts.given → KeepsListening cause settings before after
 unlinked_keeps settings cause before after same = record {
-  script = each_none (λ link. WhereKnown (KeepsWholeOn (listener_plan settings)) link.log) before after same;
   unrefused = each_none (λ link. WhereKnown (GoesUnrefused (terms_by Role.Listener settings) cause) link.log) before after same;
-  waits = each_none (λ link. WhereKnown (ReadsOnlyGoing (terms_by Role.Listener settings)) link.log) before after same;
+  each = each_none (λ link. WhereKnown (EachEndOn (listener_plan settings) cause) link.log) before after same;
 }

@@ -11,9 +11,9 @@ use Rattle.beep_wires.specs.Links.{Link, Ask, accept, dial, Asked}
 use Rattle.beep_link.specs.declared.ended.Ended.{Ended}
 use Rattle.beep_link.specs.Causes.{HasRead, IsQuiet, Seen, WhereKnown}
 use Rattle.beep_journal.specs.declared.role.Role.{Role}
-use Rattle.beep_steps.specs.Logs.{IsLawfulOn, ReadsOnlyGoing, Shows, terms_by}
+use Rattle.beep_steps.specs.EachEnd.{EachEndOn}
+use Rattle.beep_steps.specs.Logs.{IsLawfulOn, Shows, terms_by}
 use Rattle.beep_steps.specs.Refusing.{GoesUnrefused}
-use Rattle.beep_steps.specs.Scripting.{KeepsScriptOn}
 use Rattle.beep_steps.specs.Sending.{sender_plan, SendsAll}
 use Rattle.beep_settings.specs.declared.settings.Settings.{Settings}
 use Rattle.beep_input.specs.Whole.{HasEnded}
@@ -124,24 +124,17 @@ SendCause cause settings before after =
     RunCause (Rose before.counts.dials after.counts.dials) 1 cause Role.Initiator settings before
     after
 
--- the log of each link shows, where it is known, that above channel zero the script of a sender of
--- these lines was kept, and that nothing but it was asked on channel zero
-abbrev pub KeepsLines : Settings → List (List ℕ) → Seen → Seen → Type 0
-KeepsLines settings lines before after = EachOf before after
-    (λ link. WhereKnown (KeepsScriptOn (sender_plan settings lines)) link.log)
-
 -- a run of `send` that ended with a release sent all of these lines: the log of its link shows
--- each, once and in order, where it is known; whatever ended it, its script was kept; the peer
--- refused nothing where that didn't end it; and wherever was read the session went on
+-- each, once and in order, where it is known; whatever ended it, the sender of these lines kept its
+-- whole part there; and the peer refused nothing where that didn't end it
 pub record SendsLines (cause : Ended) (settings : Settings) (lines : List (List ℕ))
     (before after : Seen) : Type 0 where
   pub all : cause ≡ Ended.Released
       → EachOf before after (λ link. WhereKnown (SendsAll (sender_plan settings lines)) link.log)
-  pub above : KeepsLines settings lines before after
   pub unrefused : EachOf before after
       (λ link. WhereKnown (GoesUnrefused (terms_by Role.Initiator settings) cause) link.log)
-  pub waits : EachOf before after
-      (λ link. WhereKnown (ReadsOnlyGoing (terms_by Role.Initiator settings)) link.log)
+  pub each : EachOf before after
+      (λ link. WhereKnown (EachEndOn (sender_plan settings lines) cause) link.log)
 
 -- as many links were accepted as the settings say, or an accept failed
 abbrev pub ListenCause : Ended → Settings → Seen → Seen → Type 0

@@ -13,8 +13,8 @@ use Rattle.beep_settings.specs.declared.settings.Settings.{Settings}
 use Rattle.beep_link.specs.declared.ended.Ended.{Ended}
 use Rattle.beep_link.specs.Causes.{Seen, WhereKnown}
 use Rattle.beep_steps.specs.Refusing.{GoesUnrefused}
-use Rattle.beep_steps.specs.Scripting.{KeepsWholeOn}
-use Rattle.beep_steps.specs.Logs.{moments, ReadsOnlyGoing, Shows, terms_by}
+use Rattle.beep_steps.specs.EachEnd.{EachEndOn}
+use Rattle.beep_steps.specs.Logs.{moments, Shows, terms_by}
 use Rattle.beep_listener.specs.Listening.{is_whole, listener_plan, AreLinesOf}
 use Rattle.beep_cmd.specs.Ends.{ended_line, ended_status, ends_run, EachOf, Tells}
 
@@ -59,9 +59,8 @@ pub record WritesOf (settings : Settings) (session : Session) (log : List Entry)
   pub shows : Shows (terms_by Role.Listener settings) session.cause log
   pub lines : AreLinesOf (listener_plan settings) (is_whole session.cause) (moments log)
       session.text
-  pub script : KeepsWholeOn (listener_plan settings) log
   pub unrefused : GoesUnrefused (terms_by Role.Listener settings) session.cause log
-  pub waits : ReadsOnlyGoing (terms_by Role.Listener settings) log
+  pub each : EachEndOn (listener_plan settings) session.cause log
 
 -- the sessions over the links from this number on up to another, the latest first
 abbrev pub SessionsOver : Settings → (ℕ → Link) → ℕ → List Session → ℕ → Type 0

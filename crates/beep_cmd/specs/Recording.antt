@@ -6,9 +6,9 @@ use Rattle.beep_journal.specs.declared.role.Role.{Role}
 use Rattle.beep_wires.specs.States.{SinkState}
 use Rattle.beep_link.specs.declared.ended.Ended.{Ended}
 use Rattle.beep_link.specs.Causes.{Seen, WhereKnown}
-use Rattle.beep_steps.specs.Logs.{ReadsOnlyGoing, terms_by}
+use Rattle.beep_steps.specs.EachEnd.{EachEndOn}
+use Rattle.beep_steps.specs.Logs.{terms_by}
 use Rattle.beep_steps.specs.Refusing.{GoesUnrefused}
-use Rattle.beep_steps.specs.Scripting.{KeepsWholeOn}
 use Rattle.beep_listener.specs.Listening.{listener_plan}
 use Rattle.beep_settings.specs.declared.settings.Settings.{Settings}
 use Rattle.beep_wires.specs.Links.{Link}
@@ -61,12 +61,10 @@ SendRecorded settings lines before after status old new =
 -- among its channels, that the peer refused nothing where that didn't end the session, and that
 -- wherever was read the session went on
 pub record KeepsListening (cause : Ended) (settings : Settings) (before after : Seen) : Type 0 where
-  pub script : EachOf before after
-      (λ link. WhereKnown (KeepsWholeOn (listener_plan settings)) link.log)
   pub unrefused : EachOf before after
       (λ link. WhereKnown (GoesUnrefused (terms_by Role.Listener settings) cause) link.log)
-  pub waits : EachOf before after
-      (λ link. WhereKnown (ReadsOnlyGoing (terms_by Role.Listener settings)) link.log)
+  pub each : EachOf before after
+      (λ link. WhereKnown (EachEndOn (listener_plan settings) cause) link.log)
 
 -- what a run of `listen` that is recorded writes, and that it kept its script
 abbrev pub ListenRecorded : Settings → Seen → Seen → ℕ → SinkState → SinkState → Type 0

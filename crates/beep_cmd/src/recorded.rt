@@ -6,6 +6,7 @@ ghost use Rattle.beep_link.specs.declared.ended.Ended.{Ended as EndedValue};
 ghost use Rattle.beep_wires.specs.Links.{Link};
 ghost use Rattle.beep_record.specs.declared.limits.TheConstants.{MAX_STATUS};
 ghost use Rattle.beep_recorder.specs.Kept.{RecordsLink};
+ghost use Rattle.beep_steps.specs.Resting.{AreShort};
 ghost use Rattle.beep_cmd.specs.Ends.{AcceptsAtMost, DialsOnce, ended_status, ListenCause, seen_of, WritesLawfully};
 ghost use Rattle.beep_cmd.specs.Recording.{ListenRecorded, SendRecorded, TellsRecord, TellsWhole};
 
@@ -31,7 +32,7 @@ pub(crate) fn record_send<O: Sink, W: Wires>(
     requires fit { AreFit settings.now }
     requires empty { last.old.octets ≡ [] }
     requires room { LAST_ROOM ≤ last.old.spare }
-    ensures told { SendRecorded settings.now lines.now
+    ensures told { AreShort lines.now → SendRecorded settings.now lines.now
         (seen_of (W.state wires.old) (W.counts wires.old)
         (W.asked wires.old) (W.lent wires.old))
         (seen_of (W.state wires.new) (W.counts wires.new)

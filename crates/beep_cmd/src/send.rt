@@ -4,6 +4,7 @@ ghost use Rattle.beep_journal.specs.declared.role.Role.{Role as RoleValue};
 ghost use Rattle.beep_steps.specs.Ends.{AreFit};
 ghost use Rattle.beep_input.specs.declared.whole.TheConstants.{MAX_INPUT};
 ghost use Rattle.beep_link.specs.declared.ended.Ended.{Ended as EndedValue};
+ghost use Rattle.beep_steps.specs.Resting.{AreShort};
 ghost use Rattle.beep_cmd.specs.Ends.{DialsOnce, seen_of, SendCause, SendsLines, Sent, WritesLawfully};
 ghost use Rattle.beep_show.specs.Show.{run_of};
 
@@ -72,7 +73,7 @@ fn send_lines<W: Wires>(alloc: Global, settings: &Settings, lines: &Entries, wir
         (W.asked wires.old) (W.lent wires.old))
         (seen_of (W.state wires.new) (W.counts wires.new)
         (W.asked wires.new) (W.lent wires.new)) }
-    ensures sent { SendsLines result settings.now lines.now
+    ensures sent { AreShort lines.now → SendsLines result settings.now lines.now
         (seen_of (W.state wires.old) (W.counts wires.old)
         (W.asked wires.old) (W.lent wires.old))
         (seen_of (W.state wires.new) (W.counts wires.new)

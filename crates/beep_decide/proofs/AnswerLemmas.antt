@@ -7,7 +7,7 @@ use Rattle.beep_frame.specs.declared.kind.Kind.{Kind}
 use Rattle.beep_mgmt.specs.Form.{Form, greeting, start, chosen, close, okay, fault, PlainProfile}
 use Rattle.beep_journal.specs.Zero.{has_form}
 use Rattle.beep_decide.specs.declared.decision.Placed.{Placed}
-use Rattle.beep_decide.specs.declared.limits.TheConstants.{MAX_CHANNELS}
+use Rattle.beep_turns.specs.declared.turns.TheConstants.{MAX_CHANNELS}
 use Rattle.beep_decide.specs.Numbers.{other_role, may_start}
 use Rattle.beep_decide.specs.Decide.{PlainOffer, PlainStanding, Decision, refuse, choose, tune, grant_close, is_among, is_used, used_count, later, offer_of, first_offered, first_row, has_other_encoding, decide_offer, decide_profile, decide_start, decide, uri_at, answer_of}
 use Rattle.beep_decide.specs.Laws.{IsOfferAt, IsFirstOffered}

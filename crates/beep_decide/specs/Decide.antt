@@ -7,7 +7,7 @@ use Rattle.beep_mgmt.specs.declared.profile.Encoding.{Encoding}
 use Rattle.beep_mgmt.specs.Form.{Form, greeting, start, chosen, close, okay, fault, PlainProfile}
 use Rattle.beep_journal.specs.declared.role.Role.{Role}
 use Rattle.beep_decide.specs.declared.decision.Placed.{Placed}
-use Rattle.beep_decide.specs.declared.limits.TheConstants.{MAX_CHANNELS}
+use Rattle.beep_turns.specs.declared.turns.TheConstants.{MAX_CHANNELS}
 use Rattle.beep_decide.specs.Numbers.{other_role, may_start}
 
 -- a profile that an end offers: its URI, and whether a start of it is tuning

@@ -8,7 +8,6 @@
 mod asks;
 mod decision;
 pub mod laws;
-mod limits;
 mod numbers;
 mod table;
 
@@ -16,6 +15,5 @@ pub use asks::{
     has_own_close, has_own_release, has_own_start, is_close_of, is_greeted, is_start, is_start_of,
 };
 pub use decision::{Answer, Offer, Standing};
-pub use limits::MAX_CHANNELS;
 pub use numbers::{may_start, other_role};
 pub use table::decide;

@@ -9,11 +9,24 @@ ghost use Rattle.beep_decide.specs.Decide.{is_among, is_used, used_count, offer_
 ghost use Rattle.beep_decide.specs.Plain.{plain_offer, plain_standing, decision_of};
 
 use crate::decision::{Answer, Offer, Placed, Standing};
-use crate::limits::MAX_CHANNELS;
 use crate::numbers::{may_start, other_role};
 use beep_mgmt::{Encoding, Mgmt, Profile};
 use beep_octets::{NoMemory, Octets};
+use beep_turns::MAX_CHANNELS;
 use std::alloc::Global;
+
+// The reply codes of the table (RFC 3080, section 8).
+const BUSY: u16 = 450;
+
+const BAD_SYNTAX: u16 = 500;
+
+const BAD_PARAMETERS: u16 = 501;
+
+const NOT_IMPLEMENTED: u16 = 504;
+
+const NOT_TAKEN: u16 = 550;
+
+const INVALID: u16 = 553;
 
 /// Whether a number is one of these.
 fn is_among(number: u32, numbers: &[u32]) -> bool
@@ -102,16 +115,16 @@ fn decide_offer(
         ≡ decide_offer (plain_standing standing.now) (plain_profile profile.now) offer) }
 {
     let Some(offer) = offer else {
-        return Ok(Answer::Refuse(550));
+        return Ok(Answer::Refuse(NOT_TAKEN));
     };
     if has_other_encoding(profile.encoding) {
-        Ok(Answer::Refuse(504))
+        Ok(Answer::Refuse(NOT_IMPLEMENTED))
     } else if !profile.readable {
-        Ok(Answer::Refuse(501))
+        Ok(Answer::Refuse(BAD_PARAMETERS))
     } else if !offer.tuning {
         Ok(Answer::Choose(offer.place))
     } else if 0 < used_count(standing) {
-        Ok(Answer::Refuse(550))
+        Ok(Answer::Refuse(NOT_TAKEN))
     } else {
         let mut content = Octets::new(alloc);
         content.extend(profile.content.as_slice())?;
@@ -130,7 +143,7 @@ fn decide_profile(
         (first_offered (plain_standing standing.now).offers (map plain_profile listed.now))) }
 {
     match first_offered(&standing.offers, listed) {
-        None => Ok(Answer::Refuse(550)),
+        None => Ok(Answer::Refuse(NOT_TAKEN)),
         Some(profile) => {
             let offer = offer_of(profile, &standing.offers);
             decide_offer(alloc, standing, profile, offer)
@@ -149,13 +162,13 @@ fn decide_start(
         ≡ decide_start (plain_standing standing.now) number (map plain_profile listed.now)) }
 {
     if standing.leaving {
-        Ok(Answer::Refuse(550))
+        Ok(Answer::Refuse(NOT_TAKEN))
     } else if !may_start(other_role(standing.role), number) {
-        Ok(Answer::Refuse(553))
+        Ok(Answer::Refuse(INVALID))
     } else if is_used(standing, number) {
-        Ok(Answer::Refuse(550))
+        Ok(Answer::Refuse(NOT_TAKEN))
     } else if MAX_CHANNELS <= used_count(standing) {
-        Ok(Answer::Refuse(450))
+        Ok(Answer::Refuse(BUSY))
     } else {
         decide_profile(alloc, standing, listed)
     }
@@ -169,7 +182,7 @@ fn decide_close(standing: &Standing, number: u32) -> Answer
     if names && !is_among(number, &standing.closing) {
         Answer::GrantClose
     } else {
-        Answer::Refuse(550)
+        Answer::Refuse(NOT_TAKEN)
     }
 }
 
@@ -192,6 +205,6 @@ pub fn decide(
         ) => decide_start(alloc, standing, *number, profiles.as_slice()),
         Some(Mgmt::Close { number, .. }) => Ok(decide_close(standing, *number)),
         Some(Mgmt::Greeting { .. } | Mgmt::Chosen { .. } | Mgmt::Okay | Mgmt::Fault { .. })
-        | None => Ok(Answer::Refuse(500)),
+        | None => Ok(Answer::Refuse(BAD_SYNTAX)),
     }
 }

@@ -12,9 +12,13 @@ pub mod OwedLemmas
 pub mod WaitLemmas
 pub mod DeskLemmas
 pub mod QueueLemmas
+pub mod AskLemmas
 pub mod QuietLemmas
 pub mod EventLemmas
 pub mod GivenLemmas
 pub mod StepLemmas
 pub mod OpenLemmas
 pub mod TagLemmas
+pub mod OnceLemmas
+pub mod LifeLemmas
+pub mod SaysLemmas

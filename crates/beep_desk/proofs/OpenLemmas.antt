@@ -1,4 +1,4 @@
--- What an item that happens leaves of a listener's answers, before the first of them go.
+-- What an item that happens leaves of an end's answers, before the first of them go.
 use Rattle.std.proofs.Common.{◌≡◌, ◌∙◌, refl, sym, ap, subst, ℕ, ◌==◌, Bool, true, false, not, ◌&&◌, ◌||◌, if◌then◌else◌, List, [], ◌∷◌, ◌++◌, length, map, Option, None, Some, append-nil, inl, inr}
 use Rattle.std.specs.Prelude.{is_some}
 use Rattle.std.specs.Option.{option_to_list}
@@ -31,28 +31,28 @@ use Rattle.beep_talk.specs.Plan.{PlainPlan}
 use Rattle.beep_script.specs.Desk.{answered, closes_by, decided, desk, standing}
 use Rattle.beep_desk.specs.Alike.{StandsAlike}
 use Rattle.beep_desk.specs.Desks.{AllMayWait, IsCalledFor, IsDeskOf, IsDeskWithin, IsMet, MayWait, StandsIn, asks_none, queue_at}
-use Rattle.beep_desk.specs.Listed.{spoken_as, spoken_of}
+use Rattle.beep_desk.specs.Listed.{AskInTurn, spoken_as, spoken_of}
 use Rattle.beep_desk.specs.Waiting.{OnlyGrantsWait}
 use Rattle.beep_desk.proofs.AlikeLemmas.{answer-alike, decide-alike}
 use Rattle.beep_desk.proofs.EventLemmas.{all-wait-on, answered-more, fresh-of}
 use Rattle.beep_desk.proofs.LiveLemmas.{among-numbers}
 use Rattle.beep_desk.proofs.OwedLemmas.{owed-true}
 use Rattle.beep_desk.proofs.StandLemmas.{stands-alike}
-use Rattle.beep_desk.proofs.StepLemmas.{managed-by, turns-of}
+use Rattle.beep_desk.proofs.StepLemmas.{listener-asks, managed-by, turns-of}
 use Rattle.beep_desk.proofs.TheirLemmas.{reply-kind}
 use Rattle.beep_desk.proofs.TurnLemmas.{answers}
 
 -- ---- between two steps
 
 -- both decide alike
-alike : (plan : PlainPlan) → plan.command ≡ Command.Listen → NoneTunes plan.offers → (size : ℕ) (journal : List Item) (given taken : Marks) (peer : Peer)
+alike : (plan : PlainPlan) (journal : List Item) → AskInTurn plan journal → NoneTunes plan.offers → (size : ℕ) (given taken : Marks) (peer : Peer)
     → StandsIn size journal given taken peer → IsDeskOf plan journal (given 0) peer.management.answers
     → StandsAlike (standing plan (desk plan journal) journal) (standing_of plan.terms.role plan.offers peer)
-alike plan listens none size journal given taken peer s d =
+alike plan journal placed none size given taken peer s d =
     let xs = map spoken_of (desk plan journal).listed in
     let ys = map spoken_as (desk plan journal).owed in
     stands-alike plan size journal given taken peer xs ys s.keeps s.live (managed-by size journal given taken peer s xs ys d.given_is d.prepared_is)
-    (record { listed = refl; owed = refl }) (turns-of plan journal listens none)
+    (record { listed = refl; owed = refl }) (turns-of plan journal placed none)
 
 waits-then : (plan : PlainPlan) (item : Item) (journal : List Item) (given : List Mark) (prepared : List Prepared) → IsDeskOf plan journal given prepared
     → AllMayWait (events (item ∷ journal)) (desk plan journal).owed prepared
@@ -208,7 +208,7 @@ wait-append es (x ∷ left) (y ∷ answers) one answer w m = (w.0, wait-append e
 
 -- ---- a request of the peer
 
-module _ (plan : PlainPlan) (listens : plan.command ≡ Command.Listen) (none : NoneTunes plan.offers) (size : ℕ) (journal : List Item) (given taken : Marks) (peer : Peer)
+module _ (plan : PlainPlan) (journal : List Item) (placed : AskInTurn plan journal) (none : NoneTunes plan.offers) (size : ℕ) (given taken : Marks) (peer : Peer)
     (s : StandsIn size journal given taken peer) (d : IsDeskOf plan journal (given 0) peer.management.answers)
     (head : Head) (payload : List ℕ) (zero : (head.channel == 0) ≡ true) (request : is_msg head.kind ≡ true) (last : head.more ≡ false)
     (met : is_answered Side.Sent 0 (zero_history journal) ≡ true) (settled : Settled) (answer : Prepared)
@@ -229,7 +229,7 @@ module _ (plan : PlainPlan) (listens : plan.command ≡ Command.Listen) (none : 
   place = length (asked Side.Received (zero_history journal))
 
   same-decision : decide here said ≡ decide there said
-  same-decision = decide-alike here there (alike plan listens none size journal given taken peer s d) said
+  same-decision = decide-alike here there (alike plan journal placed none size given taken peer s d) said
 
   abbrev otherwise : List Event
   otherwise =
@@ -250,7 +250,7 @@ module _ (plan : PlainPlan) (listens : plan.command ≡ Command.Listen) (none : 
       let ours = (desk plan journal).listed in
       let owed = (desk plan journal).owed in
       let other : answer_of there (decide there said) ≡ Some form =
-      ap (answer_of there) (sym same-decision) ∙ sym (answer-alike here there (alike plan listens none size journal given taken peer s d) (decide here said)) ∙ says in
+      ap (answer_of there) (sym same-decision) ∙ sym (answer-alike here there (alike plan journal placed none size given taken peer s d) (decide here said)) ∙ says in
       let text = called.says form other in
       let same : queue_at plan item journal ≡ owed ++ one_of form ∷ [] = ap (λ l. owed ++ l) decided-is in
       record {
@@ -285,9 +285,16 @@ module _ (plan : PlainPlan) (listens : plan.command ≡ Command.Listen) (none : 
           ∙ ap (λ (b : Bool). if not b then answered here place said (decide here said) else []) last
           ∙ ap (λ (o : Option Form). map (λ (f : Form). record { position = place; form = f; closes = closes_by (decide here said) said }) (option_to_list o)) says
 
-  pub open-request : IsDeskWithin plan item journal (given 0) (peer.management.answers ++ answer ∷ [])
-  open-request = of (answer_of here (decide here said)) refl (answers here none said)
+  pub opens-request : IsDeskWithin plan item journal (given 0) (peer.management.answers ++ answer ∷ [])
+  opens-request = of (answer_of here (decide here said)) refl (answers here none said)
     where
       of : (o : Option Form) → answer_of here (decide here said) ≡ o → is_some o ≡ true → IsDeskWithin plan item journal (given 0) (peer.management.answers ++ answer ∷ [])
       of None e some = absurd cc
       of (Some form) e some = open-with form e
+
+pub open-request : (plan : PlainPlan) → plan.command ≡ Command.Listen → NoneTunes plan.offers → (size : ℕ) (journal : List Item) (given taken : Marks) (peer : Peer)
+    → StandsIn size journal given taken peer → IsDeskOf plan journal (given 0) peer.management.answers → (head : Head) (payload : List ℕ) → (head.channel == 0) ≡ true → is_msg head.kind ≡ true
+    → head.more ≡ false → is_answered Side.Sent 0 (zero_history journal) ≡ true → (settled : Settled) (answer : Prepared)
+    → IsCalledFor (standing_of plan.terms.role plan.offers peer) journal payload settled answer
+    → IsDeskWithin plan (passed Side.Received head payload) journal (given 0) (peer.management.answers ++ answer ∷ [])
+open-request plan listens none size journal given taken peer = opens-request plan journal (listener-asks plan journal listens) none size given taken peer

@@ -128,17 +128,17 @@ own-asked journal keeps =
 -- ---- what was spoken
 
 -- of these texts those of requests
-abbrev picked : List Kind → List (List ℕ) → List (List ℕ)
+abbrev pub picked : List Kind → List (List ℕ) → List (List ℕ)
 picked [] texts = []
 picked (kind ∷ kinds) [] = []
 picked (kind ∷ kinds) (text ∷ texts) = if is_msg kind then text ∷ picked kinds texts else picked kinds texts
 
-requests-picked : (begun : List ℕ) (ms : List Mark) → requests_from begun ms ≡ picked (kinds_of ms) (pieces_from begun ms)
+pub requests-picked : (begun : List ℕ) (ms : List Mark) → requests_from begun ms ≡ picked (kinds_of ms) (pieces_from begun ms)
 requests-picked begun [] = refl
 requests-picked begun (octet tag value ∷ ms) = requests-picked (begun ++ value ∷ []) ms
 requests-picked begun (end tag ∷ ms) = ap (λ rest. if is_msg tag.kind then begun ∷ rest else rest) (requests-picked [] ms)
 
-picked-spoken : (spoken : List Spoken) → picked (map (λ (one : Spoken). one.kind) spoken) (map text_of spoken) ≡ map text_of (requests_among spoken)
+pub picked-spoken : (spoken : List Spoken) → picked (map (λ (one : Spoken). one.kind) spoken) (map text_of spoken) ≡ map text_of (requests_among spoken)
 picked-spoken [] = refl
 picked-spoken (one ∷ spoken) = by (is_msg one.kind) (picked-spoken spoken)
   where
@@ -152,7 +152,7 @@ picked-spoken (one ∷ spoken) = by (is_msg one.kind) (picked-spoken spoken)
 abbrev pub form_said : Spoken → Option Form
 form_said one = Some one.form
 
-said-spoken : (spoken : List Spoken) → AllSaid spoken → map message_said (map text_of (requests_among spoken)) ≡ map form_said (requests_among spoken)
+pub said-spoken : (spoken : List Spoken) → AllSaid spoken → map message_said (map text_of (requests_among spoken)) ≡ map form_said (requests_among spoken)
 said-spoken [] said = refl
 said-spoken (one ∷ spoken) said = by (is_msg one.kind) (said-spoken spoken said.1)
   where
@@ -161,7 +161,7 @@ said-spoken (one ∷ spoken) said = by (is_msg one.kind) (said-spoken spoken sai
     by true rest = ap (λ f. f ∷ map message_said (map text_of (requests_among spoken))) said.0 ∙ ap (λ l. form_said one ∷ l) rest
     by false rest = rest
 
-all-said : (n : ℕ) (spoken : List Spoken) → AllSaid spoken → AllSaid (take n spoken)
+pub all-said : (n : ℕ) (spoken : List Spoken) → AllSaid spoken → AllSaid (take n spoken)
 all-said zero spoken said = tt
 all-said (suc n) [] said = tt
 all-said (suc n) (one ∷ spoken) said = (said.0, all-said n spoken said.1)

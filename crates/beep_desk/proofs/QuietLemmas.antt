@@ -4,12 +4,12 @@ use Rattle.std.specs.Prelude.{nat_lt}
 use Rattle.std.specs.List.{list_any, list_all, prefix_len}
 use Rattle.beep_frame.specs.declared.head.Head.{Head}
 use Rattle.beep_frame.specs.declared.seq.Seq.{Seq}
-use Rattle.beep_frame.specs.Frame.{is_msg, is_ans}
+use Rattle.beep_frame.specs.Frame.{is_msg, is_ans, is_nul}
 use Rattle.beep_history.specs.declared.journal.Side.{Side}
 use Rattle.beep_history.specs.Journal.{Item, began, passed, told, same_side}
 use Rattle.beep_history.specs.Marks.{Request, answers, begins_request, carries, ends_reply, is_answered, position_of, reply, requests, tag_of, waiting}
 use Rattle.beep_history.specs.Messages.{Message, gathered as gathered_in, messages}
-use Rattle.beep_mgmt.specs.Form.{Form}
+use Rattle.beep_mgmt.specs.Form.{Form, close, start}
 use Rattle.beep_mgmt.specs.Message.{message_said}
 use Rattle.beep_journal.specs.Lives.{Event, has_ended, life_named, live_life, lives}
 use Rattle.beep_journal.specs.Zero.{asked, events, gathered, zero_history}
@@ -20,10 +20,10 @@ use Rattle.beep_lawful.specs.Closing.{is_drained}
 use Rattle.beep_decide.specs.Asks.{is_close_of}
 use Rattle.beep_decide.specs.Decide.{decide}
 use Rattle.beep_talk.specs.declared.plan.Command.{Command}
-use Rattle.beep_talk.specs.AtZero.{Answer, Desk, ZeroMessage, answer_message}
+use Rattle.beep_talk.specs.AtZero.{Answer, Desk, ZeroMessage, answer_message, profile_of}
 use Rattle.beep_talk.specs.Plan.{PlainPlan}
 use Rattle.beep_talk.specs.Talk.{asked_first, begins_with, called_for, chooses, has_profile, replied, reply_of, says_profile, talk}
-use Rattle.beep_script.specs.Desk.{answered, are_free, asks, decided, desk, has_listed, is_clear, is_clear_of, is_free, is_said, listing, live_among, live_numbers, standing, waits}
+use Rattle.beep_script.specs.Desk.{answered, are_free, asks, asks_where, decided, desk, ends_lines, grants_own, has_listed, is_clear, is_clear_of, is_free, is_said, listing, live_among, live_numbers, sender_asks, standing, waits}
 use Rattle.beep_desk.specs.Desks.{is_part}
 use Rattle.beep_desk.proofs.OwnLemmas.{any-append}
 use Rattle.beep_desk.proofs.QueueLemmas.{IsHeld, held-on, held-rest, none-pass}
@@ -58,67 +58,11 @@ desk-asks-none plan (item ∷ journal) listens =
     ∙ ap (list_any asks_one) (append-nil (d.listed ++ map answer_message (take count queue)))
     ∙ listed-ask-none d.listed (take count queue) (desk-asks-none plan journal listens)
 
--- ---- what is clear is so whatever replies are listed
+-- ---- what is clear is so where fewer requests are listed
 
 or-left : (a b : Bool) → (a || b) ≡ false → a ≡ false
 or-left true b e = absurd cc
 or-left false b e = refl
-
-or-right : (a b : Bool) → (a || b) ≡ false → b ≡ false
-or-right true b e = absurd cc
-or-right false b e = e
-
-none-waits : (says : Option Form → Bool) (zero : List Item) (listed : List ZeroMessage) → list_any asks_one listed ≡ false → has_listed says zero listed ≡ false
-none-waits says zero [] none = refl
-none-waits says zero (one ∷ others) none =
-    none-both (waits zero one && says (Some one.form)) (has_listed says zero others)
-    (one-none (is_msg one.tag.kind) (not (is_answered Side.Sent one.tag.request zero)) (says (Some one.form)) (or-left (is_msg one.tag.kind) (list_any asks_one others) none))
-    (none-waits says zero others (or-right (is_msg one.tag.kind) (list_any asks_one others) none))
-  where
-    one-none : (a b c : Bool) → a ≡ false → ((a && b) && c) ≡ false
-    one-none true b c e = absurd cc
-    one-none false b c e = refl
-
-module _ (plan : PlainPlan) (journal : List Item) (l m : List ZeroMessage) (lone : list_any asks_one l ≡ false) (mone : list_any asks_one m ≡ false) where
-  free-same : are_free plan l journal ≡ are_free plan m journal
-  free-same =
-      let q = λ (form : Option Form). not (is_close_of 0 form) in
-      ap (λ b. list_all (λ number. is_free plan number (life_now number journal) journal) (live_numbers journal) && not b)
-      (none-waits q (zero_history journal) l lone ∙ sym (none-waits q (zero_history journal) m mone))
-
-  clear-of-same : (position : ℕ) (closes : Option ℕ) → is_clear_of plan l journal position closes ≡ is_clear_of plan m journal position closes
-  clear-of-same position None = refl
-  clear-of-same position (Some number) = by (number == 0)
-    where
-      by : (b : Bool) → (if b then are_free plan l journal else is_free plan number (life_named number Side.Received position (events journal)) journal)
-          ≡ (if b then are_free plan m journal else is_free plan number (life_named number Side.Received position (events journal)) journal)
-      by true = free-same
-      by false = refl
-
-  pub clear-same : (answer : Answer) → is_clear plan l journal answer ≡ is_clear plan m journal answer
-  clear-same answer = clear-of-same answer.position answer.closes
-
--- the first answer that is owed isn't clear
-pub desk-held : (plan : PlainPlan) (journal : List Item) → plan.command ≡ Command.Listen → IsHeld (is_clear plan (desk plan journal).listed journal) (desk plan journal).owed
-desk-held plan [] listens = tt
-desk-held plan (item ∷ journal) listens =
-    let d = desk plan journal in
-    let queue = d.owed ++ decided plan d item journal in
-    let p = is_clear plan d.listed (item ∷ journal) in
-    held-on p (is_clear plan (desk plan (item ∷ journal)).listed (item ∷ journal)) (desk plan (item ∷ journal)).owed
-    (λ answer e. clear-same plan (item ∷ journal) d.listed (desk plan (item ∷ journal)).listed (desk-asks-none plan journal listens) (desk-asks-none plan (item ∷ journal) listens) answer ∙ e)
-    (held-rest p queue)
-
--- ---- an item that is only a part
-
--- it makes no moment, drains no life, and says nothing
-pub record Stills (plan : PlainPlan) (item : Item) (journal : List Item) : Type 0 where
-  pub events_are : events (item ∷ journal) ≡ events journal
-  pub drained : (n k : ℕ) → is_drained (life n k (item ∷ journal)) ≡ true → is_drained (life n k journal) ≡ true
-  pub said : (n k : ℕ) → is_said plan n k (item ∷ journal) ≡ is_said plan n k journal
-
-suc-none : (m : ℕ) → (suc m == 0) ≡ true → ⊥
-suc-none m e = let g : suc m ≡ 0 = equal-number (suc m) 0 e in absurd (omega (arith, g))
 
 both-left : (a b : Bool) → (a && b) ≡ true → a ≡ true
 both-left true b e = refl
@@ -131,6 +75,98 @@ both-right false b e = absurd cc
 both-of : (a b : Bool) → a ≡ true → b ≡ true → (a && b) ≡ true
 both-of true b f g = g
 both-of false b f g = absurd cc
+
+turned : (b : Bool) → not b ≡ true → b ≡ false
+turned true e = absurd cc
+turned false e = refl
+
+module _ (plan : PlainPlan) (journal : List Item) (l m : List ZeroMessage) where
+  listed-less : (says : Option Form → Bool) → has_listed says (zero_history journal) (l ++ m) ≡ false → has_listed says (zero_history journal) l ≡ false
+  listed-less says e =
+      let f = λ (one : ZeroMessage). waits (zero_history journal) one && says (Some one.form) in
+      or-left (list_any f l) (list_any f m) (sym (any-append f l m) ∙ e)
+
+  free-less : are_free plan (l ++ m) journal ≡ true → are_free plan l journal ≡ true
+  free-less e =
+      let q = λ (form : Option Form). not (is_close_of 0 form) in
+      let all = list_all (λ (number : ℕ). is_free plan number (life_now number journal) journal) (live_numbers journal) in
+      both-of all (not (has_listed q (zero_history journal) l))
+      (both-left all (not (has_listed q (zero_history journal) (l ++ m))) e)
+      (ap not (listed-less q (turned (has_listed q (zero_history journal) (l ++ m)) (both-right all (not (has_listed q (zero_history journal) (l ++ m))) e))))
+
+  clear-of-less : (position : ℕ) (closes : Option ℕ) → is_clear_of plan (l ++ m) journal position closes ≡ true → is_clear_of plan l journal position closes ≡ true
+  clear-of-less position None e = refl
+  clear-of-less position (Some number) e = by (number == 0) e
+    where
+      by : (b : Bool) → (if b then are_free plan (l ++ m) journal else is_free plan number (life_named number Side.Received position (events journal)) journal) ≡ true
+          → (if b then are_free plan l journal else is_free plan number (life_named number Side.Received position (events journal)) journal) ≡ true
+      by true f = free-less f
+      by false f = f
+
+  clear-less : (answer : Answer) → is_clear plan (l ++ m) journal answer ≡ true → is_clear plan l journal answer ≡ true
+  clear-less answer e = clear-of-less answer.position answer.closes e
+
+-- the first answer that is owed isn't clear
+pub desk-held : (plan : PlainPlan) (journal : List Item) → IsHeld (is_clear plan (desk plan journal).listed journal) (desk plan journal).owed
+desk-held plan [] = tt
+desk-held plan (item ∷ journal) =
+    let d = desk plan journal in
+    let now = item ∷ journal in
+    let queue = d.owed ++ decided plan d item journal in
+    let p = is_clear plan d.listed now in
+    let gone = map answer_message (take (prefix_len p queue) queue) in
+    held-on p (is_clear plan (desk plan now).listed now) (desk plan now).owed
+    (λ answer e. clear-less plan now d.listed gone answer (clear-less plan now (d.listed ++ gone) (asks plan.command plan item journal) answer e))
+    (held-rest p queue)
+
+-- ---- a part of a message asks nothing
+
+none-asked : (uri : List ℕ) (a b c : Bool) → a ≡ false → b ≡ false → c ≡ false
+    → asks_where a 1 (start 1 None (profile_of uri ∷ [])) ++ asks_where b 2 (close 1 200 []) ++ asks_where c 3 (close 0 200 []) ≡ []
+none-asked uri true b c e f g = absurd cc
+none-asked uri false true c e f g = absurd cc
+none-asked uri false false true e f g = absurd cc
+none-asked uri false false false e f g = refl
+
+granted-none : (z k m e f : Bool) → m ≡ true → (z && k && not m && e && f) ≡ false
+granted-none false k m e f more = refl
+granted-none true false m e f more = refl
+granted-none true true true e f more = refl
+granted-none true true false e f more = absurd cc
+
+ended-none : (n m c d e f : Bool) → m ≡ true → (n && not m && c && d && e && f) ≡ false
+ended-none false m c d e f more = refl
+ended-none true true c d e f more = refl
+ended-none true false c d e f more = absurd cc
+
+pub part-asks : (plan : PlainPlan) (item : Item) (journal : List Item) → is_part item ≡ true → asks plan.command plan item journal ≡ []
+part-asks plan item journal part = of plan.command
+  where
+    sends : (item : Item) → is_part item ≡ true → sender_asks plan item journal ≡ []
+    sends (began by head) part = refl
+    sends (told by seq) part = refl
+    sends (passed Side.Received head payload) part =
+        let more = both-right (head.channel == 0) head.more part in
+        none-asked plan.raw_uri (grants_own 0 (passed Side.Received head payload) journal) false (grants_own 2 (passed Side.Received head payload) journal)
+        (granted-none (head.channel == 0) _ head.more _ _ more) refl (granted-none (head.channel == 0) _ head.more _ _ more)
+    sends (passed Side.Sent head payload) part =
+        none-asked plan.raw_uri false (ends_lines plan (passed Side.Sent head payload) journal) false refl
+        (ended-none (is_nul head.kind) head.more _ _ _ _ (both-right (head.channel == 0) head.more part)) refl
+
+    of : (c : Command) → asks c plan item journal ≡ []
+    of Command.Send = sends item part
+    of Command.Listen = refl
+
+-- ---- an item that is only a part
+
+-- it makes no moment, drains no life, and says nothing
+pub record Stills (plan : PlainPlan) (item : Item) (journal : List Item) : Type 0 where
+  pub events_are : events (item ∷ journal) ≡ events journal
+  pub drained : (n k : ℕ) → is_drained (life n k (item ∷ journal)) ≡ true → is_drained (life n k journal) ≡ true
+  pub said : (n k : ℕ) → is_said plan n k (item ∷ journal) ≡ is_said plan n k journal
+
+suc-none : (m : ℕ) → (suc m == 0) ≡ true → ⊥
+suc-none m e = let g : suc m ≡ 0 = equal-number (suc m) 0 e in absurd (omega (arith, g))
 
 filter-on : {X : Type 0} (p q : X → Bool) (xs : List X) → ((x : X) → p x ≡ q x) → filter p xs ≡ filter q xs
 filter-on p q [] same = refl
@@ -297,6 +333,31 @@ part-events plan item journal part = (item-stills plan item journal part).events
 
 -- ---- what is clear after it was before
 
+-- it answers no request
+part-replies : (item : Item) (journal : List Item) → is_part item ≡ true → (p : ℕ) → is_answered Side.Sent p (zero_history (item ∷ journal)) ≡ is_answered Side.Sent p (zero_history journal)
+part-replies (began by head) journal part p = of (head.channel == 0)
+  where
+    of : (b : Bool) → is_answered Side.Sent p (if b then began by head ∷ zero_history journal else zero_history journal) ≡ is_answered Side.Sent p (zero_history journal)
+    of true = refl
+    of false = refl
+part-replies (told by seq) journal part p = of (seq.channel == 0)
+  where
+    of : (b : Bool) → is_answered Side.Sent p (if b then told by seq ∷ zero_history journal else zero_history journal) ≡ is_answered Side.Sent p (zero_history journal)
+    of true = refl
+    of false = refl
+part-replies (passed by head payload) journal part p = of (head.channel == 0)
+  where
+    of : (b : Bool) → is_answered Side.Sent p (if b then passed by head payload ∷ zero_history journal else zero_history journal) ≡ is_answered Side.Sent p (zero_history journal)
+    of true = part-answered Side.Sent p by head payload (zero_history journal) (both-right (head.channel == 0) head.more part)
+    of false = refl
+
+listed-same : (says : Option Form → Bool) (one other : List Item) → ((p : ℕ) → is_answered Side.Sent p one ≡ is_answered Side.Sent p other) → (listed : List ZeroMessage)
+    → has_listed says one listed ≡ has_listed says other listed
+listed-same says one other same [] = refl
+listed-same says one other same (first ∷ listed) =
+    ap (λ b. ((is_msg first.tag.kind && not b) && says (Some first.form)) || has_listed says one listed) (same first.tag.request)
+    ∙ ap (λ b. (waits other first && says (Some first.form)) || b) (listed-same says one other same listed)
+
 or-keeps : (a h d s d1 s1 : Bool) → (d1 ≡ true → d ≡ true) → (s1 ≡ true → s ≡ true) → (a || h || (d1 && s1)) ≡ true → (a || h || (d && s)) ≡ true
 or-keeps true h d s d1 s1 f g e = refl
 or-keeps false true d s d1 s1 f g e = refl
@@ -308,7 +369,7 @@ all-on : (p q : ℕ → Bool) → ((n : ℕ) → p n ≡ true → q n ≡ true) 
 all-on p q on [] e = refl
 all-on p q on (x ∷ xs) e = both-of (q x) (list_all q xs) (on x (both-left (p x) (list_all p xs) e)) (all-on p q on xs (both-right (p x) (list_all p xs) e))
 
-module _ (plan : PlainPlan) (item : Item) (journal : List Item) (s : Stills plan item journal) where
+module _ (plan : PlainPlan) (item : Item) (journal : List Item) (part : is_part item ≡ true) (s : Stills plan item journal) where
   abbrev now : List Item
   now = item ∷ journal
 
@@ -321,33 +382,32 @@ module _ (plan : PlainPlan) (item : Item) (journal : List Item) (s : Stills plan
   now-before : (n : ℕ) → life_now n now ≡ life_now n journal
   now-before n = ap (live_life n) s.events_are
 
-  all-before : (listed : List ZeroMessage) → list_any asks_one listed ≡ false → are_free plan listed now ≡ true → are_free plan listed journal ≡ true
-  all-before listed none e =
+  all-before : (listed : List ZeroMessage) → are_free plan listed now ≡ true → are_free plan listed journal ≡ true
+  all-before listed e =
       let q = λ (form : Option Form). not (is_close_of 0 form) in
       let f = λ (n : ℕ). is_free plan n (life_now n now) now in
       let g = λ (n : ℕ). is_free plan n (life_now n journal) journal in
       both-of (list_all g (live_numbers journal)) (not (has_listed q (zero_history journal) listed))
       (all-on f g (λ n h. free-before n (life_now n journal) (ap (λ (k : ℕ). is_free plan n k now) (sym (now-before n)) ∙ h)) (live_numbers journal)
       (ap (λ (es : List Event). list_all f (live_among es es)) (sym s.events_are) ∙ both-left (list_all f (live_numbers now)) (not (has_listed q (zero_history now) listed)) e))
-      (ap not (none-waits q (zero_history journal) listed none))
+      (ap not (sym (listed-same q (zero_history now) (zero_history journal) (part-replies item journal part) listed)) ∙ both-right (list_all f (live_numbers now)) (not (has_listed q (zero_history now) listed)) e)
 
-  clear-of-before : (listed : List ZeroMessage) → list_any asks_one listed ≡ false → (position : ℕ) (closes : Option ℕ) → is_clear_of plan listed now position closes ≡ true
-      → is_clear_of plan listed journal position closes ≡ true
-  clear-of-before listed none position None e = refl
-  clear-of-before listed none position (Some n) e = by (n == 0) e
+  clear-of-before : (listed : List ZeroMessage) (position : ℕ) (closes : Option ℕ) → is_clear_of plan listed now position closes ≡ true → is_clear_of plan listed journal position closes ≡ true
+  clear-of-before listed position None e = refl
+  clear-of-before listed position (Some n) e = by (n == 0) e
     where
       named : ℕ
       named = life_named n Side.Received position (events journal)
 
       by : (b : Bool) → (if b then are_free plan listed now else is_free plan n (life_named n Side.Received position (events now)) now) ≡ true
           → (if b then are_free plan listed journal else is_free plan n (life_named n Side.Received position (events journal)) journal) ≡ true
-      by true f = all-before listed none f
+      by true f = all-before listed f
       by false f =
           free-before n (life_named n Side.Received position (events journal))
           (ap (λ (es : List Event). is_free plan n (life_named n Side.Received position es) now) (sym s.events_are) ∙ f)
 
-  pub clear-before : (listed : List ZeroMessage) → list_any asks_one listed ≡ false → (answer : Answer) → is_clear plan listed now answer ≡ true → is_clear plan listed journal answer ≡ true
-  clear-before listed none answer e = clear-of-before listed none answer.position answer.closes e
+  pub clear-before : (listed : List ZeroMessage) (answer : Answer) → is_clear plan listed now answer ≡ true → is_clear plan listed journal answer ≡ true
+  clear-before listed answer e = clear-of-before listed answer.position answer.closes e
 
 -- ---- the desk
 
@@ -368,8 +428,8 @@ part-decided plan d (passed Side.Received head payload) journal part =
     of false a true e = refl
     of z a false e = absurd cc
 
-pub desk-quiet : (plan : PlainPlan) (item : Item) (journal : List Item) → plan.command ≡ Command.Listen → is_part item ≡ true → desk plan (item ∷ journal) ≡ desk plan journal
-desk-quiet plan item journal listens part =
+pub desk-quiet : (plan : PlainPlan) (item : Item) (journal : List Item) → is_part item ≡ true → desk plan (item ∷ journal) ≡ desk plan journal
+desk-quiet plan item journal part =
     let d = desk plan journal in
     let p = is_clear plan d.listed (item ∷ journal) in
     let queue = d.owed ++ decided plan d item journal in
@@ -377,8 +437,8 @@ desk-quiet plan item journal listens part =
     let none : prefix_len p queue ≡ 0 =
     ap (prefix_len p) same
     ∙ none-pass p d.owed (held-on (is_clear plan d.listed journal) p d.owed
-    (λ answer e. clear-before plan item journal (item-stills plan item journal part) d.listed (desk-asks-none plan journal listens) answer e) (desk-held plan journal listens)) in
+    (λ answer e. clear-before plan item journal part (item-stills plan item journal part) d.listed answer e) (desk-held plan journal)) in
     ap (λ count. listing count d.listed queue (asks plan.command plan item journal)) none
     ∙ ap (λ q. listing 0 d.listed q (asks plan.command plan item journal)) same
-    ∙ ap (listing 0 d.listed d.owed) (asks-nothing plan item journal listens)
+    ∙ ap (listing 0 d.listed d.owed) (part-asks plan item journal part)
     ∙ ap (λ l. record { listed = l; owed = d.owed }) (append-nil (d.listed ++ []) ∙ append-nil d.listed)

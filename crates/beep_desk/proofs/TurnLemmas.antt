@@ -14,7 +14,7 @@ use Rattle.beep_journal.specs.Zero.{zero_history, gathered, asked}
 use Rattle.beep_decide.specs.declared.decision.Placed.{Placed}
 use Rattle.beep_decide.specs.Decide.{PlainOffer, PlainStanding, Decision, refuse, choose, grant_close, answer_of, decide, decide_offer, decide_profile, first_offered, has_other_encoding, is_among, is_used, later, offer_of, used_count}
 use Rattle.beep_decide.specs.Numbers.{may_start, other_role}
-use Rattle.beep_decide.specs.declared.limits.TheConstants.{MAX_CHANNELS}
+use Rattle.beep_turns.specs.declared.turns.TheConstants.{MAX_CHANNELS}
 use Rattle.beep_answering.specs.Decided.{NoneTunes}
 use Rattle.beep_talk.specs.AtZero.{ZeroMessage, Answer, answer_message, profile_of}
 use Rattle.beep_talk.specs.Plan.{PlainPlan}

@@ -1,4 +1,4 @@
--- What a listener gave on channel zero and what it hasn't given yet, by what its script lists and
+-- What an end gave on channel zero and what it hasn't given yet, by what its script lists and
 -- owes there: between two steps of its session, and within one (RFC 3080, section 2.3.1).
 -- The code keeps neither list, and lets answers go as what they wait for comes.
 use Rattle.std.specs.Prelude.{◌≡◌, ◌⊎◌, ℕ, ◌==◌, Bool, true, false, not, ◌&&◌, List, [], ◌∷◌, ◌++◌, Option, None, Some, map}
@@ -7,7 +7,7 @@ use Rattle.beep_history.specs.declared.journal.Side.{Side}
 use Rattle.beep_history.specs.Journal.{Item, began, passed, told}
 use Rattle.beep_history.specs.Marks.{Mark, is_answered}
 use Rattle.beep_history.specs.Broken.{KeepsExchangeRules}
-use Rattle.beep_mgmt.specs.Message.{message_said}
+use Rattle.beep_mgmt.specs.Message.{message_said, message_text}
 use Rattle.beep_journal.specs.Lives.{Event, is_live}
 use Rattle.beep_journal.specs.Zero.{zero_history, gathered, events}
 use Rattle.beep_asked.specs.Asked.{names_live}
@@ -134,6 +134,17 @@ pub record IsCalledFor (standing : PlainStanding) (journal : List Item) (payload
       (message_said (gathered Side.Received (zero_history journal) ++ payload)))
       (message_said (gathered Side.Received (zero_history journal) ++ payload)) settled
       answer.waits
+
+-- these messages are given for messages that are listed: each is of the kind, and its octets say
+-- the value as the other end reads it
+abbrev pub AreGivenFor : List Message → List ZeroMessage → Type 0
+AreGivenFor [] [] = Unit {0}
+AreGivenFor [] (one ∷ others) = ⊥
+AreGivenFor (message ∷ messages) [] = ⊥
+AreGivenFor (message ∷ messages) (one ∷ others) = (message.tag.kind ≡ one.tag.kind)
+    × (message.octets ≡ message_text one.form)
+    × (message_said (message_text one.form) ≡ Some one.form)
+    × AreGivenFor messages others
 
 -- ---- what is said above channel zero
 

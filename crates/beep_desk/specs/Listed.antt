@@ -29,10 +29,13 @@ ArePlacedFrom position (place ∷ others) = (place ≡ position) × ArePlacedFro
 abbrev pub asked_positions : List ZeroMessage → List ℕ
 asked_positions listed = map (λ one. one.tag.request) (filter (λ one. is_msg one.tag.kind) listed)
 
--- each request of the peer has one answer, in turn, that is listed or owed; own requests that are
--- listed have the positions after the implied one
+-- own requests that are listed have the positions after the implied one
+abbrev pub AskInTurn : PlainPlan → List Item → Type 0
+AskInTurn plan journal = ArePlacedFrom 1 (asked_positions (desk plan journal).listed)
+
+-- so they have, and each request of the peer has one answer, in turn, that is listed or owed
 pub record AreInTurn (plan : PlainPlan) (journal : List Item) : Type 0 where
-  pub requests : ArePlacedFrom 1 (asked_positions (desk plan journal).listed)
+  pub requests : AskInTurn plan journal
   pub replies : ArePlacedFrom 0 (answered_positions (desk plan journal))
   pub each : length (answered_positions (desk plan journal))
       ≡ length (asked Side.Received (zero_history journal))

@@ -1,6 +1,6 @@
 //! What a session keeps of channel zero and what its script lists there, as facts: each function
 //! does nothing, and its contract is the fact.
-ghost use Rattle.std.specs.Prelude.{◌≡◌, ℕ, ◌==◌, ◌∷◌, ◌++◌, [], length, map, List, Option, false, true};
+ghost use Rattle.std.specs.Prelude.{◌≡◌, ◌≤◌, ℕ, ◌+◌, ◌==◌, ◌∷◌, ◌++◌, [], length, map, List, None, Option, false, true};
 ghost use Rattle.beep_history.specs.Journal.{Item, passed};
 ghost use Rattle.beep_history.specs.Broken.{KeepsExchangeRules};
 ghost use Rattle.beep_mgmt.specs.Form.{Form};
@@ -13,14 +13,19 @@ ghost use Rattle.beep_talk.specs.AtZero.{ZeroMessage};
 ghost use Rattle.beep_script.specs.Laws.{answered_positions};
 ghost use Rattle.beep_script.specs.Script.{script_marks, BeginsWith};
 ghost use Rattle.beep_standing.specs.Standing.{AreLiveBy, Marks};
-ghost use Rattle.beep_spoken.specs.Spoken.{Spoken};
+ghost use Rattle.beep_spoken.specs.Spoken.{AreSpoken, Spoken};
 ghost use Rattle.beep_lawful.specs.declared.terms.Terms.{Terms};
 ghost use Rattle.beep_management.specs.Manages.{IsManaged};
 ghost use Rattle.beep_upright.specs.Upright.{IsUpright};
 ghost use Rattle.beep_peer.specs.Standing.{standing_of};
 ghost use Rattle.beep_peer.specs.declared.peer.Peer.{Peer as PeerValue};
 ghost use Rattle.beep_talk.specs.Plan.{PlainPlan};
-ghost use Rattle.beep_script.specs.Desk.{desk, is_clear_of, standing};
+ghost use Rattle.beep_script.specs.Desk.{asks, asks_where, desk, ends_lines, grants_own, is_clear_of, standing};
+ghost use Rattle.beep_script.specs.Requested.{requests_from};
+ghost use Rattle.beep_talk.specs.AtZero.{profile_of, zero_message};
+ghost use Rattle.beep_mgmt.specs.Form.{close, start};
+ghost use Rattle.beep_outbox.specs.Queue.{marks_of, Message};
+ghost use Rattle.beep_frame.specs.declared.kind.Kind.{Kind};
 ghost use Rattle.beep_decide.specs.Decide.{Decision, PlainStanding, answer_of, decide};
 ghost use Rattle.beep_history.specs.Marks.{Mark, is_answered, mark_modulo_2_64, marks};
 ghost use Rattle.beep_frame.specs.declared.head.Head.{Head};
@@ -30,8 +35,8 @@ ghost use Rattle.beep_management.specs.Managed.{Prepared};
 ghost use Rattle.beep_peer.specs.Calls.{GivesFirst};
 ghost use Rattle.beep_talk.specs.declared.plan.Command.{Command};
 ghost use Rattle.beep_desk.specs.Alike.{StandsAlike};
-ghost use Rattle.beep_desk.specs.Desks.{asks_none, is_part, AreDoneFor, IsCalledFor, IsDeskOf, IsDeskWithin, StandsIn};
-ghost use Rattle.beep_desk.specs.Listed.{AreInTurn, ArePlacedFrom, IsListed};
+ghost use Rattle.beep_desk.specs.Desks.{asks_none, is_part, AreDoneFor, AreGivenFor, IsCalledFor, IsDeskOf, IsDeskWithin, StandsIn};
+ghost use Rattle.beep_desk.specs.Listed.{asked_positions, spoken_of, AreInTurn, ArePlacedFrom, AskInTurn, IsListed};
 ghost use Rattle.beep_desk.specs.Waiting.{AllTaken, AllWait, IsSettledFor, OnlyGrantsWait, SaysAll, WaitsFor};
 
 /// What stands alike is decided alike, and a decision has the same answer.
@@ -97,15 +102,72 @@ pub fn an_answer_waits_as_its_script_says()
         → HasCome waits peer.lives peer.management }
 {}
 
-/// An item that ends no message of channel zero, and is no frame above it, leaves what a listener
-/// gave and prepared there what its script lists and owes.
-pub fn a_part_of_a_message_leaves_the_desk()
-    ensures { (plan : PlainPlan) (item : Item) (journal : List Item) (given : List Mark)
-        (answers : List Prepared) → plan.command ≡ Command.Listen → is_part item ≡ true
-        → IsDeskOf plan journal given answers → IsDeskOf plan (item ∷ journal) given answers }
+/// What is asked has the places after those of the requests that are listed, where it begins there.
+/// A listener asks nothing.
+pub fn own_requests_are_asked_in_turn()
+    ensures placed { (plan : PlainPlan) (item : Item) (journal : List Item)
+        → AskInTurn plan journal
+        → ArePlacedFrom (1 + length (asked_positions (desk plan journal).listed))
+        (asked_positions (asks plan.command plan item journal))
+        → AskInTurn plan (item ∷ journal) }
+    ensures none { (plan : PlainPlan) (journal : List Item) → plan.command ≡ Command.Listen
+        → AskInTurn plan journal }
+    ensures nothing { (plan : PlainPlan) (item : Item) (journal : List Item)
+        → plan.command ≡ Command.Listen → asks plan.command plan item journal ≡ [] }
+    ensures count { (listed : List ZeroMessage) (given : List Mark)
+        → AreSpoken (map spoken_of listed) given
+        → length (asked_positions listed) ≡ length (requests_from [] given) }
 {}
 
-/// As an item happens that ends no request of the peer, what a listener prepared is what is owed
+/// A sender asks its start where the peer's greeting has come, its close after the end of its
+/// lines, and the release where the close was granted, each alone; and else nothing.
+pub fn a_sender_asks_one_request_at_once()
+    ensures sent { (plan : PlainPlan) → plan.command ≡ Command.Send → (head : Head)
+        (payload : List ℕ) (journal : List Item)
+        → asks plan.command plan (passed Side.Sent head payload) journal
+        ≡ asks_where (ends_lines plan (passed Side.Sent head payload) journal) 2
+        (close 1 200 []) }
+    ensures start { (plan : PlainPlan) → plan.command ≡ Command.Send → (head : Head)
+        (payload : List ℕ) (journal : List Item)
+        → grants_own 0 (passed Side.Received head payload) journal ≡ true
+        → asks plan.command plan (passed Side.Received head payload) journal
+        ≡ zero_message Kind.Msg 1 (start 1 None (profile_of plan.raw_uri ∷ [])) ∷ [] }
+    ensures release { (plan : PlainPlan) → plan.command ≡ Command.Send → (head : Head)
+        (payload : List ℕ) (journal : List Item)
+        → grants_own 2 (passed Side.Received head payload) journal ≡ true
+        → asks plan.command plan (passed Side.Received head payload) journal
+        ≡ zero_message Kind.Msg 3 (close 0 200 []) ∷ [] }
+    ensures none { (plan : PlainPlan) → plan.command ≡ Command.Send → (head : Head)
+        (payload : List ℕ) (journal : List Item)
+        → grants_own 0 (passed Side.Received head payload) journal ≡ false
+        → grants_own 2 (passed Side.Received head payload) journal ≡ false
+        → asks plan.command plan (passed Side.Received head payload) journal ≡ [] }
+    ensures part { (plan : PlainPlan) (item : Item) (journal : List Item) → is_part item ≡ true
+        → asks plan.command plan item journal ≡ [] }
+{}
+
+/// As the peer's greeting comes a sender has asked nothing, and as its close is granted not yet the
+/// release.
+pub fn a_sender_asks_each_request_once()
+    ensures none { (plan : PlainPlan) (item : Item) (journal : List Item)
+        → plan.command ≡ Command.Send → KeepsExchangeRules (zero_history (item ∷ journal))
+        → AskInTurn plan journal → grants_own 0 item journal ≡ true
+        → length (asked_positions (desk plan journal).listed) ≡ 0 }
+    ensures two { (plan : PlainPlan) (item : Item) (journal : List Item)
+        → plan.command ≡ Command.Send → KeepsExchangeRules (zero_history (item ∷ journal))
+        → AskInTurn plan journal → grants_own 2 item journal ≡ true
+        → length (asked_positions (desk plan journal).listed) ≤ 2 }
+{}
+
+/// An item that ends no message of channel zero, and is no frame above it, leaves what an end gave
+/// and prepared there what its script lists and owes.
+pub fn a_part_of_a_message_leaves_the_desk()
+    ensures { (plan : PlainPlan) (item : Item) (journal : List Item) (given : List Mark)
+        (answers : List Prepared) → is_part item ≡ true → IsDeskOf plan journal given answers
+        → IsDeskOf plan (item ∷ journal) given answers }
+{}
+
+/// As an item happens that ends no request of the peer, what an end prepared is what is owed
 /// before the first answers are listed that are clear then.
 pub fn an_item_leaves_what_is_owed()
     ensures { (plan : PlainPlan) (item : Item) (journal : List Item) (given : List Mark)
@@ -113,12 +175,12 @@ pub fn an_item_leaves_what_is_owed()
         → IsDeskWithin plan item journal given answers }
 {}
 
-/// As a request of the peer is settled, once its greeting has come, the answer that a listener
+/// As a request of the peer is settled, once its greeting has come, the answer that an end
 /// prepares is the one that is owed, before the first answers are listed that are clear then.
 pub fn a_request_is_answered_as_its_script_says()
     ensures { (plan : PlainPlan) (size : ℕ) (head : Head) (payload : List ℕ)
         (journal : List Item) (given taken : Marks) (peer : PeerValue) (settled : Settled)
-        (answer : Prepared) → plan.command ≡ Command.Listen → NoneTunes plan.offers
+        (answer : Prepared) → AskInTurn plan journal → NoneTunes plan.offers
         → (head.channel == 0) ≡ true → is_msg head.kind ≡ true → head.more ≡ false
         → is_answered Side.Sent 0 (zero_history journal) ≡ true
         → StandsIn size journal given taken peer
@@ -129,24 +191,24 @@ pub fn a_request_is_answered_as_its_script_says()
         (peer.management.answers ++ answer ∷ []) }
 {}
 
-/// The first answers that a listener lets go are clear, in each life for which one waits all is
+/// The first answers that an end lets go are clear, in each life for which one waits all is
 /// said.
 pub fn answers_go_as_their_script_lists_them()
     ensures { (plan : PlainPlan) (size : ℕ) (item : Item) (journal : List Item)
         (given now taken : Marks) (answers : List Prepared) (peer : PeerValue)
-        → plan.command ≡ Command.Listen
+        → AskInTurn plan journal
         → IsDeskWithin plan item journal (given 0) answers → GivesFirst given now answers peer
         → StandsIn size (item ∷ journal) now taken peer
         → AreDoneFor plan (item ∷ journal) now answers
         → IsDeskWithin plan item journal (now 0) peer.management.answers }
 {}
 
-/// Once all that came is taken, and the first answer waits for something that hasn't come, what a
-/// listener gave and prepared is what its script lists and owes.
+/// Once all that came is taken, and the first answer waits for something that hasn't come, what an
+/// end gave and prepared is what its script lists and owes, where nothing is asked.
 pub fn no_answer_is_held_that_its_script_lists()
     ensures { (plan : PlainPlan) (terms : Terms) (size : ℕ) (item : Item) (journal : List Item)
-        (given taken : Marks) (peer : PeerValue) → plan.command ≡ Command.Listen
-        → NoneTunes plan.offers
+        (given taken : Marks) (peer : PeerValue) → AskInTurn plan journal
+        → asks plan.command plan item journal ≡ [] → NoneTunes plan.offers
         → IsDeskWithin plan item journal (given 0) peer.management.answers
         → StandsIn size (item ∷ journal) given taken peer
         → IsUpright terms (item ∷ journal) peer.lives peer.management → AllTaken peer.lives
@@ -154,17 +216,43 @@ pub fn no_answer_is_held_that_its_script_lists()
         → IsDeskOf plan (item ∷ journal) (given 0) peer.management.answers }
 {}
 
-/// What a listener sent on channel zero is the beginning of what its script lists there, positions
+/// Where something is asked then, and is given, it is what its script lists next.
+pub fn own_requests_go_as_their_script_lists_them()
+    ensures { (plan : PlainPlan) (terms : Terms) (size : ℕ) (item : Item) (journal : List Item)
+        (given taken now later : Marks) (peer next : PeerValue) (messages : List Message)
+        → AskInTurn plan (item ∷ journal) → NoneTunes plan.offers
+        → IsDeskWithin plan item journal (given 0) peer.management.answers
+        → StandsIn size (item ∷ journal) given taken peer → AllTaken peer.lives
+        → SaysAll plan (item ∷ journal) given
+        → IsStuck peer.lives peer.management
+        → now 0 ≡ given 0 ++ marks_of messages
+        → AreGivenFor messages (asks plan.command plan item journal)
+        → next.management.answers ≡ peer.management.answers
+        → StandsIn size (item ∷ journal) now later next
+        → IsUpright terms (item ∷ journal) next.lives next.management
+        → IsDeskOf plan (item ∷ journal) (now 0) next.management.answers }
+{}
+
+/// What is owed is held back: the first answer waits for something that hasn't come.
+pub fn what_is_owed_is_held_back()
+    ensures { (plan : PlainPlan) (size : ℕ) (journal : List Item) (given taken : Marks)
+        (peer : PeerValue) → AskInTurn plan journal → StandsIn size journal given taken peer
+        → IsDeskOf plan journal (given 0) peer.management.answers
+        → AreDoneFor plan journal given peer.management.answers
+        → IsStuck peer.lives peer.management }
+{}
+
+/// What an end sent on channel zero is the beginning of what its script lists there, positions
 /// modulo 2^64: between two steps, and within one.
 pub fn what_was_sent_is_the_beginning_of_what_is_listed()
-    ensures between { (plan : PlainPlan) (size count : ℕ) (journal : List Item) (given taken : Marks)
-        (peer : PeerValue) → plan.command ≡ Command.Listen → NoneTunes plan.offers
+    ensures between { (plan : PlainPlan) (size count : ℕ) (journal : List Item)
+        (given taken : Marks) (peer : PeerValue) → AskInTurn plan journal → NoneTunes plan.offers
         → StandsIn size journal given taken peer
         → IsDeskOf plan journal (given 0) peer.management.answers
         → BeginsWith (map mark_modulo_2_64 (script_marks plan 0 count journal))
         (map mark_modulo_2_64 (marks Side.Sent (zero_history journal))) }
     ensures within { (plan : PlainPlan) (size count : ℕ) (item : Item) (journal : List Item)
-        (given taken : Marks) (peer : PeerValue) → plan.command ≡ Command.Listen
+        (given taken : Marks) (peer : PeerValue) → AskInTurn plan journal
         → NoneTunes plan.offers → StandsIn size (item ∷ journal) given taken peer
         → IsDeskWithin plan item journal (given 0) peer.management.answers
         → BeginsWith (map mark_modulo_2_64 (script_marks plan 0 count (item ∷ journal)))

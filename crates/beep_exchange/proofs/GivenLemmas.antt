@@ -50,7 +50,7 @@ module _ (o w : ℕ) (ns : List ℕ) (is : ns ≡ run o w) (some : 0 < w) where
   pub without_least-row : without_least ns ≡ run (suc o) (w - 1)
   without_least-row = ap without_least row-is ∙ without_least-run o (w - 1)
 
--- ---- what is told
+-- ---- what calls answer
 
 module _ (given : Given) (calls : List Call) (c : Counts given calls) where
   pub told-asked : given.asked ≡ length (asked_of calls)

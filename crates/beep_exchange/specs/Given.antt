@@ -1,10 +1,11 @@
--- What the calls on messages that were given, and on ends that were taken, tell (RFC 3080, sections
--- 2.1 and 2.3.1).
+-- What the calls on messages that were given, and on ends that were taken, answer (RFC 3080,
+-- sections 2.1 and 2.3.1).
 -- The code keeps five numbers; here each word looks back over the whole list of calls, the latest
 -- first.
--- Positions are whole here. A call in code tells them modulo 2^64.
-use Rattle.std.specs.Prelude.{◌≡◌, ℕ, zero, suc, ◌+◌, ◌-◌, ◌^◌, ◌%◌, ◌==◌, ◌<◌, min, nat_lt, Bool, true, false, not, ◌&&◌, ◌||◌, if◌then◌else◌, List, [], ◌∷◌, length, option_map, Option, None, Some}
+-- Positions are whole here. A call in code answers them modulo 2^64.
+use Rattle.std.specs.Prelude.{◌≡◌, ℕ, zero, suc, ◌+◌, ◌-◌, ◌%◌, ◌==◌, ◌<◌, min, nat_lt, Bool, true, false, not, ◌&&◌, ◌||◌, if◌then◌else◌, List, [], ◌∷◌, length, option_map, Option, None, Some}
 use Rattle.std.specs.Option.{option_map_or}
+use Rattle.beep_octets.specs.Numbers.{numbers_31}
 use Rattle.beep_frame.specs.declared.kind.Kind.{Kind}
 use Rattle.beep_frame.specs.declared.tag.Tag.{Tag}
 use Rattle.beep_history.specs.declared.limits.TheConstants.{MAX_REQUESTS}
@@ -34,11 +35,11 @@ without_least ns = option_map_or (λ n. without n ns) (least ns) ns
 -- the number that a count of messages has on the wire: those of a header go up to 2147483647 (RFC
 -- 3080, section 2.2.1.1)
 abbrev pub message_number : ℕ → ℕ
-message_number count = count % 2 ^ 31
+message_number count = count % numbers_31
 
 -- it is one of these numbers
 abbrev pub IsMessageNumber : ℕ → Type 0
-IsMessageNumber number = number < 2 ^ 31
+IsMessageNumber number = number < numbers_31
 
 -- ---- own requests
 
@@ -72,15 +73,14 @@ is_taken position (took tag ∷ calls) =
     (is_msg tag.kind && tag.request == position) || is_taken position calls
 
 -- the positions of the requests whose end was taken and that have no whole reply given, the latest
--- first: a whole
--- reply is given to the least of them
+-- first: a whole reply is given to the least of them
 abbrev pub owed_of : List Call → List ℕ
 owed_of [] = []
 owed_of (gave kind ∷ calls) =
     if ends_reply kind then without_least (owed_of calls) else owed_of calls
 owed_of (took tag ∷ calls) = if is_msg tag.kind then tag.request ∷ owed_of calls else owed_of calls
 
--- the least of these, as a call tells it
+-- the least of these, modulo 2^64
 abbrev pub first_owed_of : List Call → Option ℕ
 first_owed_of calls = option_map modulo_2_64 (least (owed_of calls))
 
@@ -196,7 +196,7 @@ after_taken given Kind.Nul = after_end given
 abbrev pub first_asked_now : Given → Option ℕ
 first_asked_now given = if given.asked == 0 then None else Some (message_number given.first_asked)
 
--- the position that the next own request has, as a call tells it
+-- the position that the next own request has, modulo 2^64
 abbrev pub next_asked_now : Given → ℕ
 next_asked_now given = modulo_2_64 (given.first_asked + given.asked)
 

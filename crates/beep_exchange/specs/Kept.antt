@@ -1,9 +1,10 @@
 -- What an exchange keeps of one direction, and each rule as a test of that alone.
 -- What a rule means is said over the whole history, in beep_history; here stands what a bounded
 -- memory can tell.
-use Rattle.std.specs.Prelude.{ℕ, ◌+◌, ◌-◌, ◌==◌, ◌^◌, min, nat_lt, nat_le, Bool, false, not, ◌&&◌, ◌||◌, if◌then◌else◌, List, [], ◌∷◌, ◌++◌, length, take, drop, map, filter, find, option_map, Option, None, Some, slice_index}
+use Rattle.std.specs.Prelude.{ℕ, ◌+◌, ◌-◌, ◌==◌, min, nat_lt, nat_le, Bool, false, not, ◌&&◌, ◌||◌, if◌then◌else◌, List, [], ◌∷◌, ◌++◌, length, take, drop, map, filter, find, option_map, Option, None, Some, slice_index}
 use Rattle.std.specs.List.{list_any}
 use Rattle.std.specs.Option.{option_map_or}
+use Rattle.beep_octets.specs.Numbers.{numbers_32, numbers_64}
 use Rattle.beep_frame.specs.declared.head.Head.{Head}
 use Rattle.beep_frame.specs.declared.kind.Kind.{Kind}
 use Rattle.beep_frame.specs.declared.rule.Rule.{Rule}
@@ -17,11 +18,11 @@ use Rattle.beep_exchange.specs.declared.answer.Answer.{Answer}
 
 -- octets as they are counted: no further than to the greatest number of 32 bits
 abbrev pub capped : ℕ → ℕ
-capped octets = min octets (2 ^ 32 - 1)
+capped octets = min octets (numbers_32 - 1)
 
 -- the count that stands so many before one that is kept modulo 2^64
 abbrev pub count_back : ℕ → ℕ → ℕ
-count_back many count = modulo_2_64 (count + 2 ^ 64 - many)
+count_back many count = modulo_2_64 (count + numbers_64 - many)
 
 -- of one direction: the frame under way, the one that passed last, the octets so far of the message
 -- of that one, the numbers of the last requests, the latest first, how many requests began, modulo

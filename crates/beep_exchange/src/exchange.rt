@@ -113,28 +113,11 @@ impl Exchange {
         self.received.tag(&self.sent)
     }
 
-    /// The tag of the frame of this end under way, its position modulo 2^64.
-    pub fn tag_out(&self) -> Option<Tag>
-        ensures value { result ≡ tag_under_way self.now.sent self.now.received }
-        ensures stands { (past : List Item) (head : HeadValue) → IsExchange self.now past
-            → self.now.sent.under_way ≡ Some head
-            → result ≡ Some (modulo_2_64 (tag_of Side.Sent past head)) }
-    {
-        self.sent.tag(&self.received)
-    }
-
     /// The header of the received frame under way.
     pub fn receiving(&self) -> Option<Head>
         ensures { result ≡ self.now.received.under_way }
     {
         self.received.under_way()
-    }
-
-    /// The header of the frame of this end under way.
-    pub fn sending(&self) -> Option<Head>
-        ensures { result ≡ self.now.sent.under_way }
-    {
-        self.sent.under_way()
     }
 
     /// The header of the frame of this end that was wholly written last, if any was.
@@ -163,13 +146,6 @@ impl Exchange {
         ensures { result ≡ self.now.sent.waiting }
     {
         self.sent.waiting()
-    }
-
-    /// Whether a received header begins a request.
-    pub fn begins_in(&self, head: &Head) -> bool
-        ensures { result ≡ begins self.now.received head.now }
-    {
-        self.received.is_new_request(head)
     }
 
     /// Notes a received header.

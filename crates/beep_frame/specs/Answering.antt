@@ -1,5 +1,6 @@
 -- What a tracker answers to what was found, and what it is then: for its proofs.
-use Rattle.std.specs.Prelude.{ℕ, ◌+◌, ◌-◌, ◌^◌, ◌==◌, nat_lt, if◌then◌else◌, Some}
+use Rattle.std.specs.Prelude.{ℕ, ◌+◌, ◌-◌, ◌==◌, nat_lt, if◌then◌else◌, Some}
+use Rattle.beep_octets.specs.Numbers.{numbers_64}
 use Rattle.beep_frame.specs.declared.rule.Rule.{Rule}
 use Rattle.beep_frame.specs.declared.line.Line.{Line}
 use Rattle.beep_frame.specs.declared.step.Step.{Step}
@@ -25,7 +26,7 @@ after_header size = if size == 0 then Place.Trailer 0 else Place.Payload size
 
 -- the number of the octet that was used last
 abbrev pub last_number : ℕ → ℕ
-last_number used = modulo_2_64 (used + (2 ^ 64 - 1))
+last_number used = modulo_2_64 (used + (numbers_64 - 1))
 
 abbrev pub broken_by : TrackerState → Rule → TrackerState
 broken_by d rule = record d { broken = Some (rule, last_number d.used) }

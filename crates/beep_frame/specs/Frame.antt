@@ -1,7 +1,8 @@
 -- What a frame is: a header and its payload, or a SEQ (RFC 3080, section 2.2.1; RFC 3081, section
 -- 3.1).
 -- The decoder never holds a frame: it answers a header when that has ended, and counts the payload.
-use Rattle.std.specs.Prelude.{◌≡◌, ℕ, ◌^◌, ◌<◌, ◌≤◌, ◌==◌, Bool, true, false, not, List, length}
+use Rattle.std.specs.Prelude.{◌≡◌, ℕ, ◌<◌, ◌≤◌, ◌==◌, Bool, true, false, not, List, length}
+use Rattle.beep_octets.specs.Numbers.{numbers_32}
 use Rattle.beep_frame.specs.declared.kind.Kind.{Kind}
 use Rattle.beep_frame.specs.declared.head.Head.{Head}
 use Rattle.beep_frame.specs.declared.seq.Seq.{Seq}
@@ -32,14 +33,14 @@ max_ansno_of Kind.Nul = 0
 pub record IsHead (head : Head) : Type 0 where
   pub channel : head.channel ≤ MAX_NUMBER
   pub msgno : head.msgno ≤ MAX_NUMBER
-  pub seqno : head.seqno < 2 ^ 32
+  pub seqno : head.seqno < numbers_32
   pub size : head.size ≤ MAX_NUMBER
   pub ansno : head.ansno ≤ max_ansno_of head.kind
 
 -- each number of a SEQ is in its range
 pub record IsSeq (seq : Seq) : Type 0 where
   pub channel : seq.channel ≤ MAX_NUMBER
-  pub ackno : seq.ackno < 2 ^ 32
+  pub ackno : seq.ackno < numbers_32
   pub window : seq.window ≤ MAX_NUMBER
 
 -- a frame: a header with its payload, or a SEQ

@@ -1,7 +1,8 @@
 -- The parts of a header's line or a SEQ's, and what one octet does to a part: the decoder's step,
 -- for its proofs alone.
 -- No contract of a public call cites it: what a line means is its text (Spelling).
-use Rattle.std.specs.Prelude.{ℕ, ◌+◌, ◌-◌, ◌*◌, ◌^◌, ◌==◌, Bool, ◌&&◌, ◌||◌, if◌then◌else◌, nat_le, Option, Some, None, List, [], ◌∷◌}
+use Rattle.std.specs.Prelude.{ℕ, ◌+◌, ◌-◌, ◌*◌, ◌==◌, Bool, ◌&&◌, ◌||◌, if◌then◌else◌, nat_le, Option, Some, None, List, [], ◌∷◌}
+use Rattle.beep_octets.specs.Numbers.{numbers_32}
 use Rattle.beep_frame.specs.declared.kind.Kind.{Kind}
 use Rattle.beep_frame.specs.declared.head.TheConstants.{MAX_NUMBER}
 use Rattle.beep_frame.specs.declared.line.Keyword.{Keyword}
@@ -16,7 +17,7 @@ number = Part.Number MAX_NUMBER 32
 
 -- a number of 32 bits, and the space after it
 abbrev pub any : Part
-any = Part.Number (2 ^ 32 - 1) 32
+any = Part.Number (numbers_32 - 1) 32
 
 -- the last number of a line, and the CR after it
 abbrev pub last : Part

@@ -25,17 +25,17 @@ pub(crate) enum Place {
 /// What the octets of a feed lead to.
 #[derive(Clone, Copy, Debug, PartialEq, Eq)]
 pub(crate) enum Found {
-    /// Nothing yet.
+    /// All octets were used, and no line and no data frame has ended.
     More,
-    /// A whole header.
+    /// The last octet used is the LF of this header.
     Head(Head),
-    /// A whole data frame.
+    /// The last octet used is the LF of a trailer, which ends a data frame.
     Frame,
-    /// A whole SEQ.
+    /// The last octet used is the LF of this SEQ.
     Seq(Seq),
-    /// An octet that can't stand in a line.
+    /// The last octet used can't stand there in a line.
     BadLine,
-    /// An octet that can't stand in a trailer.
+    /// The last octet used can't stand there in a trailer.
     BadTrailer,
 }
 

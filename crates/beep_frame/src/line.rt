@@ -15,18 +15,18 @@ use crate::seq::Seq;
 /// What a line begins.
 #[derive(Clone, Copy, Debug, PartialEq, Eq)]
 pub(crate) enum Keyword {
-    /// A data frame.
+    /// `MSG`, `RPY`, `ERR`, `ANS` or `NUL`: the line is a header.
     Data(Kind),
-    /// A SEQ.
+    /// `SEQ`: the line is a whole SEQ, and no payload follows it.
     Seq,
 }
 
-/// A part of a line.
+/// What stands at a place of a line.
 #[derive(Clone, Copy, Debug, PartialEq, Eq)]
 pub(crate) enum Part {
-    /// This octet.
+    /// This octet and no other.
     Octet(u8),
-    /// `*` or `.`.
+    /// `*` where more frames of the message follow, and `.` where none do.
     Flag,
     /// A number of at most `max`, and the octet that ends it.
     Number { max: u32, end: u8 },
@@ -45,6 +45,24 @@ pub(crate) enum PartTurn {
 
 /// The most parts that a line has.
 const MAX_PARTS: usize = 12;
+
+// The places of the numbers among the parts of a line: four octets come before them, and the flag
+// of a data frame has a space after it.
+const CHANNEL: usize = 4;
+
+const MSGNO: usize = 5;
+
+const MORE: usize = 6;
+
+const SEQNO: usize = 8;
+
+const SIZE: usize = 9;
+
+const ANSNO: usize = 10;
+
+const ACKNO: usize = 5;
+
+const WINDOW: usize = 6;
 
 /// A line that is being read.
 #[derive(Clone, Copy, Debug)]
@@ -280,17 +298,17 @@ impl Line {
         ensures { result ≡ head_of_line kind self.now.values }
     {
         let ansno = if kind == Kind::Ans {
-            self.values[10]
+            self.values[ANSNO]
         } else {
             0
         };
         Head {
             kind,
-            channel: self.values[4],
-            msgno: self.values[5],
-            more: self.values[6] == u32::from(b'*'),
-            seqno: self.values[8],
-            size: self.values[9],
+            channel: self.values[CHANNEL],
+            msgno: self.values[MSGNO],
+            more: self.values[MORE] == u32::from(b'*'),
+            seqno: self.values[SEQNO],
+            size: self.values[SIZE],
             ansno,
         }
     }
@@ -299,9 +317,9 @@ impl Line {
         ensures { result ≡ seq_of_line self.now.values }
     {
         Seq {
-            channel: self.values[4],
-            ackno: self.values[5],
-            window: self.values[6],
+            channel: self.values[CHANNEL],
+            ackno: self.values[ACKNO],
+            window: self.values[WINDOW],
         }
     }
 }

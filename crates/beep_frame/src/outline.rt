@@ -15,7 +15,7 @@ use std::alloc::Global;
 pub enum PlainFrame {
     /// A data frame: its header and its payload.
     Data(Head, Octets),
-    /// A SEQ.
+    /// A SEQ, which is one line and has no payload.
     Seq(Seq),
 }
 

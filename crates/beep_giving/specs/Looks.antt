@@ -5,7 +5,7 @@ use Rattle.beep_exchange.specs.declared.given.Given.{Given}
 use Rattle.beep_inbox.specs.Runs.{Run}
 use Rattle.beep_channel.specs.Held.{Live}
 
--- the requests that wait and those that are owed, as calls tell them
+-- what is counted of its requests and of their replies, positions modulo 2^64
 abbrev pub given_of : Option Live → Option Given
 given_of None = None
 given_of (Some channel) = Some channel.held.life.given

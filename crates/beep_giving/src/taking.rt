@@ -1,5 +1,6 @@
 //! What a program takes from a live life above zero (RFC 3080, sections 2.1 and 2.3.1.3).
-ghost use Rattle.std.specs.Prelude.{◌≡◌, ◌<◌, ◌^◌, ◌==◌, ◌||◌, [], ℕ, List, length, if◌then◌else◌, option_map, IsSome, IfSome, IfNone};
+ghost use Rattle.std.specs.Prelude.{◌≡◌, ◌<◌, ◌==◌, ◌||◌, [], ℕ, List, length, if◌then◌else◌, option_map, IsSome, IfSome, IfNone};
+ghost use Rattle.beep_octets.specs.Numbers.{numbers_32};
 ghost use Rattle.beep_history.specs.Journal.{Item};
 ghost use Rattle.beep_exchange.specs.Given.{after_taken};
 ghost use Rattle.beep_inbox.specs.Untaken.{IsTaken};
@@ -22,7 +23,7 @@ pub fn take(peer: &mut Peer, number: u32, buf: &mut [u8]) -> Option<Part>
     requires above { 0 < number }
     requires live { IsSome (live_at number peer.old.lives) }
     requires some { 0 < length buf.old }
-    requires fits { length buf.old < 2 ^ 32 }
+    requires fits { length buf.old < numbers_32 }
     requires held { AreHeld peer.old.lives peer.old.management }
     ensures some { (size : ℕ) (fed rest : List ℕ) (journal : List Item) (given taken : Marks)
         → IsPeer size fed rest journal given taken peer.old → IfSome result (λ part.

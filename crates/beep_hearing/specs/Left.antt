@@ -1,5 +1,6 @@
 -- What the steps of a feed need and leave: for proofs.
-use Rattle.std.specs.Prelude.{◌≡◌, ℕ, ◌+◌, ◌-◌, ◌^◌, ◌<◌, true, List, [], ◌∷◌, ◌++◌, length, Option, None, Some, IfSome, is_some}
+use Rattle.std.specs.Prelude.{◌≡◌, ℕ, ◌+◌, ◌-◌, ◌<◌, true, List, [], ◌∷◌, ◌++◌, length, Option, None, Some, IfSome, is_some}
+use Rattle.beep_octets.specs.Numbers.{numbers_64}
 use Rattle.beep_frame.specs.declared.head.Head.{Head}
 use Rattle.beep_frame.specs.declared.rule.Rule.{Rule}
 use Rattle.beep_frame.specs.Frame.{Frame, framed}
@@ -31,7 +32,7 @@ pub record Drops (size : ℕ) (earlier journal : List Item) (given taken : Marks
 
 -- the number of the octet that was used last
 abbrev pub last_place : ℕ → ℕ
-last_place used = modulo_2_64 (used + (2 ^ 64 - 1))
+last_place used = modulo_2_64 (used + (numbers_64 - 1))
 
 -- the answer where a rule was broken at this place, or none
 abbrev pub heard_by : Option Rule → ℕ → Heard

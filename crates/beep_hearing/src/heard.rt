@@ -15,7 +15,7 @@ pub enum Heard {
     /// The last octet used broke this rule. Its number is the place, counted from 0, modulo 2^64.
     /// Each later feed answers the same and uses nothing.
     Broken(Rule, u64),
-    /// Want of memory. The octets before the count were used, and the rest can be fed again.
+    /// Out of memory: the octets before the count were used, and the rest can be fed again.
     NoMemory,
 }
 

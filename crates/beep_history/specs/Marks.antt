@@ -220,13 +220,13 @@ marks side (passed by head payload ∷ past) =
     ++ (if carries side past by head then frame_marks (tag_of side past head) head payload else [])
 marks side (told by seq ∷ past) = marks side past
 
--- ---- as calls tell them
+-- ---- positions modulo 2^64
 
--- a tag as a call tells it: its position modulo 2^64
+-- a tag with its position modulo 2^64, as calls answer it
 abbrev pub modulo_2_64 : Tag → Tag
 modulo_2_64 tag = record tag { request = count_modulo_2_64 tag.request }
 
--- a mark as a call tells it
+-- a mark whose tag has its position modulo 2^64
 abbrev pub mark_modulo_2_64 : Mark → Mark
 mark_modulo_2_64 (octet tag value) = octet (modulo_2_64 tag) value
 mark_modulo_2_64 (end tag) = end (modulo_2_64 tag)

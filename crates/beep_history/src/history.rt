@@ -2,8 +2,9 @@
 //!
 //! No session runs this: it is the definitions in code, slow, so that they can be tried on
 //! examples.
-ghost use Rattle.std.specs.Prelude.{◌≡◌, ◌+◌, ◌*◌, ◌^◌, ◌<◌, ◌≤◌, ◌==◌, nat_lt, IfSome, IfNone, not, ◌&&◌, [], ◌∷◌, length, take, find, filter, option_map, is_some};
+ghost use Rattle.std.specs.Prelude.{◌≡◌, ◌+◌, ◌*◌, ◌<◌, ◌≤◌, ◌==◌, nat_lt, IfSome, IfNone, not, ◌&&◌, [], ◌∷◌, length, take, find, filter, option_map, is_some};
 ghost use Rattle.std.specs.List.{list_any};
+ghost use Rattle.beep_octets.specs.Numbers.{numbers_32};
 ghost use Rattle.beep_frame.specs.Frame.{same_kind};
 ghost use Rattle.beep_history.specs.Journal.{history_of};
 ghost use Rattle.beep_history.specs.Broken.{is_used};
@@ -246,7 +247,7 @@ pub fn unfinished_count(side: Side, position: usize, past: &[JournalItem]) -> us
 /// The octets so far of the unfinished answer of this number.
 pub fn octets_of_answer(side: Side, position: usize, number: u32, past: &[JournalItem]) -> u128
     ensures value { result ≡ answer_octets number (reply side position (history_of past.now)) }
-    ensures within { result ≤ length past.now * 2 ^ 32 }
+    ensures within { result ≤ length past.now * numbers_32 }
 {
     match last_of_reply(side, position, past) {
         None => 0,
@@ -266,7 +267,7 @@ pub fn octets_of_answer(side: Side, position: usize, number: u32, past: &[Journa
 /// The octets of the frames before this header that belong to its message, where it is no ANS.
 pub fn octets_begun(side: Side, past: &[JournalItem], head: &Head) -> u128
     ensures value { result ≡ begun_octets head.now (frames side (history_of past.now)) }
-    ensures within { result ≤ length past.now * 2 ^ 32 }
+    ensures within { result ≤ length past.now * numbers_32 }
 {
     match past {
         [] => 0,

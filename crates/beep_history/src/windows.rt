@@ -3,7 +3,8 @@
 //!
 //! No session runs this: it is the definitions in code, slow, so that they can be tried on
 //! examples.
-ghost use Rattle.std.specs.Prelude.{◌≡◌, ◌+◌, ◌*◌, ◌^◌, ◌≤◌, length};
+ghost use Rattle.std.specs.Prelude.{◌≡◌, ◌+◌, ◌*◌, ◌≤◌, length};
+ghost use Rattle.beep_octets.specs.Numbers.{numbers_32};
 ghost use Rattle.beep_history.specs.Journal.{history_of};
 ghost use Rattle.beep_history.specs.Marks.{passed_octets};
 ghost use Rattle.beep_history.specs.Windows.{acked_octets, last_window, greatest_edge, window_edge};
@@ -14,7 +15,7 @@ use beep_seq::{INITIAL_WINDOW, count_from};
 /// The octets of the frames of this side that have passed.
 pub fn octets_passed(side: Side, past: &[JournalItem]) -> u128
     ensures value { result ≡ passed_octets side (history_of past.now) }
-    ensures within { result ≤ length past.now * 2 ^ 32 }
+    ensures within { result ≤ length past.now * numbers_32 }
 {
     match past {
         [] => 0,
@@ -35,7 +36,7 @@ pub fn octets_passed(side: Side, past: &[JournalItem]) -> u128
 /// The greatest count of octets up to which this side was allowed to send.
 pub fn edge(side: Side, past: &[JournalItem]) -> u128
     ensures value { result ≡ greatest_edge side (history_of past.now) }
-    ensures within { result ≤ length past.now * 2 ^ 32 + 2 ^ 32 }
+    ensures within { result ≤ length past.now * numbers_32 + numbers_32 }
 {
     match past {
         [] => u128::from(INITIAL_WINDOW),
@@ -57,7 +58,7 @@ pub fn edge(side: Side, past: &[JournalItem]) -> u128
 /// The octets of this side that the SEQs of the other have acknowledged.
 pub fn octets_acked(side: Side, past: &[JournalItem]) -> u128
     ensures value { result ≡ acked_octets side (history_of past.now) }
-    ensures within { result ≤ length past.now * 2 ^ 32 }
+    ensures within { result ≤ length past.now * numbers_32 }
 {
     match past {
         [] => 0,

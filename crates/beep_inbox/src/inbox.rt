@@ -1,6 +1,7 @@
 //! What arrived in one life and was not taken, the oldest first.
-ghost use Rattle.std.specs.Prelude.{◌≡◌, ◌<◌, ◌≤◌, ◌==◌, ◌+◌, ◌^◌, [], ◌∷◌, ◌++◌, length, IfSome, IfNone, IfOk, OnOk, OnErr, IsOk};
+ghost use Rattle.std.specs.Prelude.{◌≡◌, ◌<◌, ◌≤◌, ◌==◌, ◌+◌, [], ◌∷◌, ◌++◌, length, IfSome, IfNone, IfOk, OnOk, OnErr, IsOk};
 ghost use Rattle.std.specs.VecDeque.{deque_len, deque_capacity};
+ghost use Rattle.beep_octets.specs.Numbers.{numbers_32};
 ghost use Rattle.beep_inbox.specs.Runs.{put_run, octets_of, AllMarked};
 ghost use Rattle.beep_inbox.specs.Untaken.{lengths, goes_on, TakesPart};
 ghost use Rattle.beep_inbox.specs.Untaken.{put_part as put_of};
@@ -23,6 +24,7 @@ pub struct Inbox {
 impl Model for Inbox {
     ghost use Rattle.std.specs.Prelude.{◌≡◌, ◌-◌, ◌^◌, ◌<◌, length};
     ghost use Rattle.std.specs.VecDeque.{deque_len, deque_capacity};
+    ghost use Rattle.beep_octets.specs.Numbers.{numbers_32};
     ghost use Rattle.beep_inbox.specs.Runs.{AllMarked};
     ghost use Rattle.beep_inbox.specs.Untaken.{Untaken, runs_of, lengths};
 
@@ -35,10 +37,11 @@ impl Model for Inbox {
     } };
 
     ghost invariant = { λ i. (lengths i.parts.items ≡ length i.octets.items)
-        × (i.octets.capacity < 2 ^ 32) × AllMarked (runs_of i.parts.items i.octets.items) };
+        × (i.octets.capacity < numbers_32) × AllMarked (runs_of i.parts.items i.octets.items) };
 }
 
 impl Inbox {
+    ghost use Rattle.beep_octets.specs.Numbers.{numbers_32};
     ghost use Rattle.beep_inbox.specs.Untaken.{IsTaken};
 
     /// An inbox for at most `window` untaken octets. It takes the room for them here.
@@ -88,7 +91,7 @@ impl Inbox {
     /// follows. It takes no memory.
     pub fn take(&mut self, buf: &mut [u8]) -> Option<Part>
         requires some { 0 < length buf.old }
-        requires fits { length buf.old < 2 ^ 32 }
+        requires fits { length buf.old < numbers_32 }
         ensures some { IfSome result (λ part.
             IsTaken part self.old.runs self.new.runs buf.old buf.new) }
         ensures none { IfNone result (self.old.runs ≡ []) }
@@ -133,7 +136,7 @@ impl Inbox {
 /// Puts `len` octets after the others, as one part with the last where they go on with its
 /// message.
 fn put_part(parts: &mut VecDeque<Part>, tag: Tag, len: usize, ended: bool) -> Result<(), NoMemory>
-    requires { lengths parts.old.items + len < 2 ^ 32 }
+    requires { lengths parts.old.items + len < numbers_32 }
     ensures ok { OnOk result (parts.new.items
         ≡ put_of parts.old.items (record { tag = tag; len = len; ended = ended })) }
     ensures err { OnErr result (parts.new.items ≡ parts.old.items) }

@@ -18,9 +18,9 @@ use std::alloc::Global;
 pub enum Unlisted {
     /// The line of this number, from 1, is too long, or has the first octet past `MAX_INPUT`.
     Bad(u64),
-    /// A read failed.
+    /// A read failed, and the octets that were read before it are dropped.
     Fault,
-    /// Out of memory.
+    /// The input or the list of its lines found no memory, and what was read is dropped.
     NoMemory,
 }
 

@@ -19,9 +19,9 @@ const PIECE: usize = 65536;
 /// Why an input isn't kept.
 #[derive(Clone, Copy, Debug, PartialEq, Eq)]
 pub enum Unread {
-    /// A read failed.
+    /// A read failed, and the octets that were read before it are dropped.
     Fault,
-    /// Its octets found no memory.
+    /// Its octets found no memory, and those that were read are dropped.
     NoMemory,
 }
 

@@ -9,6 +9,7 @@ use Rattle.beep_history.specs.Journal.{Item, began, passed, told, same_side}
 use Rattle.beep_journal.specs.Lives.{Event, close_came, start_granted, close_granted, lives, has_ended, is_live}
 use Rattle.beep_journal.specs.Zero.{channel_of, zero_history, zero_events, effect, events}
 use Rattle.beep_journal.specs.Life.{life_now, life_under_way, is_of_life, life}
+use Rattle.beep_journal.specs.Laws.{no_header}
 
 -- ---- lives never grow fewer
 
@@ -144,3 +145,44 @@ pub one-life : (number one other : ℕ) (item : Item) (journal : List Item)
 one-life number one other (began by head) journal e f = same-count (head.channel == number) (life_now number journal) one other e f
 one-life number one other (passed by head payload) journal e f = same-count (head.channel == number) (life_under_way number by journal) one other e f
 one-life number one other (told by seq) journal e f = same-count (seq.channel == number) (life_now number journal) one other e f
+
+-- ---- a frame belongs to the life of its header
+
+self-side : (side : Side) → same_side side side ≡ true
+self-side Side.Received = refl
+self-side Side.Sent = refl
+
+-- of a header that is the latest of its side
+under-header : (n : ℕ) (side : Side) (head : Head) (earlier : List Item)
+    → life_under_way n side (began side head ∷ earlier) ≡ (if head.channel == n then life_now n earlier else 0)
+under-header n side head earlier =
+    ap (λ (b : Bool). if b then (if head.channel == n then life_now n earlier else 0) else life_under_way n side earlier) (self-side side)
+
+not-same : (a b : Bool) → (not a && b) ≡ true → a ≡ false
+not-same false b e = refl
+not-same true b e = absurd (let g : false ≡ true = e in cc)
+
+and-rest : (a b : Bool) → (not a && b) ≡ true → b ≡ true
+and-rest false b e = e
+and-rest true b e = absurd (let g : false ≡ true = e in cc)
+
+under-later : (n : ℕ) (side : Side) (rest : List Item) (later : List Item) → no_header side later ≡ true
+    → life_under_way n side (later ++ rest) ≡ life_under_way n side rest
+under-later n side rest [] none = refl
+under-later n side rest (began by head ∷ later) none =
+    ap (λ (b : Bool). if b then (if head.channel == n then life_now n (later ++ rest) else 0) else life_under_way n side (later ++ rest))
+    (not-same (same_side by side) (no_header side later) none)
+    ∙ under-later n side rest later (and-rest (same_side by side) (no_header side later) none)
+under-later n side rest (passed by head payload ∷ later) none = under-later n side rest later none
+under-later n side rest (told by seq ∷ later) none = under-later n side rest later none
+
+chosen-same : (here : Bool) (now count : ℕ) → (here && (if here then now else 0) == count) ≡ (here && now == count)
+chosen-same true now count = refl
+chosen-same false now count = refl
+
+pub frame-of-header : (n k : ℕ) (side : Side) (head : Head) (payload : List ℕ) (later earlier : List Item) → no_header side later ≡ true
+    → is_of_life n k (passed side head payload) (later ++ began side head ∷ earlier) ≡ is_of_life n k (began side head) earlier
+frame-of-header n k side head payload later earlier none =
+    let under : life_under_way n side (later ++ began side head ∷ earlier) ≡ (if head.channel == n then life_now n earlier else 0) =
+    under-later n side (began side head ∷ earlier) later none ∙ under-header n side head earlier in
+    ap (λ (m : ℕ). head.channel == n && m == k) under ∙ chosen-same (head.channel == n) (life_now n earlier) k

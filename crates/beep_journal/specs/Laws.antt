@@ -1,5 +1,5 @@
 -- What the definitions of a session mean, in words that need less of them.
-use Rattle.std.specs.Prelude.{◌≡◌, ℕ, ◌<◌, ◌≤◌, ◌==◌, ◌&&◌, not, false, if◌then◌else◌, List, [], ◌∷◌, ◌++◌, None}
+use Rattle.std.specs.Prelude.{◌≡◌, ℕ, ◌<◌, ◌≤◌, ◌==◌, Bool, ◌&&◌, not, true, false, if◌then◌else◌, List, [], ◌∷◌, ◌++◌, None}
 use Rattle.beep_history.specs.Marks.{Mark, octet, end}
 use Rattle.beep_history.specs.declared.journal.Side.{Side}
 use Rattle.beep_history.specs.Journal.{Item, began, passed, told, same_side}
@@ -12,6 +12,15 @@ pub record IsLiveLife (number count : ℕ) (events : List Event) : Type 0 where
   pub first : 0 < count
   pub begun : count ≤ lives number events
   pub goes_on : has_ended number count events ≡ false
+
+-- ---- a frame and its header
+
+-- no header of this side is among the items
+abbrev pub no_header : Side → List Item → Bool
+no_header side [] = true
+no_header side (began by head ∷ items) = not (same_side by side) && no_header side items
+no_header side (passed by head payload ∷ items) = no_header side items
+no_header side (told by seq ∷ items) = no_header side items
 
 -- ---- no rule is broken
 

@@ -1,17 +1,16 @@
 //! What the definitions mean, as facts that hold of every journal: each function does nothing, and
-//! its contract
-//! is the fact.
-ghost use Rattle.std.specs.Prelude.{◌≡◌, ◌<◌, ℕ, List, [], ◌∷◌, Some, None, true, false};
+//! its contract is the fact.
+ghost use Rattle.std.specs.Prelude.{◌≡◌, ◌<◌, ℕ, List, [], ◌∷◌, ◌++◌, Some, None, true, false};
 ghost use Rattle.beep_frame.specs.declared.head.Head.{Head};
 ghost use Rattle.beep_frame.specs.declared.seq.Seq.{Seq};
 ghost use Rattle.beep_history.specs.declared.journal.Side.{Side};
-ghost use Rattle.beep_history.specs.Journal.{Item, began, told};
+ghost use Rattle.beep_history.specs.Journal.{Item, began, passed, told};
 ghost use Rattle.beep_history.specs.Marks.{marks};
 ghost use Rattle.beep_history.specs.Broken.{KeepsExchangeRules};
 ghost use Rattle.beep_journal.specs.Lives.{Event, lives, has_ended};
 ghost use Rattle.beep_journal.specs.Zero.{zero_history, gathered, events};
 ghost use Rattle.beep_journal.specs.Life.{life_now, is_of_life, life};
-ghost use Rattle.beep_journal.specs.Laws.{IsLiveLife, IsUnbroken, IsUnbrokenBefore, contents, pieces_from, rest_from};
+ghost use Rattle.beep_journal.specs.Laws.{IsLiveLife, IsUnbroken, IsUnbrokenBefore, no_header, contents, pieces_from, rest_from};
 ghost use Rattle.beep_journal.specs.Broken.{Tuning};
 ghost use Rattle.beep_journal.specs.Log.{Moment};
 ghost use Rattle.beep_journal.specs.Journal.{Past, Fault, Shows};
@@ -34,6 +33,16 @@ pub fn a_header_belongs_to_the_life_that_is_live()
         → is_of_life head.channel (life_now head.channel journal) (began side head) journal ≡ true }
     ensures seq { (side : Side) (seq : Seq) (journal : List Item)
         → is_of_life seq.channel (life_now seq.channel journal) (told side seq) journal ≡ true }
+{}
+
+/// A frame belongs to the life to which its header belonged, whatever has come since: its header is
+/// the latest of its side.
+pub fn a_frame_belongs_to_the_life_of_its_header()
+    ensures { (number count : ℕ) (side : Side) (head : Head) (payload : List ℕ)
+        (later earlier : List Item) → no_header side later ≡ true
+        → is_of_life number count (passed side head payload)
+        (later ++ began side head ∷ earlier)
+        ≡ is_of_life number count (began side head) earlier }
 {}
 
 /// An item belongs to one life.

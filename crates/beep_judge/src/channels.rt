@@ -1,7 +1,8 @@
 //! Channel zero and the live lives of a session.
-ghost use Rattle.std.specs.Prelude.{◌≡◌, ◌∷◌, ◌+◌, ◌^◌, ◌<◌, ◌==◌, ℕ, [], List, length, Some, None, IfOk, IfSome, IsSome, OnOk, OnErr, true, false, not, if◌then◌else◌, option_copied, option_map};
+ghost use Rattle.std.specs.Prelude.{◌≡◌, ◌∷◌, ◌+◌, ◌<◌, ◌==◌, ℕ, [], List, length, Some, None, IfOk, IfSome, IsSome, OnOk, OnErr, true, false, not, if◌then◌else◌, option_copied, option_map};
 ghost use Rattle.std.specs.Bool.{OnTrue};
 ghost use Rattle.std.specs.Option.{option_map_or};
+ghost use Rattle.beep_octets.specs.Numbers.{numbers_64};
 ghost use Rattle.beep_history.specs.Journal.{Item, opening};
 ghost use Rattle.beep_judge.specs.Lived.{IsLife};
 ghost use Rattle.beep_history.specs.Windows.{is_bad_ack};
@@ -72,7 +73,7 @@ impl Channels {
     pub(crate) fn has_room(&self, side: Side, head: &Head) -> bool
         ensures { result ≡ true
             → IfSome (life_at head.now.channel self.now)
-            (λ life. unacked_of side life + head.now.size < 2 ^ 64) }
+            (λ life. unacked_of side life + head.now.size < numbers_64) }
     {
         match self.life_at(head.channel) {
             Some(life) => life.has_room(side, head),
@@ -115,7 +116,7 @@ impl Channels {
         requires begun { IfSome (life_at head.now.channel self.old)
             (λ life. under side life ≡ Some head.now) }
         requires room { IfSome (life_at head.now.channel self.old)
-            (λ life. unacked_of side life + head.now.size < 2 ^ 64) }
+            (λ life. unacked_of side life + head.now.size < numbers_64) }
         ensures { Edits head.now.channel (Passes side head.now) self.old self.new }
     {
         if head.channel == 0 {

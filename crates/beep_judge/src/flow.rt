@@ -1,6 +1,7 @@
 //! The octets of one direction of a life, and those of them that are acknowledged (RFC 3081,
 //! section 3.1).
-ghost use Rattle.std.specs.Prelude.{◌≡◌, ◌+◌, ◌^◌, ◌<◌, ◌==◌, ◌∷◌, [], List, true, false};
+ghost use Rattle.std.specs.Prelude.{◌≡◌, ◌+◌, ◌<◌, ◌==◌, ◌∷◌, [], List, true, false};
+ghost use Rattle.beep_octets.specs.Numbers.{numbers_64};
 ghost use Rattle.beep_frame.specs.declared.seq.Seq.{Seq};
 ghost use Rattle.beep_seq.specs.Wire.{wire_number};
 ghost use Rattle.beep_seq.specs.Due.{breaks_bad_ack};
@@ -43,14 +44,14 @@ impl Flow {
 
     /// Whether the count of what isn't acknowledged can take `n` octets more.
     pub(crate) fn has_room(&self, n: u32) -> bool
-        ensures { result ≡ true → self.now.unacked + n < 2 ^ 64 }
+        ensures { result ≡ true → self.now.unacked + n < numbers_64 }
     {
         self.unacked.checked_add(n as u64).is_some()
     }
 
     /// Notes that a frame with `n` octets of payload has passed.
     pub(crate) fn pass(&mut self, n: u32)
-        requires room { self.old.unacked + n < 2 ^ 64 }
+        requires room { self.old.unacked + n < numbers_64 }
         ensures next { self.new.next ≡ wire_number (self.old.next + n) }
         ensures acked { self.new.acked ≡ self.old.acked }
         ensures unacked { self.new.unacked ≡ self.old.unacked + n }

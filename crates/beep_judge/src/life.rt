@@ -1,6 +1,7 @@
 //! What is kept of one life of a channel: its requests and replies, and the octets of both
 //! directions.
-ghost use Rattle.std.specs.Prelude.{◌≡◌, ◌∷◌, ◌+◌, ◌%◌, ◌^◌, ◌<◌, ◌==◌, ℕ, [], List, length, Some, None, IfOk, true, false, max, if◌then◌else◌, is_some};
+ghost use Rattle.std.specs.Prelude.{◌≡◌, ◌∷◌, ◌+◌, ◌%◌, ◌<◌, ◌==◌, ℕ, [], List, length, Some, None, IfOk, true, false, max, if◌then◌else◌, is_some};
+ghost use Rattle.beep_octets.specs.Numbers.{numbers_64};
 ghost use Rattle.beep_history.specs.Journal.{Item, began, passed, told, other, opening};
 ghost use Rattle.beep_history.specs.Marks.{passed_octets};
 ghost use Rattle.beep_history.specs.Broken.{first_of, octet_rules, exchange_rule, broken_rule, breaks_long, is_limit, KeepsShape};
@@ -148,7 +149,7 @@ impl Life {
 
     /// Whether the counts can take the octets of a frame.
     pub(crate) fn has_room(&self, side: Side, head: &Head) -> bool
-        ensures { result ≡ true → unacked_of side self.now + head.now.size < 2 ^ 64 }
+        ensures { result ≡ true → unacked_of side self.now + head.now.size < numbers_64 }
     {
         match side {
             Side::Received => self.read.has_room(head.size),
@@ -159,7 +160,7 @@ impl Life {
     /// Notes that the frame under way has passed.
     pub(crate) fn pass(&mut self, side: Side, head: &Head)
         requires begun { under side self.old ≡ Some head.now }
-        requires room { unacked_of side self.old + head.now.size < 2 ^ 64 }
+        requires room { unacked_of side self.old + head.now.size < numbers_64 }
         ensures stands { (past : List Item) (payload : List ℕ) → IsLife self.old past
             → length payload ≡ head.now.size
             → IsLife self.new (passed side head.now payload ∷ past) }
@@ -175,7 +176,7 @@ impl Life {
 
     fn pass_in(&mut self, head: &Head)
         requires begun { self.old.exchange.received.under_way ≡ Some head.now }
-        requires room { self.old.read.unacked + head.now.size < 2 ^ 64 }
+        requires room { self.old.read.unacked + head.now.size < numbers_64 }
         ensures stands { (past : List Item) (payload : List ℕ) → IsLife self.old past
             → length payload ≡ head.now.size
             → IsLife self.new (passed Side.Received head.now payload ∷ past) }
@@ -191,7 +192,7 @@ impl Life {
 
     fn pass_out(&mut self, head: &Head)
         requires begun { self.old.exchange.sent.under_way ≡ Some head.now }
-        requires room { self.old.written.unacked + head.now.size < 2 ^ 64 }
+        requires room { self.old.written.unacked + head.now.size < numbers_64 }
         ensures stands { (past : List Item) (payload : List ℕ) → IsLife self.old past
             → length payload ≡ head.now.size
             → IsLife self.new (passed Side.Sent head.now payload ∷ past) }

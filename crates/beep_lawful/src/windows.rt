@@ -2,7 +2,8 @@
 //!
 //! No session runs this: it is the definitions in code, slow, so that they can be tried on
 //! examples.
-ghost use Rattle.std.specs.Prelude.{◌≡◌, ◌+◌, ◌*◌, ◌^◌, ◌≤◌, length};
+ghost use Rattle.std.specs.Prelude.{◌≡◌, ◌+◌, ◌*◌, ◌≤◌, length};
+ghost use Rattle.beep_octets.specs.Numbers.{numbers_32};
 ghost use Rattle.beep_history.specs.declared.journal.Side.{Side};
 ghost use Rattle.beep_history.specs.Journal.{history_of};
 ghost use Rattle.beep_history.specs.Windows.{last_window, open_now, greatest_edge};
@@ -13,7 +14,7 @@ use beep_seq::INITIAL_WINDOW;
 /// The greatest count of octets up to which the peer was ever allowed to send.
 pub fn advertised_edge(past: &[JournalItem]) -> u128
     ensures value { result ≡ greatest_edge Side.Received (history_of past.now) }
-    ensures within { result ≤ length past.now * 2 ^ 32 + 2 ^ 32 }
+    ensures within { result ≤ length past.now * numbers_32 + numbers_32 }
 {
     match past {
         [] => u128::from(INITIAL_WINDOW),

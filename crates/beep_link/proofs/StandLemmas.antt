@@ -58,6 +58,13 @@ kept P None (Some new) l s = absurd l
 kept P (Some old) None l s = absurd l
 kept P (Some old) (Some new) l s = subst P (sym l) s
 
+-- what follows from what holds of a log that is known holds of one that grew from it
+pub known-then : (P : List Entry → Type 0) (R : Type 0) → ((log : List Entry) → P log → R) → (old new : Option (List Entry)) (more : List Entry) → Logs old new more → WhereKnown P old → WhereKnown (λ log. R) new
+known-then P R f None None more l s = tt
+known-then P R f None (Some new) more l s = absurd l
+known-then P R f (Some old) None more l s = absurd l
+known-then P R f (Some old) (Some new) more l s = f old s
+
 -- an empty log stands as such
 pub told-empty : (P : List Entry → Type 0) (log : Option (List Entry)) → P [] → (log ≡ None) ⊎ (log ≡ Some []) → WhereKnown P log
 told-empty P log p (inl e) = subst (WhereKnown P) (sym e) tt

@@ -1,5 +1,5 @@
 //! What the turns over a link want of an end.
-ghost use Rattle.std.specs.Prelude.{◌≡◌, ◌≢◌, ◌≤◌, ◌++◌, ◌∷◌, [], ℕ, List, IfErr, IfNone, IfSome, OnOk};
+ghost use Rattle.std.specs.Prelude.{◌≡◌, ◌≢◌, ◌≤◌, ◌++◌, ◌∷◌, [], false, ℕ, List, IfErr, IfNone, IfOk, IfSome, OnOk};
 ghost use Rattle.beep_wires.specs.Counts.{Rose};
 ghost use Rattle.beep_wires.specs.Log.{Entry, read as came, wrote, quiet, ended as over};
 ghost use Rattle.beep_link.specs.Causes.{ended_by, IsOfFaults, IsOfReads, WithText};
@@ -33,12 +33,19 @@ pub trait End {
     /// What holds of it where its session isn't over.
     ghost goes: { Self → Type 0 };
 
-    /// Appends what is due now, as far as there is room, and answers whether more may be.
+    /// What holds of it where it has nothing more to say by itself.
+    ghost rests: { Self → Type 0 };
+
+    /// Appends what is due now, as far as there is room, and answers whether more may be. Where
+    /// none may be it rests.
     fn gather(&mut self, out: &mut Octets) -> Result<bool, NoMemory>
         requires room { FRAME_ROOM ≤ out.old.spare }
         ensures said { (log : List Entry) (text : List ℕ)
             → Self.stands self.old log out.old.octets text
             → OnOk result (Self.stands self.new log out.new.octets text) }
+        ensures rested { (log : List Entry) (text : List ℕ)
+            → Self.stands self.old log out.old.octets text
+            → IfOk result (λ more. more ≡ false → Self.rests self.new) }
         ensures terms { Self.terms self.new ≡ Self.terms self.old };
 
     /// Uses all of these octets, unless it is stopped, and writes what it has to tell.
@@ -86,8 +93,9 @@ pub trait End {
         → IsOfFaults ended → Self.stands end log octets text
         → Self.tells (Self.terms end) ended log text };
 
-    /// While its session isn't over it may be stopped by the settings, once all is written.
+    /// While its session isn't over it may be stopped by the settings, once all is written and it
+    /// rests.
     ghost spends: { (end : Self) (log : List Entry) (text : List ℕ) (ended : EndedValue)
-        → IsOfReads ended → Self.goes end → Self.stands end log [] text
+        → IsOfReads ended → Self.goes end → Self.rests end → Self.stands end log [] text
         → Self.tells (Self.terms end) ended log text };
 }

@@ -1,5 +1,5 @@
 //! Writing all that is due.
-ghost use Rattle.std.specs.Prelude.{◌≡◌, ◌⊎◌, [], ℕ, List, Option, true, IfErr, OnOk};
+ghost use Rattle.std.specs.Prelude.{◌≡◌, ◌⊎◌, [], ℕ, List, Option, false, true, IfErr, IfOk, OnOk};
 ghost use Rattle.beep_wires.specs.Counts.{Rose};
 ghost use Rattle.beep_wires.specs.Log.{Entry};
 ghost use Rattle.beep_link.specs.Causes.{GrewByWrites, Keeps, SameReads, WhereKnown, WithText};
@@ -11,11 +11,11 @@ use crate::ended::Ended;
 use beep_octets::{NoMemory, Octets};
 use beep_wires::{Failed, Wires, write_link};
 
-/// How many buffers are written at most between two reads. An end may say that more is due for
-/// ever: this bound alone ends the writing then, and what is due is written after the next read.
-pub const ROUNDS: u32 = 65536;
+/// How many buffers are written at most between two reads. An end holds in memory what it says, and
+/// no memory has so much: one that has still more to say ends as where memory ran out.
+pub const ROUNDS: u64 = u64::MAX;
 
-/// Writes all that is due, as much at once as is gathered, in `ROUNDS` buffers at most.
+/// Writes all that is due, as much at once as is gathered, until the end rests.
 pub(crate) fn say<E: End, W: Wires>(
     end: &mut E,
     going: &mut Octets,
@@ -29,6 +29,10 @@ pub(crate) fn say<E: End, W: Wires>(
         (W.state wires.old link).log → OnOk result
         (WhereKnown (λ log. WithText before now (E.stands end.new log []))
         (W.state wires.new link).log) }
+    ensures rested { (before now : Option (List ℕ))
+        → WhereKnown (λ log. WithText before now (E.stands end.old log []))
+        (W.state wires.old link).log → OnOk result
+        (WhereKnown (λ log. E.rests end.new) (W.state wires.new link).log) }
     ensures stopped { (before now : Option (List ℕ))
         → WhereKnown (λ log. WithText before now (E.stands end.old log []))
         (W.state wires.old link).log → IfErr result (λ ended.
@@ -72,13 +76,16 @@ pub(crate) fn say<E: End, W: Wires>(
             return Ok(());
         }
     }
-    Ok(())
+    Err(Ended::NoMemory)
 }
 
 /// Gathers what is due, as far as the buffer goes.
 fn gather_some<E: End>(end: &mut E, going: &mut Octets) -> Result<bool, NoMemory>
     ensures said { (log : List Entry) (text : List ℕ) → E.stands end.old log going.old.octets text
         → OnOk result (E.stands end.new log going.new.octets text) }
+    ensures rested { (log : List Entry) (text : List ℕ)
+        → E.stands end.old log going.old.octets text
+        → IfOk result (λ more. more ≡ false → E.rests end.new) }
     ensures terms { E.terms end.new ≡ E.terms end.old }
 {
     // It takes memory only where the room isn't there.

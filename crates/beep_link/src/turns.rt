@@ -33,7 +33,8 @@ pub fn run_turns<E: End, W: Wires, O: Sink>(
         WithText (O.state output.old).written (O.state output.new).written
         (E.tells (E.terms end.old) result log)) (W.state wires.new link).log }
 
-    // Wherever it read, its session wasn't over: the settings may have ended it there.
+    // Wherever it read, its session wasn't over and it had nothing more to say: the settings may
+    // have ended it there.
     ensures waits { E.stands end.old [] [] [] → WhereKnown (ReadsWhere (λ log. (text : List ℕ)
         × E.tells (E.terms end.old) (EndedValue.Idle 0) log text)) (W.state wires.new link).log }
 

@@ -7,5 +7,6 @@ mod PartLemmas
 mod PruneLemmas
 mod SpeakingLemmas
 mod RefusingLemmas
+mod RestingLemmas
 pub mod ServingLemmas
 mod TextLemmas

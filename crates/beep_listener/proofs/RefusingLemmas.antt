@@ -12,14 +12,6 @@ use Rattle.beep_steps.specs.Refusing.{IsOtherStop, IsUnrefused, RefusesOn, Unref
 use Rattle.beep_steps.proofs.SettledLemmas.{first-unrefused}
 use Rattle.beep_listener.specs.Listening.{UnrefusedOn, UnrefusedWaiting}
 
--- a stop that is neither a release nor a refusal
-pub other-stops : (terms : Terms) (log : List Moment) (stop : Stop) → IsOtherStop stop → RefusesOn terms stop log
-other-stops terms log Stop.Released n = absurd n
-other-stops terms log (Stop.Broken rule place) n = tt
-other-stops terms log Stop.WriteFault n = tt
-other-stops terms log Stop.NoMemory n = tt
-other-stops terms log (Stop.Refused code) n = absurd n
-
 -- ---- a listener
 
 -- what it has begun to close says nothing of it

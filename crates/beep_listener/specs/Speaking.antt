@@ -1,11 +1,13 @@
 -- A listener that keeps its script, by what it notes (RFC 3080, section 2.3.1; RFC 3195, section
 -- 3).
-use Rattle.std.specs.Prelude.{ℕ, List}
+use Rattle.std.specs.Prelude.{◌≡◌, ℕ, ◌==◌, true, false, List}
 use Rattle.beep_journal.specs.Log.{Moment}
+use Rattle.beep_decide.specs.Decide.{is_among}
 use Rattle.beep_session.specs.Session.{Held}
 use Rattle.beep_talk.specs.Plan.{PlainPlan}
 use Rattle.beep_listener.specs.declared.listener.Listener.{Listener}
 use Rattle.beep_steps.specs.Desking.{DesksOn, DesksWaiting, DesksWithin}
+use Rattle.beep_steps.specs.Resting.{HasRepliedAt, HasSaidAll, IsAwake}
 use Rattle.beep_steps.specs.Speaking.{Notes, SpeaksGone, SpeaksNew, SpeaksOn, SpeaksWaiting}
 
 -- what a listener notes beside its session
@@ -51,3 +53,18 @@ SpeaksNewBy plan number listener log =
 -- a call leaves a listener one that keeps its script, whatever the log shows
 abbrev pub KeepsSpeakingBy : PlainPlan → Listener → Listener → Type 0
 KeepsSpeakingBy plan old new = (log : List Moment) → SpeaksBy plan old log → SpeaksBy plan new log
+
+-- ---- a listener that rests
+
+-- while its session goes on nothing may go out
+abbrev pub SaysOn : Held → Type 0
+SaysOn session = IsAwake session → HasSaidAll session
+
+-- while it goes on nothing is owed that isn't refused or finds no room
+abbrev pub RepliesOn : Notes → Held → Type 0
+RepliesOn notes session = IsAwake session → (n : ℕ) → (n == 0) ≡ false
+    → is_among n notes.spoken ≡ true → HasRepliedAt n session
+
+-- it has nothing more to say by itself
+abbrev pub RestsOn : Notes → Held → Type 0
+RestsOn notes session = SaysOn session × RepliesOn notes session

@@ -14,14 +14,21 @@ use Rattle.beep_lines.specs.declared.bodies.Body.{Body}
 use Rattle.beep_wires.specs.Log.{Entry, wrote, quiet, ended}
 use Rattle.beep_link.specs.Causes.{IsOfFaults, IsOfReads}
 use Rattle.beep_link.specs.declared.ended.Ended.{Ended}
+use Rattle.beep_served.proofs.ProfileLemmas.{have-profile}
+use Rattle.beep_script.specs.Prompt.{IsIdle}
 use Rattle.beep_steps.specs.Logs.{moments}
-use Rattle.beep_steps.specs.Turning.{shown_on}
+use Rattle.beep_steps.specs.Turning.{faults_idle, reads_idle, shown_on}
 use Rattle.beep_steps.specs.Desking.{DesksOn, ShowsToldZero}
+use Rattle.beep_steps.specs.Resting.{IsAwake, TellsIdle}
 use Rattle.beep_steps.specs.Speaking.{Notes, SpeaksOn, ShowsTold}
+use Rattle.beep_steps.proofs.PartLemmas.{none-waits}
+use Rattle.beep_steps.proofs.RestLemmas.{rests-idle}
+use Rattle.beep_steps.proofs.ServeLemmas.{shows-served}
+use Rattle.beep_steps.proofs.SpeakCalls.{serving-at}
 use Rattle.beep_steps.proofs.DeskTold.{told-goes}
 use Rattle.beep_steps.proofs.SpeakShown.{shows-goes}
 use Rattle.beep_listener.specs.Listening.{plan_of, ListensServed, TellsServed}
-use Rattle.beep_listener.specs.Speaking.{SpeaksAll}
+use Rattle.beep_listener.specs.Speaking.{RestsOn, SpeaksAll}
 use Rattle.beep_listener.specs.Turning.{closes_served, quiets_served, spends_served, stops_served, writes_served}
 
 -- a listener stands for what a log shows, and keeps its script
@@ -34,6 +41,7 @@ ListensScripted session bodies buffer notes log text =
 abbrev pub TellsScripted : PlainPlan → Ended → List Entry → List ℕ → Type 0
 TellsScripted plan cause log text = TellsServed plan cause log text
     × (ShowsTold plan (moments log) × ShowsToldZero plan (moments log))
+    × TellsIdle plan cause (moments log)
 
 module _ (session : Held) (bodies : List Body) (buffer : List ℕ) (notes : Notes) where
   pub writes_scripted : (log : List Entry) (front octets text : List ℕ)
@@ -64,6 +72,7 @@ module _ (session : Held) (bodies : List Body) (buffer : List ℕ) (notes : Note
     on = shown_on session old new d.on l;
     meets = d.meets;
     listed = d.listed;
+    placed = d.placed;
     desk = d.desk;
     stuck = d.stuck;
   }
@@ -103,16 +112,34 @@ module _ (session : Held) (bodies : List Body) (buffer : List ℕ) (notes : Note
       shows-goes (plan_of session) notes session octets (moments log) s.1.0,
       told-goes (plan_of session) session octets (moments log) s.1.1.on s.1.1.listed,
     ),
+    faults_idle (plan_of session) cause (moments log) is,
   )
+
+  -- where it rests nothing of its script is due
+  idle_on : (log : List Entry) (text : List ℕ)
+      → ListensScripted session bodies buffer notes (moments log) text
+      → is_over session.peer ≡ false → RestsOn notes session
+      → IsIdle (plan_of session) (moments log)
+  idle_on log text s going rests =
+      let plan = plan_of session in
+      let awake : IsAwake session = record {
+        going = going;
+        settled = none-waits session (moments log) s.1.0.on;
+      } in
+      rests-idle plan notes session (moments log) s.1.0 s.1.1 s.0.0.listens.taken
+      (have-profile plan.raw_uri s.1.0.on.journal (serving-at plan session (moments log)
+      (shows-served plan session [] (moments log) s.0.1) s.1.0.on))
+      (λ i. session.limits.window) (rests.0 awake) (rests.1 awake)
 
   pub spends_scripted : (log : List Entry) (text : List ℕ)
       → ListensScripted session bodies buffer notes (moments log) text
       → (cause : Ended) → IsOfReads cause → is_over session.peer ≡ false
-      → TellsScripted (plan_of session) cause log text
-  spends_scripted log text s cause is going = (
+      → RestsOn notes session → TellsScripted (plan_of session) cause log text
+  spends_scripted log text s cause is going rests = (
     spends_served session bodies buffer log text s.0 cause is going,
     (
       shows-goes (plan_of session) notes session [] (moments log) s.1.0,
       told-goes (plan_of session) session [] (moments log) s.1.1.on s.1.1.listed,
     ),
+    reads_idle (plan_of session) cause (moments log) is (idle_on log text s going rests),
   )

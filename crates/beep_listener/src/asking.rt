@@ -1,14 +1,17 @@
 //! What a listener says on its channels: it asks for lines, and refuses what is asked (RFC 3195,
 //! section 3.1).
-ghost use Rattle.std.specs.Prelude.{◌≡◌, true, false, ℕ, List, IfNone, IfOk, IfSome, OnOk};
+ghost use Rattle.std.specs.Prelude.{◌≡◌, ◌≢◌, ◌≤◌, ◌==◌, ◌||◌, true, false, ℕ, List, length, IfNone, IfOk, IfSome, OnOk};
+ghost use Rattle.beep_history.specs.declared.limits.TheConstants.{MAX_MESSAGE};
 ghost use Rattle.beep_journal.specs.Log.{Moment};
 ghost use Rattle.beep_mgmt.specs.Form.{fault};
 ghost use Rattle.beep_mgmt.specs.Message.{message_text};
 ghost use Rattle.beep_decide.specs.Decide.{is_among, note_of};
+ghost use Rattle.beep_outbox.specs.declared.give_error.GiveError.{GiveError as GiveErrorValue};
 ghost use Rattle.beep_talk.specs.Plan.{PlainPlan};
 ghost use Rattle.beep_peer.specs.Standing.{live_above};
 ghost use Rattle.beep_steps.specs.Logs.{StaysOn};
 ghost use Rattle.beep_steps.specs.Desking.{DesksOn, DesksWithin};
+ghost use Rattle.beep_steps.specs.Resting.{HasRepliedAt, HoldsStill, IsAwake};
 ghost use Rattle.beep_steps.specs.Speaking.{KeepsSpeaking, Notes, SpeaksNew, SpeaksOn};
 ghost use Rattle.beep_steps.specs.Serving.{KeepsServing, ServesOn};
 
@@ -93,7 +96,40 @@ pub(crate) fn ask_lines(session: &mut Session, number: u32) -> Result<(), NoMemo
     }
 }
 
-/// Refuses the oldest request of a channel, and answers whether there was room.
+/// Refuses the oldest request of each of these channels that finds room, and answers whether any
+/// did.
+pub(crate) fn refuse_each(
+    session: &mut Session,
+    numbers: &[u32],
+    refusal: &[u8],
+) -> Result<bool, NoMemory>
+    ensures stays { StaysOn session.old session.new }
+    ensures serving { (plan : PlainPlan) → KeepsServing plan session.old session.new }
+    ensures speaking { (plan : PlainPlan) (notes : Notes) → notes.spoken ≡ numbers.now
+        → refusal.now ≡ message_text (fault 550 (note_of 550))
+        → KeepsSpeaking plan notes notes session.old session.new }
+    ensures desk { (plan : PlainPlan) (log : List Moment)
+        → DesksOn plan session.old log → DesksOn plan session.new log }
+    ensures rests { length refusal.now ≤ MAX_MESSAGE → IfOk result (λ given. given ≡ false
+        → HoldsStill session.old session.new × (IsAwake session.new → (n : ℕ)
+        → (n == 0) ≡ false → is_among n numbers.now ≡ true → HasRepliedAt n session.new)) }
+{
+    let mut is_given = false;
+    for i in 0..numbers.len() {
+        let is_refused = refuse_oldest(session, numbers[i], refusal)?;
+        is_given = is_any(is_given, is_refused);
+    }
+    Ok(is_given)
+}
+
+/// Whether the one or the other holds.
+fn is_any(one: bool, other: bool) -> bool
+    ensures { result ≡ (one || other) }
+{
+    one || other
+}
+
+/// Refuses the oldest request of a channel, and answers whether there was one that found room.
 pub(crate) fn refuse_oldest(
     session: &mut Session,
     number: u32,
@@ -106,12 +142,15 @@ pub(crate) fn refuse_oldest(
         → KeepsSpeaking plan notes notes session.old session.new }
     ensures desk { (plan : PlainPlan) (log : List Moment)
         → DesksOn plan session.old log → DesksOn plan session.new log }
+    ensures rests { length refusal.now ≤ MAX_MESSAGE → IfOk result (λ given. given ≡ false
+        → HoldsStill session.old session.new × (IsAwake session.new
+        → (number == 0) ≡ false → HasRepliedAt number session.new)) }
 {
     if !is_open(session, number) {
-        return Ok(true);
+        return Ok(false);
     }
     match session.owed(number) {
-        None => Ok(true),
+        None => Ok(false),
         Some(Duty::Fresh(owed)) => match owed.refuse(refusal) {
             Ok(()) => Ok(true),
             Err((_owed, error)) => found_no_room(error),
@@ -123,8 +162,10 @@ pub(crate) fn refuse_oldest(
     }
 }
 
-/// Whether a message waits for room, and not for memory.
-fn found_no_room(error: GiveError) -> Result<bool, NoMemory> {
+/// Nothing was given where a message waits for room, and not for memory.
+fn found_no_room(error: GiveError) -> Result<bool, NoMemory>
+    ensures { IfOk result (λ given. error ≢ GiveErrorValue.NoMemory) }
+{
     match error {
         GiveError::Full { .. } => Ok(false),
         GiveError::NoMemory => Err(NoMemory),

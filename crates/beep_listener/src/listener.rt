@@ -14,12 +14,15 @@ ghost use Rattle.beep_link.specs.declared.end.TheConstants.{FRAME_ROOM};
 ghost use Rattle.beep_link.specs.declared.ended.Stop.{Stop as StopValue};
 ghost use Rattle.beep_listener.specs.declared.listener.TheConstants.{TAKEN};
 ghost use Rattle.beep_listener.specs.Listening.{plan_of, Listens, UnrefusedOn};
-ghost use Rattle.beep_steps.specs.Logs.{moments, AreTaken, StaysOn};
+ghost use Rattle.beep_steps.specs.Logs.{moments, AreTaken, StandsOn, StaysOn};
+ghost use Rattle.beep_steps.specs.Resting.{HoldsStill};
 ghost use Rattle.beep_steps.specs.Serving.{KeepsServing, ServesOn};
 
 mod hearing;
 
-use crate::asking::{ask_lines, first_other, has_number, list_live, refusal_text, refuse_oldest};
+use crate::asking::{
+    ask_lines, first_other, has_number, list_live, refusal_text, refuse_each, refuse_oldest,
+};
 use crate::pruning::prune;
 use beep_lines::{Bodies, Lines};
 use beep_link::{BUFFER, End, FRAME_ROOM, Stop};
@@ -42,7 +45,6 @@ pub(crate) struct Listener {
     refusal: Octets,
     spoken: Vec<u32>,
     live: Vec<u32>,
-    owing: Vec<u32>,
     leaving: bool,
     bodies: Bodies,
     taken: Vec<u8>,
@@ -53,7 +55,7 @@ pub(crate) struct Listener {
 
 impl Listener {
     ghost use Rattle.beep_steps.specs.Speaking.{no_notes};
-    ghost use Rattle.beep_listener.specs.Speaking.{notes_of, KeepsSpeakingBy, SpeaksBy, SpeaksGoneBy, SpeaksNewBy, TakesBy};
+    ghost use Rattle.beep_listener.specs.Speaking.{notes_of, KeepsSpeakingBy, RepliesOn, SaysOn, SpeaksBy, SpeaksGoneBy, SpeaksNewBy, TakesBy};
 
     /// A listener over a session in which nothing has happened.
     pub(crate) fn new(alloc: Global, session: Session) -> Result<Listener, NoMemory>
@@ -69,7 +71,6 @@ impl Listener {
             refusal: refusal_text(alloc)?,
             spoken: Vec::new(alloc),
             live: Vec::new(alloc),
-            owing: Vec::new(alloc),
             leaving: false,
             bodies: Bodies::new(alloc),
             taken,
@@ -95,6 +96,9 @@ impl Listener {
         ensures unrefused { (log : List Moment)
             → UnrefusedOn self.old.session (put_all out.old.octets log)
             → UnrefusedOn self.new.session (put_all out.new.octets log) }
+        ensures rests { (log : List Moment)
+            → StandsOn self.old.session (put_all out.old.octets log)
+            → IfOk result (λ said. said ≡ false → SaysOn self.new.session) }
         ensures plan { plan_of self.new.session ≡ plan_of self.old.session }
         ensures lines { self.new.lines ≡ self.old.lines }
     {
@@ -151,21 +155,23 @@ impl Listener {
         ask_lines(&mut self.session, number)
     }
 
-    /// Refuses what found no room before, and answers whether that was done.
+    /// Refuses what found no room before, on each channel, and answers whether any was refused.
     fn refill(&mut self) -> Result<bool, NoMemory>
         ensures stays { StaysOn self.old.session self.new.session }
         ensures serving { (plan : PlainPlan)
             → KeepsServing plan self.old.session self.new.session }
         ensures speaking { (plan : PlainPlan) → KeepsSpeakingBy plan self.old self.new }
+        ensures rests { IfOk result (λ given. given ≡ false
+            → HoldsStill self.old.session self.new.session
+            × RepliesOn (notes_of self.new) self.new.session) }
         ensures bodies { self.new.bodies ≡ self.old.bodies }
         ensures lines { self.new.lines ≡ self.old.lines }
     {
-        let Some(number) = self.owing.pop() else {
-            return Ok(false);
-        };
-        let before = self.owing.len();
-        self.refuse(number)?;
-        Ok(self.owing.len() == before)
+        refuse_each(
+            &mut self.session,
+            self.spoken.as_slice(),
+            self.refusal.as_slice(),
+        )
     }
 
     /// Refuses the oldest request of a channel. One that finds no room waits.
@@ -180,17 +186,15 @@ impl Listener {
         if !has_number(self.spoken.as_slice(), number) {
             return Ok(());
         }
-        let is_given = refuse_oldest(&mut self.session, number, self.refusal.as_slice())?;
-        if !is_given {
-            self.owing.reserve(1)?;
-            self.owing.push_reserved(number);
+        match refuse_oldest(&mut self.session, number, self.refusal.as_slice()) {
+            Ok(_) => Ok(()),
+            Err(NoMemory) => Err(NoMemory),
         }
-        Ok(())
     }
 }
 
 impl End for Listener {
-    ghost use Rattle.beep_listener.specs.Speaking.{notes_of};
+    ghost use Rattle.beep_listener.specs.Speaking.{notes_of, RestsOn};
     ghost use Rattle.beep_listener.specs.SpeakingTurning.{ListensScripted, TellsScripted, closes_scripted, quiets_scripted, spends_scripted, stops_scripted, writes_scripted};
 
     ghost Terms = { PlainPlan };
@@ -204,6 +208,8 @@ impl End for Listener {
 
     ghost goes = { λ listener. is_over listener.session.peer ≡ false };
 
+    ghost rests = { λ listener. RestsOn (notes_of listener) listener.session };
+
     ghost writes = { λ one log front octets text s. writes_scripted one.session one.bodies
         one.lines.octets.octets (notes_of one) log front octets text s };
 
@@ -216,17 +222,16 @@ impl End for Listener {
     ghost stops = { λ one log octets text ended is s. stops_scripted one.session one.bodies
         one.lines.octets.octets (notes_of one) log octets text s ended is };
 
-    ghost spends = { λ one log text ended is going s. spends_scripted one.session one.bodies
-        one.lines.octets.octets (notes_of one) log text s ended is going };
+    ghost spends = { λ one log text ended is going rests s. spends_scripted one.session
+        one.bodies one.lines.octets.octets (notes_of one) log text s ended is going rests };
 
     fn gather(&mut self, out: &mut Octets) -> Result<bool, NoMemory> {
-        let is_given = self.refill()?;
         for _ in 0..BUFFER {
             if out.spare() < FRAME_ROOM {
                 return Ok(true);
             }
             if !self.say(out)? {
-                return Ok(is_given);
+                return self.refill();
             }
         }
         Ok(true)

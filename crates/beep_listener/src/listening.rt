@@ -9,6 +9,8 @@ ghost use Rattle.beep_link.specs.Causes.{IsBounded, IsCaused, IsUnused, IsWritte
 ghost use Rattle.beep_listener.specs.Listening.{is_whole, listener_plan, plan_of, AreLinesOf};
 ghost use Rattle.beep_listener.specs.Speaking.{notes_of};
 ghost use Rattle.beep_listener.specs.SpeakingTurning.{ListensScripted};
+ghost use Rattle.beep_steps.specs.EachEnd.{EachEndOn};
+ghost use Rattle.beep_steps.specs.Resting.{IsPromptOn};
 ghost use Rattle.beep_steps.specs.Scripting.{KeepsWholeOn};
 ghost use Rattle.beep_steps.specs.Ends.{AreFit, reads_of};
 ghost use Rattle.beep_steps.specs.Refusing.{GoesUnrefused};
@@ -62,6 +64,13 @@ pub fn listen_end<W: Wires, O: Sink>(
 
     // What was sent in each life, channel zero among them, is the beginning of its script.
     ensures scripted { WhereKnown (KeepsWholeOn (listener_plan settings.now))
+        (W.state wires.new link).log }
+
+    // Wherever it read, nothing of its script was due. So it kept its whole part: the definition of
+    // one end.
+    ensures prompt { WhereKnown (IsPromptOn (listener_plan settings.now))
+        (W.state wires.new link).log }
+    ensures each { WhereKnown (EachEndOn (listener_plan settings.now) result)
         (W.state wires.new link).log }
 
     // What stays, and how much and how often is read.

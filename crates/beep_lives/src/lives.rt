@@ -2,7 +2,7 @@
 //!
 //! Which of them can send and which owe a SEQ is noted at each change of one, so the choice of what
 //! goes out next looks at flags alone. No journal is kept: each call says what it did to the list.
-ghost use Rattle.std.specs.Prelude.{◌≡◌, ◌≢◌, ◌<◌, ◌≤◌, ◌^◌, ◌++◌, ◌==◌, [], ◌∷◌, ℕ, List, length, false, not, None, Some, Ok, is_some, is_err, IsSome, IfSome, IfNone, IfOk, IfErr, OnOk, OnErr, IsOk, slice_get, option_copied};
+ghost use Rattle.std.specs.Prelude.{◌≡◌, ◌≢◌, ◌<◌, ◌≤◌, ◌++◌, ◌==◌, [], ◌∷◌, ℕ, List, length, false, not, None, Some, Ok, is_some, is_err, IsSome, IfSome, IfNone, IfOk, IfErr, OnOk, OnErr, IsOk, slice_get, option_copied};
 ghost use Rattle.std.specs.List.{list_any, position};
 ghost use Rattle.beep_frame.specs.declared.head.Head.{Head as HeadValue};
 ghost use Rattle.beep_history.specs.declared.journal.Side.{Side};
@@ -61,6 +61,7 @@ impl Model for Lives {
 }
 
 impl Lives {
+    ghost use Rattle.beep_octets.specs.Numbers.{numbers_32};
     ghost use Rattle.beep_lives.specs.Place.{IsLiveAt};
 
     /// Channel zero alone. `window` is the own window of channel zero in octets.
@@ -392,7 +393,7 @@ impl Lives {
     pub fn take(&mut self, number: u32, buf: &mut [u8]) -> Option<Part>
         requires live { IsSome (live_at number self.old) }
         requires some { 0 < length buf.old }
-        requires fits { length buf.old < 2 ^ 32 }
+        requires fits { length buf.old < numbers_32 }
         ensures some { IfSome result (λ part.
             Edits number (Takes part buf.old buf.new) self.old self.new) }
         ensures none { IfNone result (IfSome (live_at number self.old)

@@ -100,10 +100,6 @@ abbrev pub lowest : List ℕ → Option ℕ
 lowest [] = None
 lowest (number ∷ others) = Some (option_map_or (λ other. min number other) (lowest others) number)
 
--- the channels that are starting, own ones and those that are to be granted
-abbrev pub all_starting : Managed → List Live
-all_starting m = m.starting ++ m.granted
-
 -- ---- messages
 
 -- the requests among messages

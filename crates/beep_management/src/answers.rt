@@ -1,7 +1,8 @@
 //! The answers to requests of channel zero that aren't given yet, in the order of the requests.
-ghost use Rattle.std.specs.Prelude.{◌≡◌, ◌∷◌, ◌++◌, ◌+◌, ◌<◌, ◌≤◌, ◌^◌, [], length, Some, None, option_map, OnOk, IsOk, IfSome, IfNone};
+ghost use Rattle.std.specs.Prelude.{◌≡◌, ◌∷◌, ◌++◌, ◌+◌, ◌<◌, ◌≤◌, [], length, Some, None, option_map, OnOk, IsOk, IfSome, IfNone};
 ghost use Rattle.std.specs.Option.{option_copied, option_to_list};
 ghost use Rattle.std.specs.VecDeque.{deque_len, deque_capacity};
+ghost use Rattle.beep_octets.specs.Numbers.{numbers_64};
 ghost use Rattle.beep_management.specs.Managed.{wait_without, one_without, first_of, octets_prepared};
 ghost use Rattle.beep_management.specs.Managed.{without as all_without};
 ghost use Rattle.beep_management.specs.Values.{prepared_of, all_prepared};
@@ -87,7 +88,7 @@ impl Answers {
         self.list.push_back_reserved(answer);
     }
 
-    /// How many they are.
+    /// How many answers aren't given yet.
     pub(crate) fn len(&self) -> usize
         ensures { result ≡ length self.now.list }
     {
@@ -97,7 +98,7 @@ impl Answers {
     /// Their octets together, where a usize counts so many.
     pub(crate) fn octets(&self) -> Option<usize>
         ensures some { IfSome result (λ octets. octets ≡ octets_prepared self.now.list) }
-        ensures none { IfNone result (2 ^ 64 ≤ octets_prepared self.now.list) }
+        ensures none { IfNone result (numbers_64 ≤ octets_prepared self.now.list) }
     {
         sum_octets(&self.list)
     }
@@ -130,7 +131,7 @@ impl Answers {
 fn sum_octets(list: &VecDeque<Answer>) -> Option<usize>
     ensures some { IfSome result (λ octets.
         octets ≡ octets_prepared (all_prepared list.now.items)) }
-    ensures none { IfNone result (2 ^ 64 ≤ octets_prepared (all_prepared list.now.items)) }
+    ensures none { IfNone result (numbers_64 ≤ octets_prepared (all_prepared list.now.items)) }
 {
     let mut octets: usize = 0;
     for i in 0..list.len() {

@@ -1,6 +1,7 @@
 //! What an end keeps of channel zero beside the channel itself.
-ghost use Rattle.std.specs.Prelude.{◌≡◌, ◌∷◌, ◌++◌, ◌+◌, ◌<◌, ◌≤◌, ◌^◌, ◌||◌, [], length, min, true, None, Some, IfOk, IfSome, IfNone, OnOk, OnErr, if◌then◌else◌};
+ghost use Rattle.std.specs.Prelude.{◌≡◌, ◌∷◌, ◌++◌, ◌+◌, ◌<◌, ◌≤◌, ◌||◌, [], length, min, true, None, Some, IfOk, IfSome, IfNone, OnOk, OnErr, if◌then◌else◌};
 ghost use Rattle.std.specs.Option.{option_copied, option_map, option_map_or, option_to_list};
+ghost use Rattle.beep_octets.specs.Numbers.{numbers_32, numbers_64};
 ghost use Rattle.beep_frame.specs.declared.kind.Kind.{Kind as KindValue};
 ghost use Rattle.beep_asked.specs.Kept.{implied_request, oldest, after_grant};
 ghost use Rattle.beep_asked.specs.Request.{kept_of};
@@ -130,7 +131,7 @@ impl Management {
     /// The octets of those answers together, where a usize counts so many.
     pub fn octets_of_answers(&self) -> Option<usize>
         ensures some { IfSome result (λ octets. octets ≡ octets_prepared self.now.answers) }
-        ensures none { IfNone result (2 ^ 64 ≤ octets_prepared self.now.answers) }
+        ensures none { IfNone result (numbers_64 ≤ octets_prepared self.now.answers) }
     {
         self.answers.octets()
     }
@@ -147,7 +148,7 @@ impl Management {
 
     /// How many channels are starting.
     pub fn count_starting(&self) -> usize
-        requires few { length self.now.starting + length self.now.granted < 2 ^ 32 }
+        requires few { length self.now.starting + length self.now.granted < numbers_32 }
         ensures { result ≡ length self.now.starting + length self.now.granted }
     {
         self.starting.len() + self.granted.len()

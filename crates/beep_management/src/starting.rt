@@ -57,7 +57,7 @@ impl Starting {
         }
     }
 
-    /// How many they are.
+    /// How many channels it has; the room for more isn't counted.
     pub(crate) fn len(&self) -> usize
         ensures { result ≡ length self.now.list }
     {

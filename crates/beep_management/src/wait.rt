@@ -3,7 +3,7 @@
 /// What an answer waits for, beside those before it.
 #[derive(Clone, Copy, Debug, PartialEq, Eq)]
 pub enum Wait {
-    /// Nothing.
+    /// Nothing else: it is given as soon as those before it are.
     Nothing,
     /// That the life of this number has ended or is drained.
     Life(u32),

@@ -53,7 +53,7 @@ impl Gives {
         }
     }
 
-    /// How many there are.
+    /// How many pieces and quiet reads it has, the end not counted.
     pub fn len(&self) -> usize
         ensures { result ≡ length self.now }
     {

@@ -3,9 +3,10 @@
 -- The code goes over the parts of an element; here an element either says one value or none.
 -- Choice: unknown attributes are passed over, and between children only white space may stand
 -- (docs/DECISIONS.md, "Elements of channel zero").
-use Rattle.std.specs.Prelude.{ℕ, ◌^◌, Bool, true, false, ◌&&◌, ◌||◌, not, nat_le, nat_lt, ◌==◌, Option, Some, None, List, [], ◌∷◌, ◌++◌, length, slice_index, codes, bytes_eq, encode_utf8_all, if◌then◌else◌}
+use Rattle.std.specs.Prelude.{ℕ, Bool, true, false, ◌&&◌, ◌||◌, not, nat_le, nat_lt, ◌==◌, Option, Some, None, List, [], ◌∷◌, ◌++◌, length, slice_index, codes, bytes_eq, encode_utf8_all, if◌then◌else◌}
 use Rattle.std.specs.List.{list_all, filter}
 use Rattle.std.specs.Result.{result_ok}
+use Rattle.beep_octets.specs.Numbers.{numbers_32}
 use Rattle.base64.specs.GeneralPurpose.{decode_of}
 use Rattle.base64.specs.Engines.{standard}
 use Rattle.beep_chars.specs.Characters.{is_space, is_digit}
@@ -14,7 +15,7 @@ use Rattle.beep_text.specs.Elements.{number_of}
 use Rattle.beep_text.specs.Lawful.{value_named}
 use Rattle.beep_text.specs.Canonical.{element_text, is_nothing}
 use Rattle.beep_mgmt.specs.declared.profile.Encoding.{Encoding}
-use Rattle.beep_mgmt.specs.declared.limits.TheConstants.{MAX_CONTENT}
+use Rattle.beep_mgmt.specs.declared.limits.TheConstants.{CODE_DIGITS, MAX_CONTENT, MAX_DIGITS}
 use Rattle.beep_mgmt.specs.Form.{PlainProfile, Form, greeting, start, chosen, close, okay, fault}
 
 -- ---- numbers
@@ -22,12 +23,12 @@ use Rattle.beep_mgmt.specs.Form.{PlainProfile, Form, greeting, start, chosen, cl
 -- the text is a number of 32 bits: `0`, or up to ten digits that don't begin with 0
 abbrev pub is_number : List ℕ → Bool
 is_number text =
-    list_all is_digit text && nat_lt 0 (length text) && nat_le (length text) 10
-    && (length text == 1 || not (slice_index text 0 == 48)) && nat_lt (number_of 10 text) (2 ^ 32)
+    list_all is_digit text && nat_lt 0 (length text) && nat_le (length text) MAX_DIGITS
+    && (length text == 1 || not (slice_index text 0 == 48)) && nat_lt (number_of 10 text) numbers_32
 
 -- the text is a code: three digits
 abbrev pub is_code : List ℕ → Bool
-is_code text = length text == 3 && list_all is_digit text
+is_code text = length text == CODE_DIGITS && list_all is_digit text
 
 -- the number that an attribute says, where there is one
 abbrev pub number_said : Option (List ℕ) → Option ℕ

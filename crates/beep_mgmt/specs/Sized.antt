@@ -1,8 +1,9 @@
 -- What the types of the code say of a value: its number has 32 bits, and the contents of its
 -- profiles are octets.
 -- Only reading back what was written asks it.
-use Rattle.std.specs.Prelude.{ℕ, ◌^◌, Bool, true, ◌&&◌, nat_lt}
+use Rattle.std.specs.Prelude.{ℕ, Bool, true, ◌&&◌, nat_lt}
 use Rattle.std.specs.List.{list_all}
+use Rattle.beep_octets.specs.Numbers.{numbers_32}
 use Rattle.beep_mgmt.specs.Form.{PlainProfile, Form, greeting, start, chosen, close, okay, fault}
 
 -- the number is an octet
@@ -15,7 +16,7 @@ has_octets p = list_all is_octet p.content
 
 -- the number has 32 bits
 abbrev pub is_u32 : ℕ → Bool
-is_u32 number = nat_lt number (2 ^ 32)
+is_u32 number = nat_lt number numbers_32
 
 -- a value of the code is so
 abbrev pub is_sized : Form → Bool

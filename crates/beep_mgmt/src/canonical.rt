@@ -4,9 +4,10 @@
 //! Most messages are a start with one profile without content, that profile chosen, a close without
 //! a note, or its ok. These are compared with the text that is written of them, which takes no
 //! memory but that of the value; any other is read as a tree of elements.
-ghost use Rattle.std.specs.Prelude.{◌≡◌, ◌<◌, ◌≤◌, ◌^◌, ◌++◌, true, length, take, codes, IfOk, IfSome, IsTrue};
+ghost use Rattle.std.specs.Prelude.{◌≡◌, ◌<◌, ◌≤◌, ◌++◌, true, length, take, codes, IfOk, IfSome, IsTrue};
 ghost use Rattle.std.specs.List.{list_all};
 ghost use Rattle.std.specs.Fmt.{decimal};
+ghost use Rattle.beep_octets.specs.Numbers.{numbers_32};
 ghost use Rattle.beep_mgmt.specs.declared.limits.TheConstants.{MAX_CODE};
 ghost use Rattle.beep_mgmt.specs.Form.{form_of, plain_profile};
 ghost use Rattle.beep_mgmt.specs.Message.{Says};
@@ -146,7 +147,7 @@ fn is(octets: &[u8], others: &[u8]) -> bool
 /// The number at the front as it is written, and what comes after it.
 fn number_front(octets: &[u8]) -> Option<(u32, &[u8])>
     ensures { IfSome result (λ found. (octets.now ≡ decimal found.0 ++ found.1.now)
-        × (found.0 < 2 ^ 32)) }
+        × (found.0 < numbers_32)) }
 {
     let number = digits_front(octets);
     match after(octets, Buffer::new().format(number).as_bytes()) {
@@ -216,7 +217,12 @@ fn itself_count(octets: &[u8]) -> usize
 fn is_itself(octet: u8) -> bool
     ensures { result ≡ is_itself octet }
 {
-    32 <= octet && octet <= 126 && octet != b'&' && octet != b'\'' && octet != b'<' && octet != b'>'
+    b' ' <= octet
+        && octet <= b'~'
+        && octet != b'&'
+        && octet != b'\''
+        && octet != b'<'
+        && octet != b'>'
 }
 
 /// The profile of this URI without content.

@@ -4,10 +4,11 @@ ghost use Rattle.std.specs.List.{list_all};
 ghost use Rattle.std.specs.Fmt.{decimal};
 ghost use Rattle.beep_chars.specs.Characters.{is_digit};
 ghost use Rattle.beep_text.specs.Elements.{number_of};
-ghost use Rattle.beep_mgmt.specs.declared.limits.TheConstants.{MAX_CODE};
+ghost use Rattle.beep_mgmt.specs.declared.limits.TheConstants.{MAX_CODE, MAX_DIGITS};
 ghost use Rattle.beep_mgmt.specs.Said.{number_said, number_or_zero, code_said};
 ghost use Rattle.beep_mgmt.specs.Written.{code_digits};
 
+use crate::limits::{CODE_DIGITS, MAX_DIGITS};
 use beep_chars::Text;
 use beep_octets::NoMemory;
 use std::alloc::Global;
@@ -42,21 +43,21 @@ pub(crate) fn code_said(text: Option<&Text>) -> Option<u16>
     ensures value { result ≡ code_said (option_copied text.entry) }
 {
     let text = text?;
-    if text.len() != 3 {
+    if text.len() != CODE_DIGITS {
         return None;
     }
     let code = digits_said(text)?;
     Some(code as u16)
 }
 
-/// The number that at most ten digits spell, where there is nothing else.
+/// The number that at most `MAX_DIGITS` digits spell, where there is nothing else.
 fn digits_said(text: &Text) -> Option<u64>
-    ensures value { result ≡ (if nat_le (length text.now) 10 && list_all is_digit text.now
+    ensures value { result ≡ (if nat_le (length text.now) MAX_DIGITS && list_all is_digit text.now
         then Some (number_of 10 text.now) else None) }
     ensures within { IfSome result (λ n. n < 10 ^ length text.now) }
 {
     let len = text.len();
-    if len > 10 {
+    if len > MAX_DIGITS {
         return None;
     }
     let mut number = 0;

@@ -4,7 +4,7 @@ ghost use Rattle.std.specs.Prelude.{◌≡◌, ◌==◌, ◌+◌, ◌<◌, ◌�
 use std::alloc::{AllocError, Global};
 use std::marker::Model;
 
-/// Want of memory, and nothing else. A later call may succeed.
+/// A call is out of memory, and nothing else is wrong. A later call may succeed.
 #[derive(Clone, Copy, Debug, PartialEq, Eq)]
 pub struct NoMemory;
 

@@ -1,5 +1,5 @@
 //! The messages that were given and not wholly sent, the oldest first.
-ghost use Rattle.std.specs.Prelude.{◌≡◌, ◌≢◌, ◌<◌, ◌≤◌, ◌==◌, ◌+◌, ◌-◌, ◌^◌, ◌⊎◌, ◌||◌, [], ◌∷◌, ◌++◌, length, take, nat_lt, not, Some, None, IfSome, IfErr, IfOk, OnOk, OnErr, IsOk};
+ghost use Rattle.std.specs.Prelude.{◌≡◌, ◌≢◌, ◌<◌, ◌≤◌, ◌==◌, ◌+◌, ◌-◌, ◌⊎◌, ◌||◌, [], ◌∷◌, ◌++◌, length, take, nat_lt, not, Some, None, IfSome, IfErr, IfOk, OnOk, OnErr, IsOk};
 ghost use Rattle.std.specs.Option.{option_map_or};
 ghost use Rattle.std.specs.VecDeque.{deque_len, deque_capacity};
 ghost use Rattle.beep_octets.specs.Held.{KeepsRoom};
@@ -30,6 +30,7 @@ pub struct Outbox {
 impl Model for Outbox {
     ghost use Rattle.std.specs.Prelude.{◌≡◌, ◌-◌, ◌^◌, ◌<◌, length};
     ghost use Rattle.std.specs.VecDeque.{deque_len, deque_capacity};
+    ghost use Rattle.beep_octets.specs.Numbers.{numbers_32};
     ghost use Rattle.beep_outbox.specs.Unsent.{Unsent, messages_of, lengths};
 
     ghost Value = { Unsent };
@@ -42,7 +43,7 @@ impl Model for Outbox {
     } };
 
     ghost invariant = { λ o. (lengths o.entries.items ≡ length o.octets.items)
-        × (o.octets.capacity < 2 ^ 32) };
+        × (o.octets.capacity < numbers_32) };
 }
 
 impl Outbox {

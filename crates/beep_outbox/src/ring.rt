@@ -1,5 +1,6 @@
 //! Octets in a ring, moved in and out in bulk.
-ghost use Rattle.std.specs.Prelude.{◌≡◌, ◌<◌, ◌≤◌, ◌+◌, ◌-◌, ◌^◌, ◌++◌, length, take, drop, OnOk, OnErr, IsOk};
+ghost use Rattle.std.specs.Prelude.{◌≡◌, ◌<◌, ◌≤◌, ◌+◌, ◌-◌, ◌++◌, length, take, drop, OnOk, OnErr, IsOk};
+ghost use Rattle.beep_octets.specs.Numbers.{numbers_32};
 ghost use Rattle.beep_octets.specs.Held.{KeepsRoom};
 
 use beep_octets::{NoMemory, Octets};
@@ -12,11 +13,11 @@ const MAX_ROOM: usize = 4294967295;
 /// Makes room for `n` more octets, at least twice what there was. `NoMemory` comes also where the
 /// ring would have more than 4294967295.
 pub(crate) fn make_room(ring: &mut HeapCircularBuffer<u8>, n: usize) -> Result<(), NoMemory>
-    requires { ring.old.capacity < 2 ^ 32 }
+    requires { ring.old.capacity < numbers_32 }
     ensures ok { OnOk result (length ring.new.items + n ≤ ring.new.capacity) }
     ensures kept { ring.new.items ≡ ring.old.items }
     ensures room { ring.old.capacity ≤ ring.new.capacity }
-    ensures within { ring.new.capacity < 2 ^ 32 }
+    ensures within { ring.new.capacity < numbers_32 }
     ensures succeeds { n ≤ ring.old.capacity - length ring.old.items → IsOk result }
 {
     let (len, capacity) = (ring.len(), ring.capacity());

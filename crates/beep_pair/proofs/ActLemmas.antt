@@ -18,7 +18,7 @@ use Rattle.beep_session.specs.Channels.{IsStill, Gives}
 use Rattle.beep_session.specs.Lawfully.{KeepsUpright}
 use Rattle.beep_session.specs.Acts.{start_text}
 use Rattle.beep_schedule.specs.declared.event.Act.{Act}
-use Rattle.beep_two_sessions.specs.End.{End, Doing as OneDoing, goes, Stands, StandsAs}
+use Rattle.beep_two_sessions.specs.End.{End, Doing as OneDoing, goes, EndStands, StandsAs}
 use Rattle.beep_two_sessions.specs.Acts.{Act as Deed, gives, asks, rests, LeadsTo}
 use Rattle.beep_two_sessions.proofs.CallLemmas.{gives-step, asks-step, rests-step}
 use Rattle.beep_report.specs.declared.answer.Answer.{Answer}
@@ -192,7 +192,7 @@ act-left act n octets old new answer ready a = left-ready (if is_done answer the
 -- ---- what it is at an end
 
 -- an end that goes on stands
-pub stood-at : (one : End) → one.doing ≡ goes → StandsAs goes one → Stands one
+pub stood-at : (one : End) → one.doing ≡ goes → StandsAs goes one → EndStands one
 stood-at one e s = subst (λ (d : OneDoing). StandsAs d one) (sym e) s
 
 leads : (deed : Deed) (one : End) (new : Held) → one.doing ≡ goes → StandsAs goes one → KeepsUpright one.session new → Doing one.session new deed → LeadsTo deed one new

@@ -1,6 +1,6 @@
 //! What an end sends onto its wire.
 ghost use Rattle.std.specs.Prelude.{◌≡◌, ◌<◌, ◌≤◌, ◌++◌, false, IfOk, OnOk};
-ghost use Rattle.beep_session.specs.declared.limits.TheConstants.{MAX_PIECE};
+ghost use Rattle.beep_settings.specs.declared.limits.TheConstants.{MAX_PIECE};
 ghost use Rattle.beep_peer.specs.Peering.{zero_waits};
 ghost use Rattle.beep_pair.specs.Sessions.{IsReady, Sends, SendsOnto};
 

@@ -1,5 +1,6 @@
 //! What an end takes of what arrived.
-ghost use Rattle.std.specs.Prelude.{◌≡◌, ◌<◌, ◌^◌, false, length};
+ghost use Rattle.std.specs.Prelude.{◌≡◌, ◌<◌, false, length};
+ghost use Rattle.beep_octets.specs.Numbers.{numbers_32};
 ghost use Rattle.beep_peer.specs.Peering.{zero_waits};
 ghost use Rattle.beep_pair.specs.Sessions.{IsReady, TakesPart, counted_take};
 
@@ -12,7 +13,7 @@ use beep_tally::Accounts;
 pub(crate) fn take_part(session: &mut Session, n: u32, buf: &mut [u8]) -> Option<Part>
     requires settled { zero_waits session.old.peer ≡ false }
     requires some { 0 < length buf.old }
-    requires fits { length buf.old < 2 ^ 32 }
+    requires fits { length buf.old < numbers_32 }
     ensures { TakesPart n result buf.new session.old session.new }
 {
     if session.is_over() || !session.live(n) {
@@ -31,7 +32,7 @@ pub(crate) fn take_part(session: &mut Session, n: u32, buf: &mut [u8]) -> Option
 pub(crate) fn take_ready(session: &mut Session, n: u32, buf: &mut [u8]) -> Option<Part>
     requires ready { IsReady session.old }
     requires some { 0 < length buf.old }
-    requires fits { length buf.old < 2 ^ 32 }
+    requires fits { length buf.old < numbers_32 }
     ensures taken { TakesPart n result buf.new session.old session.new }
     ensures ready { IsReady session.new }
     ensures role { session.new.role ≡ session.old.role }
@@ -50,7 +51,7 @@ pub(crate) fn take_on(
 ) -> Option<Part>
     requires ready { IsReady session.old }
     requires some { 0 < length buf.old }
-    requires fits { length buf.old < 2 ^ 32 }
+    requires fits { length buf.old < numbers_32 }
     ensures taken { TakesPart n result buf.new session.old session.new }
     ensures counted { accounts.new ≡ counted_take at n result accounts.old }
     ensures ready { IsReady session.new }

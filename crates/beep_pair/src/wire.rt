@@ -51,7 +51,7 @@ impl Wire {
         }
     }
 
-    /// How many there are.
+    /// How many octets were sent and not used.
     pub(crate) fn len(&self) -> usize
         ensures { result ≡ length self.now }
     {

@@ -13,7 +13,7 @@ use Rattle.beep_mgmt.specs.Message.{message_text}
 use Rattle.beep_outbox.specs.declared.outbox.TheConstants.{MAX_UNLIMITED}
 use Rattle.beep_outbox.specs.Queue.{message_marks}
 use Rattle.beep_channel.specs.Held.{Held, Live, next_ask, ask_refusal}
-use Rattle.beep_decide.specs.declared.limits.TheConstants.{MAX_CHANNELS}
+use Rattle.beep_turns.specs.declared.turns.TheConstants.{MAX_CHANNELS}
 use Rattle.beep_lives.specs.Lives.{live_at, numbers}
 use Rattle.beep_lives.specs.Edits.{Edits, Gives, KeepsHeld, UsesRoom}
 use Rattle.beep_lives.proofs.ListLemmas.{live-number}

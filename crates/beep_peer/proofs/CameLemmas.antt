@@ -13,7 +13,7 @@ use Rattle.beep_history.specs.Journal.{Item, passed}
 use Rattle.beep_journal.specs.Zero.{zero_history, zero_events, events}
 use Rattle.beep_journal.specs.Life.{is_released}
 use Rattle.beep_channel.specs.Held.{Live}
-use Rattle.beep_decide.specs.declared.limits.TheConstants.{MAX_CHANNELS}
+use Rattle.beep_turns.specs.declared.turns.TheConstants.{MAX_CHANNELS}
 use Rattle.beep_lives.specs.Lives.{live_at, numbers, runs_of}
 use Rattle.beep_lives.specs.Edits.{Edits, KeepsHeld}
 use Rattle.beep_standing.specs.Standing.{Marks, AreLiveBy}

@@ -35,7 +35,7 @@ use Rattle.beep_peer.proofs.LeftLemmas.{left-edit, left-joins, left-leaves}
 
 -- ---- a SEQ
 
--- once the full one was told none is due
+-- once the SEQ with the full window was sent none is due
 told-due : (size : ℕ) (c : Held) (past : List Item) (given taken : List Mark) → Stands size c past given taken → is_seq_due_of (told_held c) ≡ false
 told-due size c past given taken s =
     ap (λ (b : Bool). is_some (if b then Some (full_of (told_held c).receives) else None)) none

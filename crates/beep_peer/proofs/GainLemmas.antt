@@ -6,7 +6,7 @@ use Rattle.beep_journal.specs.Zero.{zero_history, zero_events, events, channel_o
 use Rattle.beep_journal.specs.Lives.{Event, is_live, has_release}
 use Rattle.beep_journal.specs.Life.{is_released}
 use Rattle.beep_channel.specs.Held.{Live}
-use Rattle.beep_decide.specs.declared.limits.TheConstants.{MAX_CHANNELS}
+use Rattle.beep_turns.specs.declared.turns.TheConstants.{MAX_CHANNELS}
 use Rattle.beep_standing.specs.Standing.{Marks, AreLiveBy}
 use Rattle.beep_hearing.specs.Hears.{ends_zero}
 use Rattle.beep_asked.proofs.LawsLemmas.{part-events}

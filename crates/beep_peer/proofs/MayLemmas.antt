@@ -15,7 +15,7 @@ use Rattle.beep_peer.specs.declared.refusals.CloseError.{CloseError}
 use Rattle.beep_peer.specs.declared.peer.Peer.{Peer}
 use Rattle.beep_peer.specs.Standing.{leaves}
 use Rattle.beep_history.specs.declared.limits.TheConstants.{MAX_REQUESTS}
-use Rattle.beep_decide.specs.declared.limits.TheConstants.{MAX_CHANNELS}
+use Rattle.beep_turns.specs.declared.turns.TheConstants.{MAX_CHANNELS}
 use Rattle.beep_peer.specs.Peering.{is_over, is_welcomed}
 use Rattle.beep_peer.specs.Acts.{asked_of, first_asked_of, first_of_causes, either_cause, numbered_cause, start_refusal, close_refusal, is_used, count_used}
 use Rattle.beep_peer.specs.Asking.{MayStart, MayClose}

@@ -12,7 +12,7 @@ use Rattle.beep_journal.specs.Zero.{events}
 use Rattle.beep_journal.specs.Lives.{Event, is_live, has_release}
 use Rattle.beep_journal.specs.Life.{history, is_there, is_released}
 use Rattle.beep_channel.specs.Held.{Live}
-use Rattle.beep_decide.specs.declared.limits.TheConstants.{MAX_CHANNELS}
+use Rattle.beep_turns.specs.declared.turns.TheConstants.{MAX_CHANNELS}
 use Rattle.beep_lives.specs.Lives.{numbers, can_send, owes_seq}
 use Rattle.beep_lives.specs.Edits.{Sends, Tells}
 use Rattle.beep_standing.specs.Standing.{Marks, AreLiveBy}

@@ -8,7 +8,7 @@ use Rattle.beep_frame.specs.declared.kind.Kind.{Kind}
 use Rattle.beep_outbox.specs.Queue.{Message, message_marks}
 use Rattle.beep_channel.specs.Held.{Held, Live}
 use Rattle.beep_lives.specs.Lives.{live_at, numbers}
-use Rattle.beep_decide.specs.declared.limits.TheConstants.{MAX_CHANNELS}
+use Rattle.beep_turns.specs.declared.turns.TheConstants.{MAX_CHANNELS}
 use Rattle.beep_standing.specs.Standing.{Marks, with_marks}
 use Rattle.beep_asked.specs.Kept.{Kept, is_leaving}
 use Rattle.beep_management.specs.Managed.{Managed, numbers_of, has_number, lowest}

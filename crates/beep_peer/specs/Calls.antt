@@ -45,7 +45,7 @@ abbrev pub words_of : List Prepared → List (Kind × List ℕ)
 words_of answers = map (λ answer. (answer.kind, answer.octets)) answers
 
 -- these answers are left as they were, or none of them waits any more for the life of one number
--- that has ended
+-- that has no live channel now
 abbrev pub AreLeft : List Live → List Prepared → List Prepared → Type 0
 AreLeft channels old new = (new ≡ old) ⊎ ((number : ℕ) × (new ≡ without number old)
     × (live_at number channels ≡ None))

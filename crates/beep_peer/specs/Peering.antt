@@ -6,7 +6,7 @@ use Rattle.beep_frame.specs.declared.head.Head.{Head}
 use Rattle.beep_history.specs.Journal.{Item}
 use Rattle.beep_journal.specs.Life.{is_there, is_released}
 use Rattle.beep_channel.specs.Held.{Live}
-use Rattle.beep_decide.specs.declared.limits.TheConstants.{MAX_CHANNELS}
+use Rattle.beep_turns.specs.declared.turns.TheConstants.{MAX_CHANNELS}
 use Rattle.beep_standing.specs.Standing.{Marks, AreLive, AreLiveBy}
 use Rattle.beep_hearing.specs.Hears.{Hears, IsZeroTaken, Waits, HasZeroRoom}
 use Rattle.beep_asked.specs.Kept.{Kept, oldest}

@@ -5,7 +5,7 @@ ghost use Rattle.std.specs.Option.{option_to_list};
 ghost use Rattle.beep_history.specs.Journal.{Item};
 ghost use Rattle.beep_history.specs.declared.limits.TheConstants.{MAX_REQUESTS};
 ghost use Rattle.beep_mgmt.specs.Form.{form_of, plain_profile, start};
-ghost use Rattle.beep_decide.specs.declared.limits.TheConstants.{MAX_CHANNELS};
+ghost use Rattle.beep_turns.specs.declared.turns.TheConstants.{MAX_CHANNELS};
 ghost use Rattle.beep_lives.specs.Lives.{live_at};
 ghost use Rattle.beep_lawful.specs.declared.terms.Terms.{Terms};
 ghost use Rattle.beep_standing.specs.Standing.{Marks};
@@ -22,10 +22,10 @@ use crate::refusals::{CloseError, ReleaseError, StartError};
 use crate::room::reserve_with;
 use beep_asked::Request;
 use beep_channel::Channel;
-use beep_decide::MAX_CHANNELS;
 use beep_history::MAX_REQUESTS;
 use beep_mgmt::{Mgmt, Profile, Profiles};
 use beep_octets::{NoMemory, Octets};
+use beep_turns::MAX_CHANNELS;
 use std::alloc::Global;
 
 impl Peer {

@@ -17,7 +17,7 @@ pub enum StartError {
     TooManyAsked,
     /// The message has this many octets, more than are read.
     TooLong { size: u32 },
-    /// Out of memory.
+    /// The start or its channel found no memory; a later call may succeed.
     NoMemory,
 }
 
@@ -34,7 +34,7 @@ pub enum ReleaseError {
     Busy(u32),
     /// The own request of channel zero with this number waits.
     Unanswered(u32),
-    /// Out of memory.
+    /// The close of 0 found no memory; a later call may succeed.
     NoMemory,
 }
 
@@ -45,6 +45,6 @@ pub enum CloseError {
     Busy(u32),
     /// As many own requests of channel zero as there may be wait.
     TooManyAsked,
-    /// Out of memory.
+    /// The close found no memory; a later call may succeed.
     NoMemory,
 }

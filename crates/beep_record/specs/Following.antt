@@ -1,6 +1,7 @@
 -- What replaying keeps of a session, for the proofs: a decoder and counts for each side, and a
 -- judge.
-use Rattle.std.specs.Prelude.{◌≡◌, ℕ, ◌%◌, ◌^◌, Bool, not, ◌&&◌, List, [], ◌∷◌, ◌++◌, length, Option, None, Some}
+use Rattle.std.specs.Prelude.{◌≡◌, ℕ, ◌%◌, Bool, not, ◌&&◌, List, [], ◌∷◌, ◌++◌, length, Option, None, Some}
+use Rattle.beep_octets.specs.Numbers.{numbers_128}
 use Rattle.beep_frame.specs.declared.head.Head.{Head}
 use Rattle.beep_frame.specs.declared.limits.TheConstants.{MAX_PAYLOAD}
 use Rattle.beep_frame.specs.Frame.{Frame, framed}
@@ -19,7 +20,7 @@ use Rattle.beep_record.specs.Verdicts.{verdict_of}
 
 -- a number of frames as it is counted
 abbrev pub counted : ℕ → ℕ
-counted n = n % 2 ^ 128
+counted n = n % numbers_128
 
 -- the octets of a side
 abbrev pub octets_of : Side → Past → List ℕ

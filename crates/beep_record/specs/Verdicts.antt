@@ -13,7 +13,7 @@ use Rattle.beep_journal.specs.declared.role.Role.{Role}
 use Rattle.beep_record.specs.declared.verdict.Verdict.{Verdict}
 use Rattle.beep_record.specs.Record.{Says}
 
--- the verdict on a rule that a side broke, at a place as it is told
+-- the verdict on a rule that a side broke, at a place modulo 2^64
 abbrev pub verdict_on : Side → Rule → ℕ → Verdict
 verdict_on Side.Received rule place = Verdict.Broken rule place
 verdict_on Side.Sent rule place = Verdict.Written rule place

@@ -9,7 +9,7 @@ use beep_octets::{NoMemory, Octets};
 pub(crate) fn is_plain(octet: u8) -> bool
     ensures { result ≡ is_plain octet }
 {
-    32 <= octet && octet <= 126 && octet != b'\\'
+    b' ' <= octet && octet <= b'~' && octet != b'\\'
 }
 
 /// How many octets are looked at together.
@@ -91,7 +91,7 @@ pub(crate) fn digit_of(octet: u8) -> u8
     if octet <= b'9' {
         octet.saturating_sub(b'0')
     } else {
-        octet.saturating_sub(87)
+        octet.saturating_sub(b'a' - 10)
     }
 }
 
@@ -99,7 +99,7 @@ pub(crate) fn digit_of(octet: u8) -> u8
 pub(crate) fn is_hexed(octet: u8) -> bool
     ensures { result ≡ is_hexed octet }
 {
-    (octet < 32 && octet != b'\n' && octet != b'\r') || 126 < octet
+    (octet < b' ' && octet != b'\n' && octet != b'\r') || b'~' < octet
 }
 
 /// Whether this is the first digit of such an octet.
@@ -114,7 +114,7 @@ fn hex_digit(n: u8) -> u8
     requires { n < 16 }
     ensures { result ≡ hex_digit n }
 {
-    if n < 10 { b'0' + n } else { 87 + n }
+    if n < 10 { b'0' + n } else { b'a' - 10 + n }
 }
 
 /// Appends an octet as it is written.

@@ -40,6 +40,9 @@ pub(crate) fn first_line(role: Role) -> &'static [u8]
     }
 }
 
+/// How many octets of the first line come before the name of the role.
+const BEFORE_ROLE: u8 = 14;
+
 impl Reader {
     /// A reader before any octet.
     pub(crate) fn new(alloc: Global) -> Reader
@@ -65,8 +68,8 @@ impl Reader {
             self.after_first(role, count + 1);
             return true;
         }
-        if count == 14 && octet == b'l' {
-            self.mode = Mode::First(Role::Listener, 15);
+        if count == BEFORE_ROLE && octet == b'l' {
+            self.mode = Mode::First(Role::Listener, BEFORE_ROLE + 1);
             return true;
         }
         false

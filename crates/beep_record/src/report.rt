@@ -1,5 +1,6 @@
 //! Replaying a record: the report and the verdict of the session that its log shows.
-ghost use Rattle.std.specs.Prelude.{◌≡◌, ℕ, ◌+◌, ◌≤◌, ◌<◌, ◌^◌, ◌++◌, List, [], ◌∷◌, length, take, IfOk, OnOk, OnErr};
+ghost use Rattle.std.specs.Prelude.{◌≡◌, ℕ, ◌+◌, ◌≤◌, ◌<◌, ◌++◌, List, [], ◌∷◌, length, take, IfOk, OnOk, OnErr};
+ghost use Rattle.beep_octets.specs.Numbers.{numbers_64, numbers_128};
 ghost use Rattle.beep_journal.specs.Log.{Moment, Entry as LogEntry, flat};
 ghost use Rattle.beep_journal.specs.Broken.{none_tunes};
 ghost use Rattle.beep_journal.specs.Journal.{Past, Shows};
@@ -56,7 +57,7 @@ impl Replayer {
             → Follows self.old (flat log) old out.old.octets
             → OnOk result (Follows self.new (flat (entry_of entry.now ∷ log)) old out.new.octets) }
         ensures small { (log : List LogEntry)
-            → length (flat (entry_of entry.now ∷ log)) ≤ length (flat log) + 2 ^ 64 }
+            → length (flat (entry_of entry.now ∷ log)) ≤ length (flat log) + numbers_64 }
         ensures err { (log : List LogEntry) (old : List ℕ)
             → Follows self.old (flat log) old out.old.octets
             → OnErr result (Stopped (flat (entry_of entry.now ∷ log)) old out.new.octets) }
@@ -73,7 +74,7 @@ impl Replayer {
         requires follows { HasLog self.old out.old.octets }
         ensures ok { (log : List Moment) (old : List ℕ) → Follows self.old log old out.old.octets
             → OnOk result (Follows self.new (many side octets.now log) old out.new.octets) }
-        ensures small { length octets.now < 2 ^ 64 }
+        ensures small { length octets.now < numbers_64 }
         ensures err { (log : List Moment) (old : List ℕ) → Follows self.old log old out.old.octets
             → OnErr result (Stopped (many side octets.now log) old out.new.octets) }
     {
@@ -140,11 +141,11 @@ impl Replayer {
     pub(crate) fn end(&self, out: &mut Octets) -> Result<Verdict, NoMemory>
         ensures value { (log : List Moment) (old : List ℕ)
             (follows : Follows self.now log old out.old.octets)
-            → length log < 2 ^ 128
+            → length log < numbers_128
             → IfOk result (λ verdict. verdict ≡ verdict_of follows.past.fault) }
         ensures text { (log : List Moment) (old : List ℕ)
             (follows : Follows self.now log old out.old.octets)
-            → length log < 2 ^ 128
+            → length log < numbers_128
             → OnOk result (out.new.octets ≡ old ++ report follows.past) }
         ensures err { OnErr result (out.new.octets ≡ out.old.octets) }
     {

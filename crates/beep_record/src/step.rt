@@ -76,7 +76,7 @@ fn begin(judge: &mut Judge, side: Side, head: &Head, place: u64) -> Verdict
     }
 }
 
-/// The frame that was told last ends at this place.
+/// The frame whose header was answered last ends at this place.
 fn pass(
     wire: &mut Wire,
     judge: &mut Judge,

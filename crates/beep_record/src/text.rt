@@ -1,5 +1,6 @@
 //! Replaying the text of a record. Each entry is judged as its line ends, and none is kept.
-ghost use Rattle.std.specs.Prelude.{◌≡◌, ℕ, ◌<◌, ◌≤◌, ◌^◌, ◌++◌, List, [], length, take, None, Some, IfOk, IfErr, OnOk};
+ghost use Rattle.std.specs.Prelude.{◌≡◌, ℕ, ◌<◌, ◌≤◌, ◌++◌, List, [], length, take, None, Some, IfOk, IfErr, OnOk};
+ghost use Rattle.beep_octets.specs.Numbers.{numbers_128};
 ghost use Rattle.beep_journal.specs.Log.{Entry, flat};
 ghost use Rattle.beep_record.specs.Machine.{run, start};
 ghost use Rattle.beep_record.specs.Reading.{state_of, IsNumbered};
@@ -77,7 +78,7 @@ impl Teller {
     /// Ends the report.
     fn end(self) -> Result<(Verdict, Octets), RecordError>
         ensures value { (log : List Entry) → Follows self.replayer (flat log) [] self.out.octets
-            → length (flat log) < 2 ^ 128
+            → length (flat log) < numbers_128
             → IfOk result (λ told. Replays log told.0 [] told.1.octets) }
         ensures refused { IfErr result (λ error. error ≡ RecordError.NoMemory) }
     {

@@ -79,8 +79,8 @@ pub fn a_script_that_is_kept_is_kept_above()
 {}
 
 /// What was sent in a live life that began with the profile and where nothing is asked first is of
-/// the script, where it is a beginning of replies as calls tell them, modulo 2^64: each reply
-/// stands at its place, and answers a request that has wholly passed.
+/// the script, where it is a beginning of replies, positions modulo 2^64: each reply stands at its
+/// place, and answers a request that has wholly passed.
 pub fn replies_that_were_sent_are_of_the_script()
     ensures { (plan : PlainPlan) (number count : ℕ) (journal : List Item) (many : ℕ)
         (rest : List Mark)

@@ -8,9 +8,11 @@ use Rattle.beep_wires.specs.Log.{Entry}
 use Rattle.beep_link.specs.declared.ended.Ended.{Ended}
 use Rattle.beep_link.specs.Causes.{IsCaused, Keeps, Seen, WhereKnown}
 use Rattle.beep_steps.specs.Ends.{reads_of}
-use Rattle.beep_steps.specs.Logs.{IsLawfulOn, ReadsOnlyGoing, Shows, terms_by}
+use Rattle.beep_steps.specs.Logs.{IsLawfulOn, Shows, terms_by}
 use Rattle.beep_steps.specs.Refusing.{GoesUnrefused}
-use Rattle.beep_steps.specs.Scripting.{KeepsWholeOn, KeepsScriptOn}
+use Rattle.beep_steps.specs.EachEnd.{EachEndOn}
+use Rattle.beep_steps.specs.Resting.{AreShort}
+use Rattle.beep_steps.proofs.EachLemmas.{each-then}
 use Rattle.beep_steps.specs.Sending.{sender_plan, SendsAll}
 use Rattle.beep_listener.specs.Listening.{listener_plan}
 use Rattle.beep_recorder.specs.Kept.{Recording, RecordsKnown}
@@ -82,14 +84,13 @@ goes-unrefused terms cause result log unrefused =
 
 -- what was sent by the end of the session was sent by the end of the run
 pub sent_all : (settings : Settings) (lines : List (List ℕ)) (cause result : Ended) (before used after : Seen) (link : ℕ) → link ≡ before.counts.given → after.state link ≡ record (used.state link) { is_open = false }
-    → (cause ≡ Ended.Released → WhereKnown (SendsAll (sender_plan settings lines)) (used.state link).log) → WhereKnown (KeepsScriptOn (sender_plan settings lines)) (used.state link).log
-    → WhereKnown (GoesUnrefused (terms_by Role.Initiator settings) cause) (used.state link).log → WhereKnown (ReadsOnlyGoing (terms_by Role.Initiator settings)) (used.state link).log → (result ≡ cause) ⊎ (result ≡ Ended.NoMemory) → SentAll settings lines result before after
-sent_all settings lines cause result before used after link is shut sent above unrefused waits ended = record {
+    → (cause ≡ Ended.Released → WhereKnown (SendsAll (sender_plan settings lines)) (used.state link).log)
+    → WhereKnown (GoesUnrefused (terms_by Role.Initiator settings) cause) (used.state link).log → (AreShort lines → WhereKnown (EachEndOn (sender_plan settings lines) cause) (used.state link).log) → (result ≡ cause) ⊎ (result ≡ Ended.NoMemory) → SentAll settings lines result before after
+sent_all settings lines cause result before used after link is shut sent unrefused each ended = record {
   all = λ released. on (SendsAll (sender_plan settings lines)) (⊎_elim (λ same. sent (sym same ∙ released))
       (λ short. absurd (let h : Ended.NoMemory ≡ Ended.Released = sym short ∙ released in cc)) ended);
-  above = on (KeepsScriptOn (sender_plan settings lines)) above;
   unrefused = on (GoesUnrefused (terms_by Role.Initiator settings) result) (goes-unrefused (terms_by Role.Initiator settings) cause result (used.state link).log unrefused ended);
-  waits = on (ReadsOnlyGoing (terms_by Role.Initiator settings)) waits;
+  each = λ short. on (EachEndOn (sender_plan settings lines) result) (each-then (sender_plan settings lines) cause result (used.state link).log (each short) ended);
 }
   where
     on : (P : List Entry → Type 0) → WhereKnown P (used.state link).log → WhereKnown P (after.state before.counts.given).log
@@ -97,12 +98,10 @@ sent_all settings lines cause result before used after link is shut sent above u
 
 -- what a listener kept by the end of its session it kept by the end of the run
 pub has_listened : (settings : Settings) (cause result : Ended) (before used after : Seen) (link : ℕ) → link ≡ before.counts.given → after.state link ≡ record (used.state link) { is_open = false }
-    → WhereKnown (KeepsWholeOn (listener_plan settings)) (used.state link).log
-    → WhereKnown (GoesUnrefused (terms_by Role.Listener settings) cause) (used.state link).log → WhereKnown (ReadsOnlyGoing (terms_by Role.Listener settings)) (used.state link).log → (result ≡ cause) ⊎ (result ≡ Ended.NoMemory) → HasListened settings result before after
-has_listened settings cause result before used after link is shut script unrefused waits ended = record {
-  script = on (KeepsWholeOn (listener_plan settings)) script;
+    → WhereKnown (GoesUnrefused (terms_by Role.Listener settings) cause) (used.state link).log → WhereKnown (EachEndOn (listener_plan settings) cause) (used.state link).log → (result ≡ cause) ⊎ (result ≡ Ended.NoMemory) → HasListened settings result before after
+has_listened settings cause result before used after link is shut unrefused each ended = record {
   unrefused = on (GoesUnrefused (terms_by Role.Listener settings) result) (goes-unrefused (terms_by Role.Listener settings) cause result (used.state link).log unrefused ended);
-  waits = on (ReadsOnlyGoing (terms_by Role.Listener settings)) waits;
+  each = on (EachEndOn (listener_plan settings) result) (each-then (listener_plan settings) cause result (used.state link).log each ended);
 }
   where
     on : (P : List Entry → Type 0) → WhereKnown P (used.state link).log → WhereKnown P (after.state before.counts.given).log

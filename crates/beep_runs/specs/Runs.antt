@@ -11,9 +11,10 @@ use Rattle.beep_settings.specs.declared.settings.Settings.{Settings}
 use Rattle.beep_link.specs.declared.ended.Ended.{Ended}
 use Rattle.beep_link.specs.Causes.{IsCaused, Seen, WhereKnown}
 use Rattle.beep_steps.specs.Ends.{reads_of}
-use Rattle.beep_steps.specs.Logs.{IsLawfulOn, ReadsOnlyGoing, Shows, terms_by}
+use Rattle.beep_steps.specs.EachEnd.{EachEndOn}
+use Rattle.beep_steps.specs.Logs.{IsLawfulOn, Shows, terms_by}
 use Rattle.beep_steps.specs.Refusing.{GoesUnrefused}
-use Rattle.beep_steps.specs.Scripting.{KeepsWholeOn, KeepsScriptOn}
+use Rattle.beep_steps.specs.Resting.{AreShort}
 use Rattle.beep_steps.specs.Sending.{sender_plan, SendsAll}
 use Rattle.beep_listener.specs.Listening.{listener_plan}
 use Rattle.beep_recorder.specs.Kept.{RecordsLink}
@@ -40,29 +41,23 @@ pub record Ran (role : Role) (settings : Settings) (cause : Ended) (before after
   pub others : SameBeside before.counts.given before.state after.state
 
 -- the log of the link that was given shows that all lines were sent, where the session was
--- released, that above channel zero its script was kept and nothing but it asked on channel zero,
--- whatever ended it, that the peer refused nothing where that didn't end it, and that wherever it
--- read the session went on
+-- released, that the peer refused nothing where that didn't end it, and that the sender kept its
+-- whole part, whatever ended it, where its lines are short
 pub record SentAll (settings : Settings) (lines : List (List ℕ)) (cause : Ended)
     (before after : Seen) : Type 0 where
   pub all : cause ≡ Ended.Released
       → WhereKnown (SendsAll (sender_plan settings lines)) (after.state before.counts.given).log
-  pub above : WhereKnown (KeepsScriptOn (sender_plan settings lines))
-      (after.state before.counts.given).log
   pub unrefused : WhereKnown (GoesUnrefused (terms_by Role.Initiator settings) cause)
       (after.state before.counts.given).log
-  pub waits : WhereKnown (ReadsOnlyGoing (terms_by Role.Initiator settings))
+  pub each : AreShort lines → WhereKnown (EachEndOn (sender_plan settings lines) cause)
       (after.state before.counts.given).log
 
--- the log of the link that was given shows that a listener kept its script, channel zero among its
--- channels, that the peer refused nothing where that didn't end it, and that wherever it read the
--- session went on
+-- the log of the link that was given shows that the peer refused nothing where that didn't end it,
+-- and that the listener kept its whole part, whatever ended it
 pub record HasListened (settings : Settings) (cause : Ended) (before after : Seen) : Type 0 where
-  pub script : WhereKnown (KeepsWholeOn (listener_plan settings))
-      (after.state before.counts.given).log
   pub unrefused : WhereKnown (GoesUnrefused (terms_by Role.Listener settings) cause)
       (after.state before.counts.given).log
-  pub waits : WhereKnown (ReadsOnlyGoing (terms_by Role.Listener settings))
+  pub each : WhereKnown (EachEndOn (listener_plan settings) cause)
       (after.state before.counts.given).log
 
 -- no link was given, for this reason, where the count of such faults was that and is this

@@ -1,9 +1,10 @@
 -- How a line of a schedule is read, from its beginning, for the proofs alone: the name of its event
 -- and then its numbers.
-use Rattle.std.specs.Prelude.{ℕ, suc, ◌^◌, ◌==◌, Bool, true, false, ◌&&◌, nat_lt, nat_le, eqb, List, [], ◌∷◌, take, drop, length, Option, None, Some, codes, bytes_eq, if◌then◌else◌}
+use Rattle.std.specs.Prelude.{ℕ, suc, ◌==◌, Bool, true, false, ◌&&◌, nat_lt, nat_le, eqb, List, [], ◌∷◌, take, drop, length, Option, None, Some, codes, bytes_eq, if◌then◌else◌}
 use Rattle.std.specs.List.{starts_with, position}
 use Rattle.std.specs.Fmt.{decimal}
 use Rattle.std.specs.Str.Parse.{digits_value}
+use Rattle.beep_octets.specs.Numbers.{numbers_32}
 use Rattle.beep_schedule.specs.declared.event.End.{End}
 use Rattle.beep_schedule.specs.declared.event.Act.{Act}
 use Rattle.beep_schedule.specs.declared.event.PairEvent.{PairEvent}
@@ -18,7 +19,7 @@ use Rattle.beep_schedule.specs.Events.{is_event}
 -- the number whose decimal text this is
 abbrev pub number_in : List ℕ → Option ℕ
 number_in word = if bytes_eq word (decimal (digits_value 10 word))
-    && nat_lt (digits_value 10 word) (2 ^ 32) then Some (digits_value 10 word) else None
+    && nat_lt (digits_value 10 word) numbers_32 then Some (digits_value 10 word) else None
 
 -- the place of the first such octet
 abbrev pub place_of : ℕ → List ℕ → Option ℕ

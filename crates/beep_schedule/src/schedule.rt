@@ -42,7 +42,7 @@ impl Schedule {
         Ok(())
     }
 
-    /// How many there are.
+    /// How many events it has, those of one end and those of both together.
     pub fn len(&self) -> usize
         ensures { result ≡ length self.now }
     {

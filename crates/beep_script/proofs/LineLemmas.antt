@@ -90,7 +90,7 @@ part-once p (x ∷ xs) (y ∷ ys) us vs a b e none other is so =
 
 -- ---- positions modulo 2^64
 
--- marks of the request at 0 are as calls tell them
+-- marks of the request at 0 are the same modulo 2^64
 first-modulo : (ms : List Mark) → list_all is_of_first ms ≡ true → map mark_modulo_2_64 ms ≡ ms
 first-modulo [] is = refl
 first-modulo (octet tag value ∷ ms) is =

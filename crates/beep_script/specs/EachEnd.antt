@@ -2,6 +2,7 @@
 -- The code keeps no log.
 use Rattle.std.specs.Prelude.{◌≡◌, ℕ, ◌==◌, Bool, true, false, List, [], ◌∷◌, ◌++◌, filter, flat_map, Option, None, Some}
 use Rattle.beep_frame.specs.declared.rule.Rule.{Rule}
+use Rattle.beep_frame.specs.Modulo.{modulo_2_64}
 use Rattle.beep_history.specs.declared.journal.Side.{Side}
 use Rattle.beep_history.specs.Journal.{Item}
 use Rattle.beep_history.specs.Marks.{marks}
@@ -9,7 +10,7 @@ use Rattle.beep_history.specs.Moments.{mark_tag}
 use Rattle.beep_journal.specs.Broken.{none_tunes}
 use Rattle.beep_journal.specs.Journal.{Past, Shows}
 use Rattle.beep_journal.specs.Life.{life, is_released}
-use Rattle.beep_journal.specs.Log.{Entry, Moment, flat}
+use Rattle.beep_journal.specs.Log.{Entry, read, wrote, quiet, ended, Moment, put, flat}
 use Rattle.beep_lawful.specs.Lawful.{IsLawfulLog}
 use Rattle.beep_talk.specs.Plan.{PlainPlan}
 use Rattle.beep_talk.specs.Talk.{reply_of}
@@ -20,17 +21,30 @@ use Rattle.beep_script.specs.Lines.{lines}
 
 -- ---- each end
 
--- nothing happened on a link after the session was over: each entry comes while it goes on
+-- the session that a log shows isn't over
+abbrev pub GoesOn : List Moment → Type 0
+GoesOn log = (past : Past) → Shows none_tunes log past → is_over past ≡ false
+
+-- each of these octets is written while the session goes on
+abbrev pub WritesGoing : List ℕ → List Moment → Type 0
+WritesGoing [] log = Unit {0}
+WritesGoing (octet ∷ octets) log = GoesOn log × WritesGoing octets (put octet ∷ log)
+
+-- nothing happened on a link after the session was over: each read, each quiet one, the end of the
+-- link and each octet that is written come while it goes on
 abbrev pub Stops : List Entry → Type 0
 Stops [] = Unit {0}
-Stops (entry ∷ log) =
-    ((past : Past) → Shows none_tunes (flat log) past → is_over past ≡ false) × Stops log
+Stops (read octets ∷ log) = GoesOn (flat log) × Stops log
+Stops (wrote octets ∷ log) = WritesGoing octets (flat log) × Stops log
+Stops (quiet ∷ log) = GoesOn (flat log) × Stops log
+Stops (ended ∷ log) = GoesOn (flat log) × Stops log
 
--- a rule that an end names, with its octet, is the peer's first fault
+-- a rule that an end names, with its octet modulo 2^64, is the peer's first fault
 abbrev pub NamesFault : Option (Rule × ℕ) → List Moment → Type 0
 NamesFault None log = Unit {0}
 NamesFault (Some (rule, place)) log = (past : Past) → Shows none_tunes log past
-    → past.fault ≡ Some (record { side = Side.Received; rule = rule; place = place })
+    → (octet : ℕ) × (place ≡ modulo_2_64 octet)
+    × (past.fault ≡ Some (record { side = Side.Received; rule = rule; place = octet }))
 
 -- an end that has this to do kept its part on a link with this log, and ended with this broken
 -- rule, or otherwise: it sent only lawful frames, in each life the messages of its script from the

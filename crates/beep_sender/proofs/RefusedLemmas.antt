@@ -18,4 +18,4 @@ as-closing command log a b same u = subst (λ (c : Bool). IsUnrefused command c 
 pub sent-unrefused : (one : Sender) (log : List Entry) (cause : Ended) → IsCalm cause → StandsBy one (moments log) → GoesUnrefused (terms_of one.session) cause log
 sent-unrefused one log cause calm s =
     none_refused (terms_of one.session) one.is_closing cause log calm
-    (subst (λ (c : Command). IsUnrefused c one.is_closing (moments log)) (sym (ap command_of s.0.sends.sender.role)) s.1)
+    (subst (λ (c : Command). IsUnrefused c one.is_closing (moments log)) (sym (ap command_of s.0.0.sends.sender.role)) s.1)

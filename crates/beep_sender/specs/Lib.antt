@@ -1,3 +1,4 @@
 -- What proofs alone need: what a sender keeps between two turns.
+pub mod Asking
 pub mod Sender
 pub mod SenderTurning

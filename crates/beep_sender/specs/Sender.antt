@@ -9,6 +9,7 @@ use Rattle.beep_sender.specs.declared.sender.Sender.{Sender}
 use Rattle.beep_steps.specs.Scripting.{ScriptedOn, ScriptedWaiting}
 use Rattle.beep_steps.specs.Refusing.{IsUnrefused}
 use Rattle.beep_steps.specs.Sending.{Progress, SendsOn, SendsWaiting}
+use Rattle.beep_sender.specs.Asking.{AsksOn, AsksWaiting}
 
 -- what a sender over this session is to do, that asks for this profile and has these lines
 abbrev pub plan_by : Held → List ℕ → List (List ℕ) → PlainPlan
@@ -52,10 +53,18 @@ abbrev pub ScriptsWaitingBy : Sender → List Moment → Type 0
 ScriptsWaitingBy sender log =
     ScriptedWaiting (plan_of sender) (progress_of sender) sender.session log
 
--- and the peer refused it nothing
-abbrev pub StandsBy : Sender → List Moment → Type 0
-StandsBy sender log = ScriptsBy sender log × IsUnrefused Command.Send sender.is_closing log
-
 -- a call leaves a sender that kept its script one that keeps it, whatever the log shows
 abbrev pub KeepsScriptingBy : Sender → Sender → Type 0
 KeepsScriptingBy old new = (log : List Moment) → ScriptsBy old log → ScriptsBy new log
+
+-- and on channel zero too
+abbrev pub AsksBy : Sender → List Moment → Type 0
+AsksBy sender log = ScriptsBy sender log × AsksOn (plan_of sender) sender.session log
+
+abbrev pub AsksWaitingBy : Sender → List Moment → Type 0
+AsksWaitingBy sender log =
+    ScriptsWaitingBy sender log × AsksWaiting (plan_of sender) sender.session log
+
+-- and the peer refused it nothing
+abbrev pub StandsBy : Sender → List Moment → Type 0
+StandsBy sender log = AsksBy sender log × IsUnrefused Command.Send sender.is_closing log

@@ -1,6 +1,6 @@
 //! What a sender does as messages come and go: it starts a channel, answers the peer's request with
 //! its lines, closes the channel and releases the session (RFC 3195, section 3.1).
-ghost use Rattle.std.specs.Prelude.{◌≡◌, ◌≤◌, ◌<◌, ◌∷◌, ℕ, List, None, Some, vec_len, false, true, IfErr, IfOk, OnOk};
+ghost use Rattle.std.specs.Prelude.{◌≡◌, ◌≤◌, ◌<◌, ◌∷◌, [], ℕ, List, None, Some, vec_len, false, true, IfErr, IfOk, OnOk};
 ghost use Rattle.beep_wires.specs.Counts.{Rose};
 ghost use Rattle.beep_wires.specs.Log.{Entry, read as came};
 ghost use Rattle.beep_journal.specs.Log.{Moment, put_all};
@@ -13,15 +13,17 @@ ghost use Rattle.beep_link.specs.Causes.{ended_by, WithText};
 ghost use Rattle.beep_answering.specs.Sent.{is_uri as is_uri_text};
 ghost use Rattle.beep_link.specs.declared.end.TheConstants.{FRAME_ROOM};
 ghost use Rattle.beep_link.specs.declared.ended.Stop.{Stop as StopValue};
-ghost use Rattle.beep_sender.specs.declared.sender.TheConstants.{TAKEN};
+ghost use Rattle.beep_sender.specs.declared.sender.TheConstants.{CHANNEL, TAKEN};
 ghost use Rattle.beep_steps.specs.Logs.{moments};
 ghost use Rattle.beep_steps.specs.Refusing.{closing_by};
-ghost use Rattle.beep_steps.specs.Scripting.{ScriptedOn, TellsScripted};
+ghost use Rattle.beep_steps.specs.Resting.{AreShort, HasRepliedAt, HoldsStill, IsAwake, RestsAt};
+ghost use Rattle.beep_steps.specs.Scripting.{ScriptedOn};
 ghost use Rattle.beep_steps.specs.Sending.{at_first, went_by, SendsOn};
 
 mod giving;
 mod hearing;
 mod noting;
+mod taking;
 
 use beep_chars::Text;
 use beep_frame::Head;
@@ -72,7 +74,8 @@ pub(crate) struct Sender<'l> {
 }
 
 impl<'l> Sender<'l> {
-    ghost use Rattle.beep_sender.specs.Sender.{plan_by, plan_of, progress_of, KeepsScriptingBy, KeepsSendingBy, ScriptsBy, ScriptsWaitingBy, SendsBy, SendsWaitingBy};
+    ghost use Rattle.beep_sender.specs.Asking.{AsksClosing, AsksGone, AsksOn, AsksSaid};
+    ghost use Rattle.beep_sender.specs.Sender.{plan_by, plan_of, progress_of, AsksBy, KeepsScriptingBy, KeepsSendingBy, ScriptsBy, ScriptsWaitingBy, SendsBy, SendsWaitingBy};
 
     /// A sender over a session in which nothing has happened, which asks for a profile.
     pub(crate) fn new(
@@ -112,6 +115,12 @@ impl<'l> Sender<'l> {
         ensures scripted { (log : List Moment) → ScriptedOn (plan_of self.old)
             (went_by said (progress_of self.old)) self.old.session log
             → ScriptsBy self.new log }
+        ensures asking { (log : List Moment) → ScriptedOn (plan_of self.old)
+            (went_by said (progress_of self.old)) self.old.session log
+            → AsksSaid (plan_of self.old) (progress_of self.old) said self.old.session log
+            → OnOk result (AsksBy self.new log) }
+        ensures rests { IfOk result (λ more. more ≡ false → (said ≡ EmitValue.Nothing)
+            × (self.new.session ≡ self.old.session)) }
         ensures closing { self.new.is_closing ≡ closing_by said self.old.is_closing }
         ensures plan { plan_of self.new ≡ plan_of self.old }
     {
@@ -134,6 +143,10 @@ impl<'l> Sender<'l> {
         ensures scripted { (log : List Moment) → ScriptedOn (plan_of self.old)
             (went_by (EmitValue.Data head.now) (progress_of self.old)) self.old.session log
             → ScriptsBy self.new log }
+        ensures asking { (log : List Moment) → ScriptedOn (plan_of self.old)
+            (went_by (EmitValue.Data head.now) (progress_of self.old)) self.old.session log
+            → AsksGone (plan_of self.old) (progress_of self.old) head.now self.old.session log
+            → OnOk result (AsksBy self.new log) }
         ensures closing { self.new.is_closing
             ≡ closing_by (EmitValue.Data head.now) self.old.is_closing }
         ensures plan { plan_of self.new ≡ plan_of self.old }
@@ -154,6 +167,9 @@ impl<'l> Sender<'l> {
     fn close(&mut self) -> Result<(), NoMemory>
         ensures sends { self.old.is_sent ≡ true → KeepsSendingBy self.old self.new }
         ensures scripted { self.old.is_sent ≡ true → KeepsScriptingBy self.old self.new }
+        ensures asking { (log : List Moment) → self.old.is_sent ≡ true → ScriptsBy self.old log
+            → AsksClosing (plan_of self.old) self.old.asked self.old.session log
+            → OnOk result (AsksBy self.new log) }
         ensures closing { self.new.is_closing ≡ self.old.is_closing }
         ensures plan { plan_of self.new ≡ plan_of self.old }
     {
@@ -174,6 +190,11 @@ impl<'l> Sender<'l> {
     fn refill(&mut self) -> Result<bool, NoMemory>
         ensures sends { KeepsSendingBy self.old self.new }
         ensures scripted { KeepsScriptingBy self.old self.new }
+        ensures asking { (log : List Moment) → AsksOn (plan_of self.old) self.old.session log
+            → AsksOn (plan_of self.new) self.new.session log }
+        ensures rests { IfOk result (λ given. given ≡ false → AreShort self.new.lines.now
+            → HoldsStill self.old.session self.new.session
+            × (IsAwake self.new.session → HasRepliedAt CHANNEL self.new.session)) }
         ensures closing { self.new.is_closing ≡ self.old.is_closing }
         ensures plan { plan_of self.new ≡ plan_of self.old }
     {
@@ -188,8 +209,8 @@ impl<'l> Sender<'l> {
 
 impl End for Sender<'_> {
     ghost use Rattle.beep_sender.specs.Sender.{plan_of, progress_of, StandsBy};
-    ghost use Rattle.beep_sender.specs.SenderTurning.{closes_scripting, quiets_scripting, spends_scripting, stops_scripting, writes_scripting};
-    ghost use Rattle.beep_steps.specs.Turning.{closes_unrefused, quiets_unrefused, writes_unrefused};
+    ghost use Rattle.beep_sender.specs.SenderTurning.{closes_asking, closes_scripting, ends_asking, idle_asking, quiets_asking, quiets_scripting, spends_scripting, stops_scripting, writes_asking, writes_scripting, TellsAsking};
+    ghost use Rattle.beep_steps.specs.Turning.{closes_unrefused, faults_idle, quiets_unrefused, reads_idle, writes_unrefused};
 
     ghost Terms = { PlainPlan };
 
@@ -197,44 +218,62 @@ impl End for Sender<'_> {
 
     ghost stands = { λ sender log octets _. StandsBy sender (put_all octets (moments log)) };
 
-    ghost tells = { λ plan ended log _. TellsScripted plan ended log };
+    ghost tells = { λ plan ended log _. TellsAsking plan ended log };
 
     ghost goes = { λ sender. is_over sender.session.peer ≡ false };
 
+    ghost rests = { λ sender. AreShort sender.lines.now → RestsAt CHANNEL sender.session };
+
     ghost writes = { λ one log front octets _ s. (
-      writes_scripting (plan_of one)
-          (progress_of one) one.session log front octets s.0,
+      (
+        writes_scripting (plan_of one) (progress_of one) one.session log front octets s.0.0,
+        writes_asking (plan_of one) one.session log front octets s.0.1,
+      ),
       writes_unrefused Command.Send one.is_closing log front octets s.1,
     ) };
 
     ghost quiets = { λ one log _ s. (
-      quiets_scripting (plan_of one) (progress_of one)
-          one.session log s.0,
+      (
+        quiets_scripting (plan_of one) (progress_of one) one.session log s.0.0,
+        quiets_asking (plan_of one) one.session log s.0.1,
+      ),
       quiets_unrefused Command.Send one.is_closing log s.1,
     ) };
 
     ghost closes = { λ one log _ s. (
-      closes_scripting (plan_of one) (progress_of one)
-          one.session log s.0,
+      (
+        closes_scripting (plan_of one) (progress_of one) one.session log s.0.0,
+        closes_asking (plan_of one) one.session log s.0.1,
+      ),
       closes_unrefused Command.Send one.is_closing log s.1,
     ) };
 
-    ghost stops = { λ one log octets _ ended is s. stops_scripting (plan_of one)
-        (progress_of one) one.session (λ i. terms_of one.session) log octets ended is s.0 };
+    ghost stops = { λ one log octets _ ended is s. (
+      stops_scripting (plan_of one) (progress_of one) one.session
+          (λ i. terms_of one.session) log octets ended is s.0.0,
+      ends_asking (plan_of one) one.session log octets s.0.1,
+      λ short. faults_idle (plan_of one) ended (moments log) is,
+    ) };
 
-    ghost spends = { λ one log _ ended is going s. spends_scripting (plan_of one)
-        (progress_of one) one.session (λ i. terms_of one.session) log ended is going s.0
-        one.is_closing s.1 };
+    ghost spends = { λ one log _ ended is going rests s. (
+      spends_scripting (plan_of one) (progress_of one) one.session
+          (λ i. terms_of one.session) log ended is going s.0.0 one.is_closing s.1,
+      ends_asking (plan_of one) one.session log [] s.0.1,
+      λ short. reads_idle (plan_of one) ended (moments log) is
+          (idle_asking (plan_of one) one.session (progress_of one) log s.0.0 s.0.1 (λ i. [])
+          (λ i. one.session.limits.window) going (rests short)),
+    ) };
 
     fn gather(&mut self, out: &mut Octets) -> Result<bool, NoMemory> {
-        let is_given = self.refill()?;
+        // What finds room now goes out with what waited: with one write, and not two.
+        let _ = self.refill()?;
         for _ in 0..BUFFER {
             if out.spare() < FRAME_ROOM {
                 return Ok(true);
             }
             let said = say_next(&mut self.session, out);
             if !self.said(said)? {
-                return Ok(is_given);
+                return self.refill();
             }
         }
         Ok(true)
@@ -248,7 +287,7 @@ impl End for Sender<'_> {
         ensures stopped { (log : List Entry) (text : List ℕ)
             → StandsBy self.old (moments log) → IfErr result (λ stop.
             WithText (O.state _output.old).written (O.state _output.new).written
-            (λ _. TellsScripted (plan_of self.old) (ended_by stop) (came bytes.now ∷ log))) }
+            (λ _. TellsAsking (plan_of self.old) (ended_by stop) (came bytes.now ∷ log))) }
         ensures failed { IfErr result (λ stop. stop ≡ StopValue.WriteFault
             → Rose (O.state _output.old).faults (O.state _output.new).faults) }
         ensures terms { plan_of self.new ≡ plan_of self.old }

@@ -6,7 +6,9 @@ ghost use Rattle.beep_link.specs.declared.ended.Ended.{Ended as EndedValue};
 ghost use Rattle.beep_steps.specs.Ends.{AreFit, reads_of};
 ghost use Rattle.beep_steps.specs.Logs.{IsLawfulOn, ReadsOnlyGoing, Shows, terms_by};
 ghost use Rattle.beep_steps.specs.Refusing.{GoesUnrefused};
-ghost use Rattle.beep_steps.specs.Scripting.{KeepsScriptOn};
+ghost use Rattle.beep_steps.specs.EachEnd.{EachEndOn};
+ghost use Rattle.beep_steps.specs.Resting.{AreShort, IsPromptOn};
+ghost use Rattle.beep_steps.specs.Scripting.{KeepsWholeOn};
 ghost use Rattle.beep_steps.specs.Sending.{sender_plan, SendsAll};
 ghost use Rattle.beep_sender.specs.Sender.{plan_of, SendsBy, StandsBy};
 
@@ -17,7 +19,7 @@ use beep_link::{Ended, run_turns};
 use beep_octets::NoMemory;
 use beep_session::Session;
 use beep_settings::Settings;
-use beep_steps::laws::what_a_sender_asks_is_read;
+use beep_steps::laws::{what_a_sender_asks_is_read, what_a_sender_greets_with_is_read};
 use beep_steps::{limits_of, reads_of};
 use beep_wires::{NullSink, Wires};
 use prof_raw::Entries;
@@ -53,10 +55,16 @@ pub fn send_end<W: Wires>(
     ensures sent { result ≡ EndedValue.Released → WhereKnown
         (SendsAll (sender_plan settings.now lines.now)) (W.state wires.new link).log }
 
-    // What was sent on each channel above zero is the beginning of what is to be said there, and
-    // what was asked on channel zero is the first of what a sender asks.
-    ensures scripted { WhereKnown (KeepsScriptOn (sender_plan settings.now lines.now))
+    // What was sent in each life, channel zero among them, is the beginning of its script.
+    ensures scripted { WhereKnown (KeepsWholeOn (sender_plan settings.now lines.now))
         (W.state wires.new link).log }
+
+    // Where its lines are short, nothing of its script was due wherever it read. So it kept its
+    // whole part: the definition of one end.
+    ensures prompt { AreShort lines.now → WhereKnown
+        (IsPromptOn (sender_plan settings.now lines.now)) (W.state wires.new link).log }
+    ensures each { AreShort lines.now → WhereKnown
+        (EachEndOn (sender_plan settings.now lines.now) result) (W.state wires.new link).log }
 
     // What stays, and how much and how often is read.
     ensures bounded { IsBounded (reads_of settings.now) (W.state wires.new link).log }
@@ -104,5 +112,6 @@ fn begin<'l>(
     let offers = Offers::new(alloc);
     let session = Session::new(alloc, Role::Initiator, offers, limits_of(settings))?;
     what_a_sender_asks_is_read();
+    what_a_sender_greets_with_is_read();
     Sender::new(alloc, session, &settings.raw_uri, lines)
 }

@@ -1,7 +1,6 @@
 -- What a receiver counts in one life: the octets that arrived, those of them that were taken, and
--- the greatest edge
--- that it advertised (RFC 3081, section 3.1). A history of items gives these counts (beep_history,
--- Windows).
+-- the greatest edge that it advertised (RFC 3081, section 3.1). A history of items gives these
+-- counts (beep_history, Windows).
 -- The code keeps the next sequence number and the octets that still fit and that wait, never a
 -- count from the beginning.
 use Rattle.std.specs.Prelude.{◌≡◌, ℕ, ◌+◌, ◌-◌, ◌*◌, ◌≤◌, nat_le, Option, Some, None, if◌then◌else◌}
@@ -9,8 +8,7 @@ use Rattle.beep_seq.specs.declared.limits.TheConstants.{INITIAL_WINDOW, MIN_WIND
 use Rattle.beep_seq.specs.Wire.{wire_number}
 use Rattle.beep_seq.specs.Due.{is_seq_due}
 
--- the octets that arrived, those that were taken, and the greatest count that the peer was told it
--- may reach
+-- the octets that arrived, those that were taken, and the greatest edge that was advertised
 pub record Arrivals : Type 0 where
   pub received : ℕ
   pub taken : ℕ

@@ -3,7 +3,8 @@
 -- (RFC 3081, section 3.1). A history of items gives these counts (beep_history, Windows).
 -- The code keeps the last ackno as a number on the wire and the octets sent since, never a count
 -- from the beginning.
-use Rattle.std.specs.Prelude.{◌≡◌, ℕ, ◌+◌, ◌^◌, ◌<◌}
+use Rattle.std.specs.Prelude.{◌≡◌, ℕ, ◌+◌, ◌<◌}
+use Rattle.beep_octets.specs.Numbers.{numbers_32}
 use Rattle.beep_seq.specs.declared.limits.TheConstants.{INITIAL_WINDOW}
 use Rattle.beep_seq.specs.Wire.{wire_number, count_from}
 use Rattle.beep_seq.specs.Due.{open_octets}
@@ -40,4 +41,4 @@ pub record IsSender (window : Sender) (counts : Departures) : Type 0 where
   pub number : window.last_ackno ≡ wire_number counts.acknowledged
   pub waiting : counts.acknowledged + window.unacked ≡ counts.sent
   pub room : window.room ≡ open_after counts
-  pub unique : counts.sent < counts.acknowledged + 2 ^ 32
+  pub unique : counts.sent < counts.acknowledged + numbers_32

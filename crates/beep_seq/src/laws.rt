@@ -1,19 +1,20 @@
 //! What the definitions mean, as facts that hold of every history.
-ghost use Rattle.std.specs.Prelude.{ℕ, ◌^◌, ◌<◌, ◌≤◌, ◌↔◌, IsTrue};
+ghost use Rattle.std.specs.Prelude.{ℕ, ◌<◌, ◌≤◌, ◌↔◌, IsTrue};
+ghost use Rattle.beep_octets.specs.Numbers.{numbers_32};
 ghost use Rattle.beep_seq.specs.Wire.{count_from, IsFirstFrom};
 ghost use Rattle.beep_seq.specs.Due.{breaks_bad_ack, HasCountBetween};
 ghost use Rattle.beep_seq.specs.Receiving.{Receiver, Arrivals, full_edge, IsReceiver};
 
 /// A number on the wire stands for the first count that has it.
 pub fn count_from_is_the_first()
-    ensures { (start number : ℕ) → number < 2 ^ 32
+    ensures { (start number : ℕ) → number < numbers_32
         → IsFirstFrom start number (count_from start number) }
 {}
 
 /// An ackno is bad exactly where it is the number of no count from the last ackno to the sent
 /// octets.
 pub fn bad_ack_is_no_count_between()
-    ensures { (acknowledged sent ackno : ℕ) → ackno < 2 ^ 32
+    ensures { (acknowledged sent ackno : ℕ) → ackno < numbers_32
         → IsTrue (breaks_bad_ack acknowledged sent ackno)
         ↔ (¬ HasCountBetween acknowledged sent ackno) }
 {}

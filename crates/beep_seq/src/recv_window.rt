@@ -7,7 +7,7 @@ use crate::limits::{INITIAL_WINDOW, MAX_WINDOW, MIN_WINDOW};
 use crate::seq_no::SeqNo;
 use std::marker::Model;
 
-/// How much the peer may send in one life of a channel, and when it is to be told.
+/// How much the peer may send in one life of a channel, and when a SEQ is to advertise more.
 #[derive(Debug, Drop)]
 pub struct RecvWindow {
     size: u32,

@@ -20,14 +20,15 @@ pub struct SendWindow {
 }
 
 impl Model for SendWindow {
-    ghost use Rattle.std.specs.Prelude.{◌+◌, ◌<◌, ◌^◌};
+    ghost use Rattle.std.specs.Prelude.{◌+◌, ◌<◌};
+    ghost use Rattle.beep_octets.specs.Numbers.{numbers_32};
     ghost use Rattle.beep_seq.specs.Sending.{Sender};
 
     ghost Value = { Sender };
 
     ghost view = { λ w. record { last_ackno = w.last_ackno; unacked = w.unacked; room = w.room } };
 
-    ghost invariant = { λ w. w.unacked + w.room < 2 ^ 32 };
+    ghost invariant = { λ w. w.unacked + w.room < numbers_32 };
 }
 
 impl SendWindow {

@@ -2,8 +2,9 @@
 -- each life began with that profile, and each frame above channel zero is of such a life (RFC 3080,
 -- section 2.3.1.2; RFC 3195, section 3).
 -- The code keeps no journal, and looks back over none.
-use Rattle.std.specs.Prelude.{◌≡◌, ℕ, ◌+◌, ◌<◌, ◌≤◌, ◌^◌, ◌==◌, Bool, true, false, not, if◌then◌else◌, List, [], ◌∷◌, Option, None, Some, is_some, bytes_eq}
+use Rattle.std.specs.Prelude.{◌≡◌, ℕ, ◌+◌, ◌<◌, ◌≤◌, ◌==◌, Bool, true, false, not, if◌then◌else◌, List, [], ◌∷◌, Option, None, Some, is_some, bytes_eq}
 use Rattle.std.specs.List.{list_any}
+use Rattle.beep_octets.specs.Numbers.{numbers_64}
 use Rattle.beep_history.specs.declared.journal.Side.{Side}
 use Rattle.beep_history.specs.Journal.{Item, began, passed, told, same_side}
 use Rattle.beep_history.specs.Marks.{position_of}
@@ -53,7 +54,7 @@ ServedAt plan (began by head) journal = Unit {0}
 ServedAt plan (passed Side.Received head payload) journal = (head.channel == 0) ≡ false
     → is_there head.channel journal ≡ true
     → (has_profile plan.raw_uri head.channel (life_now head.channel journal) journal ≡ true)
-    × (position_of Side.Received (history head.channel journal) head < 2 ^ 64)
+    × (position_of Side.Received (history head.channel journal) head < numbers_64)
 ServedAt plan (passed Side.Sent head payload) journal = Unit {0}
 ServedAt plan (told by seq) journal = Unit {0}
 

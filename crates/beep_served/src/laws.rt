@@ -1,6 +1,7 @@
 //! What holds of an end that serves one profile, as facts: each function does nothing, and its
 //! contract is the fact.
-ghost use Rattle.std.specs.Prelude.{◌≡◌, ◌+◌, ◌<◌, ◌≤◌, ◌^◌, ◌==◌, ℕ, List, ◌++◌, false};
+ghost use Rattle.std.specs.Prelude.{◌≡◌, ◌+◌, ◌<◌, ◌≤◌, ◌==◌, ℕ, List, ◌++◌, false};
+ghost use Rattle.beep_octets.specs.Numbers.{numbers_32};
 ghost use Rattle.beep_frame.specs.declared.head.Head.{Head};
 ghost use Rattle.beep_history.specs.declared.journal.Side.{Side};
 ghost use Rattle.beep_history.specs.declared.limits.TheConstants.{MAX_REQUESTS};
@@ -48,6 +49,6 @@ pub fn an_end_serves_on_whatever_comes()
 pub fn what_comes_is_served()
     ensures { (plan : PlainPlan) (terms : Terms) (log : List Moment) (past : Past)
         → IsLawfulLog terms none_tunes log → Shows none_tunes log past
-        → IsServing plan.raw_uri past.journal → octets_got log < 2 ^ 32
+        → IsServing plan.raw_uri past.journal → octets_got log < numbers_32
         → IsServed plan past.journal }
 {}

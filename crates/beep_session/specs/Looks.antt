@@ -1,4 +1,4 @@
--- What a session tells of itself.
+-- What a session answers of itself.
 use Rattle.std.specs.Prelude.{◌≡◌, ℕ, ◌==◌, false, List, [], Some}
 use Rattle.beep_channel.specs.Held.{Live}
 use Rattle.beep_lives.specs.Lives.{live_at}

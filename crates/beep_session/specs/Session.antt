@@ -5,7 +5,7 @@ use Rattle.beep_journal.specs.declared.role.Role.{Role}
 use Rattle.beep_seq.specs.declared.limits.TheConstants.{MIN_WINDOW, MAX_WINDOW}
 use Rattle.beep_decide.specs.Decide.{PlainOffer}
 use Rattle.beep_session.specs.declared.limits.Limits.{Limits}
-use Rattle.beep_session.specs.declared.limits.TheConstants.{MAX_PIECE}
+use Rattle.beep_settings.specs.declared.limits.TheConstants.{MAX_PIECE}
 use Rattle.beep_answering.specs.declared.offers.TheConstants.{MAX_OFFERS}
 use Rattle.beep_peer.specs.declared.peer.Peer.{Peer}
 use Rattle.beep_answering.specs.Decided.{NoneTunes}

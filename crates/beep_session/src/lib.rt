@@ -10,9 +10,11 @@ mod listing;
 mod session;
 
 pub use beep_answering::{MAX_OFFERS, Offers, Settled};
+pub use beep_chars::MAX_URI;
 pub use beep_peer::{CloseError, ReleaseError, SettleError, StartError};
+pub use beep_settings::MAX_PIECE;
 pub use event::Event;
 pub use handles::{Answering, ClosingChannel, Duty, OpenChannel, Owed};
-pub use limits::{GREATEST_SIZE, Limits, MAX_PIECE};
-pub use listing::{MAX_URI, is_uri, one_profile};
+pub use limits::{GREATEST_SIZE, Limits};
+pub use listing::{is_uri, one_profile};
 pub use session::Session;

@@ -1,8 +1,5 @@
 //! What an end sets for itself.
 
-/// The most octets of payload in one frame that is sent.
-pub const MAX_PIECE: u32 = 4096;
-
 /// The greatest size in octets that a refusal names: a message that has more is said to have so
 /// many.
 pub const GREATEST_SIZE: u32 = u32::MAX;

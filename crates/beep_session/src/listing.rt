@@ -4,13 +4,10 @@ ghost use Rattle.beep_mgmt.specs.Form.{plain_profile, start as start_form};
 ghost use Rattle.beep_mgmt.specs.Written.{is_writable, comes_back};
 ghost use Rattle.beep_answering.specs.Sent.{is_uri as is_uri_text, plain_listed};
 
-use beep_chars::Text;
+use beep_chars::{MAX_URI, Text};
 use beep_mgmt::{Encoding, Profile, Profiles};
 use beep_octets::{NoMemory, Octets};
 use std::alloc::Global;
-
-/// The most characters of a URI that is offered.
-pub const MAX_URI: usize = 255;
 
 /// Whether a URI may be offered: it has 1 to `MAX_URI` characters, all of them allowed.
 pub fn is_uri(uri: &Text) -> bool

@@ -5,7 +5,7 @@ ghost use Rattle.beep_frame.specs.declared.rule.Rule.{Rule as RuleValue};
 ghost use Rattle.beep_frame.specs.declared.head.Head.{Head as HeadValue};
 ghost use Rattle.beep_frame.specs.declared.seq.Seq.{Seq as SeqValue};
 ghost use Rattle.beep_frame.specs.declared.spelling.TheConstants.{SPELL_ROOM};
-ghost use Rattle.beep_session.specs.declared.limits.TheConstants.{MAX_PIECE};
+ghost use Rattle.beep_settings.specs.declared.limits.TheConstants.{MAX_PIECE};
 ghost use Rattle.beep_frame.specs.Modulo.{modulo_2_64};
 ghost use Rattle.beep_frame.specs.Frame.{is_msg};
 ghost use Rattle.beep_history.specs.declared.journal.Side.{Side};

@@ -2,6 +2,8 @@
 //! and what holds where none is set.
 #![tactic(auto)]
 
+mod limits;
 mod settings;
 
+pub use limits::MAX_PIECE;
 pub use settings::{HOST, IDLE, OCTETS, PIECE, PORT, RAW_URI, SESSIONS, Settings, WINDOW};

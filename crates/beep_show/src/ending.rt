@@ -13,9 +13,9 @@ pub(crate) enum Ending {
     Ended(u64),
     /// As many octets came as are read at most.
     Spent(u32),
-    /// A read failed.
+    /// A read failed, so that more octets may follow than were read.
     ReadFault,
-    /// A write failed.
+    /// A write failed, so that there is no last line.
     WriteFault,
     /// An element found no memory.
     NoMemory,

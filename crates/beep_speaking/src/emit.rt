@@ -15,9 +15,9 @@ use beep_octets::Octets;
 pub enum Emit {
     /// A frame with this header.
     Data(Head),
-    /// A SEQ.
+    /// This SEQ, which advertises a window.
     Seq(Seq),
-    /// Nothing is due.
+    /// `out` has what it had: no frame can go, and no SEQ may.
     Nothing,
 }
 

@@ -54,7 +54,7 @@ among-runs (r ∷ rs) =
     let ends = among-end r.ended r.tag in
     omega (arith, rest, mine, all, octets, ends)
 
--- the marks as calls tell them have as many octets
+-- the marks modulo 2^64 have as many octets
 among-drop : (n : ℕ) (ms : List Mark) → octets_among (drop n (map mark_modulo_2_64 ms)) ≡ octets_among (drop n ms)
 among-drop n [] = same n
   where

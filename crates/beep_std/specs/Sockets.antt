@@ -30,7 +30,7 @@ no_sockets = record { links = []; accepts = 0; dials = 0; quiets = 0 }
 
 -- ---- what links in general show of them
 
--- no octet is told
+-- the log of a link isn't known
 abbrev pub unknown : Option (List Entry)
 unknown = None
 

@@ -21,7 +21,7 @@ use Rattle.beep_session.specs.Session.{Held}
 use Rattle.beep_talk.specs.Plan.{PlainPlan}
 use Rattle.beep_script.specs.Desk.{desk}
 use Rattle.beep_desk.specs.Desks.{IsDeskOf}
-use Rattle.beep_desk.specs.Listed.{spoken_of}
+use Rattle.beep_desk.specs.Listed.{AskInTurn, spoken_of}
 use Rattle.beep_steps.specs.Desking.{AllTold, DesksOn, IsPlanOf, Meets}
 use Rattle.beep_steps.specs.Logs.{StandsOn}
 use Rattle.beep_steps.proofs.DeskMet.{meets-none}
@@ -73,6 +73,7 @@ module _ (plan : PlainPlan) (session : Held) (size : ℕ) (greeting : List ℕ) 
     on = on;
     meets = subst Meets (sym empty) meets-none;
     listed = subst (AllTold plan) (sym empty) (told-none plan);
+    placed = subst (AskInTurn plan) (sym empty) tt;
     desk = subst (λ (j : List Item). IsDeskOf plan j (on.given 0) session.peer.management.answers) (sym empty) begun;
     stuck = subst (λ (answers : List Prepared). IfSome (first_of answers) (λ first. HasCome first.waits session.peer.lives session.peer.management → ⊥)) (sym none) tt;
   }

@@ -1,4 +1,4 @@
--- What each call of a session leaves of a listener that keeps its script on channel zero.
+-- What each call of a session leaves of an end that keeps its script on channel zero.
 use Rattle.std.proofs.Common.{◌≡◌, ◌∙◌, refl, sym, ap, subst, ℕ, ◌==◌, Bool, true, false, not, ◌&&◌, ◌||◌, List, [], ◌∷◌, ◌++◌, Option, None, Some}
 use Rattle.std.specs.Prelude.{is_some}
 use Rattle.std.specs.List.{list_any}
@@ -40,18 +40,20 @@ use Rattle.beep_session.specs.Lawfully.{terms_of, GainsLawfully, KeepsUpright, W
 use Rattle.beep_session.specs.Session.{Held}
 use Rattle.beep_logged.proofs.EndLemmas.{put-append}
 use Rattle.beep_logged.proofs.WriteLemmas.{frame-written, lawful-frame, seq-written}
-use Rattle.beep_talk.specs.declared.plan.Command.{Command}
 use Rattle.beep_talk.specs.Plan.{PlainPlan}
+use Rattle.beep_script.specs.Desk.{asks, grants_own}
 use Rattle.beep_desk.specs.Desks.{AreDoneFor, IsCalledFor, IsDeskOf, IsDeskWithin, StandsIn, is_part}
 use Rattle.beep_desk.specs.Waiting.{SaysAll}
-use Rattle.beep_desk.proofs.OpenLemmas.{open-none, open-request}
-use Rattle.beep_desk.proofs.TagLemmas.{sent-within}
-use Rattle.beep_desk.proofs.StepLemmas.{end-step, go-step, quiet-step}
-use Rattle.beep_steps.specs.Desking.{DesksOn, DesksWaiting, DesksWithin, IsPlanOf, Meets}
+use Rattle.beep_desk.specs.Listed.{AskInTurn}
+use Rattle.beep_desk.proofs.OnceLemmas.{granting}
+use Rattle.beep_desk.proofs.OpenLemmas.{open-none, opens-request}
+use Rattle.beep_desk.proofs.TagLemmas.{begins-within}
+use Rattle.beep_desk.proofs.StepLemmas.{ends-step, goes-step, part-step, parts-placed, quiet-placed}
+use Rattle.beep_steps.specs.Desking.{DesksOn, DesksWaiting, DesksWithin, GrantsFirst, IsPlanOf, Meets}
 use Rattle.beep_steps.specs.Logs.{AreTaken, StandsOn, WaitsOn}
 use Rattle.beep_steps.specs.Steps.{CameFrame, CameMore}
 use Rattle.beep_steps.proofs.CallLemmas.{gained-on, on-so, settles-on, waits-on}
-use Rattle.beep_steps.proofs.DeskMet.{meets-begun, meets-join, meets-sent, meets-settled, meets-told, request-met}
+use Rattle.beep_steps.proofs.DeskMet.{greets-first, meets-begun, meets-join, meets-sent, meets-settled, meets-told, request-met}
 use Rattle.beep_steps.proofs.DeskTold.{told-began, told-came, told-join, told-seq}
 
 -- ---- items that end no message
@@ -74,13 +76,20 @@ part-of (passed by head payload) quiet below = of (head.channel == 0) head.more 
     of true false e f = absurd cc
     of false m e f = absurd cc
 
-pub parts-on : (plan : PlainPlan) (gained journal : List Item) (given : List Mark) (answers : List Prepared) → plan.command ≡ Command.Listen → list_any ends_zero gained ≡ false
+pub parts-on : (plan : PlainPlan) (gained journal : List Item) (given : List Mark) (answers : List Prepared) → list_any ends_zero gained ≡ false
     → list_any is_above gained ≡ false → IsDeskOf plan journal given answers → IsDeskOf plan (gained ++ journal) given answers
-parts-on plan [] journal given answers listens quiet below d = d
-parts-on plan (item ∷ gained) journal given answers listens quiet below d =
-    quiet-step plan item (gained ++ journal) given answers listens
+parts-on plan [] journal given answers quiet below d = d
+parts-on plan (item ∷ gained) journal given answers quiet below d =
+    part-step plan item (gained ++ journal) given answers
     (part-of item (or-left (ends_zero item) (list_any ends_zero gained) quiet) (or-left (is_above item) (list_any is_above gained) below))
-    (parts-on plan gained journal given answers listens (or-right (ends_zero item) (list_any ends_zero gained) quiet) (or-right (is_above item) (list_any is_above gained) below) d)
+    (parts-on plan gained journal given answers (or-right (ends_zero item) (list_any ends_zero gained) quiet) (or-right (is_above item) (list_any is_above gained) below) d)
+
+pub asks-on : (plan : PlainPlan) (gained journal : List Item) → list_any ends_zero gained ≡ false → list_any is_above gained ≡ false → AskInTurn plan journal → AskInTurn plan (gained ++ journal)
+asks-on plan [] journal quiet below placed = placed
+asks-on plan (item ∷ gained) journal quiet below placed =
+    parts-placed plan item (gained ++ journal)
+    (part-of item (or-left (ends_zero item) (list_any ends_zero gained) quiet) (or-left (is_above item) (list_any is_above gained) below))
+    (asks-on plan gained journal (or-right (ends_zero item) (list_any ends_zero gained) quiet) (or-right (is_above item) (list_any is_above gained) below) placed)
 
 -- ---- what a session stands for
 
@@ -96,7 +105,7 @@ stands-in : (size : ℕ) (journal : List Item) (given taken : Marks) (peer : Pee
     → StandsIn size journal given taken peer
 stands-in size journal given taken peer live manages = record { keeps = keeps-of size journal given taken peer.lives live; live = live; manages = manages }
 
-holds-in : (size : ℕ) (journal : List Item) (given taken : Marks) (peer : Peer) → Holds size journal given taken peer.lives peer.management → StandsIn size journal given taken peer
+pub holds-in : (size : ℕ) (journal : List Item) (given taken : Marks) (peer : Peer) → Holds size journal given taken peer.lives peer.management → StandsIn size journal given taken peer
 holds-in size journal given taken peer h = stands-in size journal given taken peer h.live h.manages
 
 -- a log shows one journal
@@ -108,11 +117,20 @@ one-journal session log a b =
 
 pub plan-on : (plan : PlainPlan) (old new : Held) → IsOfPeer old new → IsPlanOf plan old → IsPlanOf plan new
 plan-on plan old new same p = record {
-  listens = p.listens;
   role = p.role ∙ sym (ap (λ (s : Held). s.role) same);
   offers = p.offers ∙ sym (ap (λ (s : Held). s.offers) same);
   none = p.none;
 }
+
+-- a frame above zero grants nothing
+above-grants : (head : Head) (payload : List ℕ) (journal : List Item) → (head.channel == 0) ≡ false → GrantsFirst (passed Side.Received head payload) journal
+above-grants head payload journal above = record {
+  going = λ position e. absurd (none position e);
+  first = λ e. absurd (none 0 e);
+}
+  where
+    none : (position : ℕ) → grants_own position (passed Side.Received head payload) journal ≡ true → ⊥
+    none position e = absurd (let h : true ≡ false = sym (granting position head payload journal e).zero ∙ above in cc)
 
 -- ---- what comes
 
@@ -136,8 +154,9 @@ module _ (plan : PlainPlan) (octets : List ℕ) (old new : Held) (log : List Mom
         on = gained-on octets old new log same d.on going g;
         meets = gained-meets g;
         listed = told-join plan g.gained d.on.journal g.gains.join d.listed;
+        placed = subst (AskInTurn plan) is (asks-on plan c.gained d.on.journal c.came.quiet c.came.none_above d.placed);
         desk = subst (λ (j : List Item). IsDeskOf plan j (d.on.given 0) new.peer.management.answers) is
-            (parts-on plan c.gained d.on.journal (d.on.given 0) new.peer.management.answers d.plan_is.listens c.came.quiet c.came.none_above desk-kept);
+            (parts-on plan c.gained d.on.journal (d.on.given 0) new.peer.management.answers c.came.quiet c.came.none_above desk-kept);
         stuck = stuck d.stuck;
       }
 
@@ -153,9 +172,11 @@ module _ (plan : PlainPlan) (octets : List ℕ) (old new : Held) (log : List Mom
         item = passed Side.Received c.head c.payload;
         before = c.before;
         journal_is = one-journal new (got_all octets log) on c.on ∙ c.journal_is;
+        grants = above-grants c.head c.payload c.before c.above;
+        placed = subst (AskInTurn plan) (sym c.came.journal_is) (asks-on plan c.gained d.on.journal c.came.quiet c.came.none_above d.placed);
         desk = open-none plan (passed Side.Received c.head c.payload) c.before (d.on.given 0) new.peer.management.answers (asks-none (c.head.channel == 0) c.above)
             (subst (λ (j : List Item). IsDeskOf plan j (d.on.given 0) new.peer.management.answers) (sym c.came.journal_is)
-            (parts-on plan c.gained d.on.journal (d.on.given 0) new.peer.management.answers d.plan_is.listens c.came.quiet c.came.none_above desk-kept));
+            (parts-on plan c.gained d.on.journal (d.on.given 0) new.peer.management.answers c.came.quiet c.came.none_above desk-kept));
         stuck = stuck d.stuck;
       }
     where
@@ -171,24 +192,27 @@ module _ (plan : PlainPlan) (octets : List ℕ) (old new : Held) (log : List Mom
     meets = meets-join g.zero.gained d.on.journal g.zero.join
         (keeps-of old.limits.window (g.zero.gained ++ d.on.journal) d.on.given g.zero.taken_now new.peer.lives g.zero.waits.waits.live) d.meets;
     listed = told-join plan g.zero.gained d.on.journal g.zero.join d.listed;
-    desk = parts-on plan g.zero.gained d.on.journal (d.on.given 0) new.peer.management.answers d.plan_is.listens g.zero.quiet g.zero.none_above desk-kept;
+    placed = asks-on plan g.zero.gained d.on.journal g.zero.quiet g.zero.none_above d.placed;
+    desk = parts-on plan g.zero.gained d.on.journal (d.on.given 0) new.peer.management.answers g.zero.quiet g.zero.none_above desk-kept;
   }
 
 -- ---- all that came is taken, and all is said
 
-pub ends-desk : (plan : PlainPlan) (session : Held) (log : List Moment) (d : DesksWithin plan session log) → AreTaken session → SaysAll plan d.on.journal d.on.given
-    → DesksOn plan session log
-ends-desk plan session log d taken says = record {
+-- where nothing is asked
+pub ends-desk : (plan : PlainPlan) (session : Held) (log : List Moment) (d : DesksWithin plan session log) → asks plan.command plan d.item d.before ≡ [] → AreTaken session
+    → SaysAll plan d.on.journal d.on.given → DesksOn plan session log
+ends-desk plan session log d quiet taken says = record {
   plan_is = d.plan_is;
   on = d.on;
   meets = d.meets;
   listed = d.listed;
+  placed = subst (AskInTurn plan) (sym d.journal_is) (quiet-placed plan d.item d.before quiet d.placed);
   desk = subst (λ (j : List Item). IsDeskOf plan j (d.on.given 0) session.peer.management.answers) (sym d.journal_is)
-      (end-step plan d.plan_is.listens session.limits.window d.item d.before d.plan_is.none (terms_of session) d.on.given d.on.taken session.peer d.desk
+      (ends-step plan session.limits.window d.item d.before d.placed d.on.given d.on.taken session.peer d.desk
       (subst (λ (j : List Item). StandsIn session.limits.window j d.on.given d.on.taken session.peer) d.journal_is
       (holds-in session.limits.window d.on.journal d.on.given d.on.taken session.peer d.on.stands.stands.holds))
-      (subst (λ (j : List Item). IsUpright (terms_of session) j session.peer.lives session.peer.management) d.journal_is d.on.stands.upright)
-      taken (subst (λ (j : List Item). SaysAll plan j d.on.given) d.journal_is says) d.stuck);
+      taken (subst (λ (j : List Item). SaysAll plan j d.on.given) d.journal_is says) d.stuck quiet d.plan_is.none (terms_of session)
+      (subst (λ (j : List Item). IsUpright (terms_of session) j session.peer.lives session.peer.management) d.journal_is d.on.stands.upright));
   stuck = d.stuck;
 }
 
@@ -211,7 +235,9 @@ takes-desk plan number part octets old new g upright stuck log d done =
       item = d.item;
       before = d.before;
       journal_is = d.journal_is;
-      desk = go-step plan d.plan_is.listens old.limits.window d.item d.before on.given m.given_now later old.peer.management.answers new.peer d.desk m.gives
+      grants = d.grants;
+      placed = d.placed;
+      desk = goes-step plan old.limits.window d.item d.before d.placed on.given m.given_now later old.peer.management.answers new.peer d.desk m.gives
           (subst (λ (j : List Item). StandsIn old.limits.window j m.given_now later new.peer) d.journal_is
           (holds-in old.limits.window on.journal m.given_now later new.peer m.stands.holds))
           (subst (λ (j : List Item). AreDoneFor plan j m.given_now old.peer.management.answers) d.journal_is done);
@@ -243,7 +269,12 @@ module _ (plan : PlainPlan) (old new : Held) (same : IsOfPeer old new) (log : Li
     item = item;
     before = o.journal;
     journal_is = refl;
-    desk = go-step plan d.plan_is.listens old.limits.window item o.journal o.given m.given_now m.taken_now m.answers new.peer w m.gives
+    grants = record {
+      going = λ position e. sym o.waits.released ∙ or-left old.peer.released (is_some old.peer.ear.broken) o.going;
+      first = λ e. greets-first item o.journal (keeps-of old.limits.window next m.given_now m.taken_now new.peer.lives m.stands.holds.live) d.meets e;
+    };
+    placed = d.placed;
+    desk = goes-step plan old.limits.window item o.journal d.placed o.given m.given_now m.taken_now m.answers new.peer w m.gives
         (holds-in old.limits.window next m.given_now m.taken_now new.peer m.stands.holds) done;
     stuck = stuck;
   }
@@ -273,7 +304,7 @@ module _ (plan : PlainPlan) (old new : Held) (same : IsOfPeer old new) (log : Li
   request-desk settled r upright fits stuck request done =
       went r.settles upright fits stuck
       (subst (IsDeskWithin plan item o.journal (o.given 0)) (sym r.joined)
-      (open-request plan d.plan_is.listens d.plan_is.none old.limits.window o.journal o.given o.taken old.peer
+      (opens-request plan o.journal d.placed d.plan_is.none old.limits.window o.given o.taken old.peer
       (stands-in old.limits.window o.journal o.given o.taken old.peer o.waits.waits.live o.waits.manages) d.desk
       o.head o.payload o.waits.waits.zero_is request o.waits.waits.last
       (request-met o.journal o.head o.waits.waits.begun o.waits.waits.zero_is request d.meets) settled r.answer
@@ -296,11 +327,12 @@ module _ (plan : PlainPlan) (old new : Held) (before after : List ℕ) (log : Li
       let octets = spelling (framed head m.payload) in
       let next = passed Side.Sent head m.payload ∷ began Side.Sent head ∷ s.journal in
       let is_frame = lawful-frame (terms_of old) s.journal head m.payload is m.lawful in
+      let placed : AskInTurn plan (began Side.Sent head ∷ s.journal) = parts-placed plan (began Side.Sent head) s.journal refl d.placed in
       let within : IsDeskWithin plan (passed Side.Sent head m.payload) (began Side.Sent head ∷ s.journal) (m.sent.given_now 0) new.peer.management.answers =
-      go-step plan d.plan_is.listens old.limits.window (passed Side.Sent head m.payload) (began Side.Sent head ∷ s.journal) s.given m.sent.given_now m.sent.taken_now
+      goes-step plan old.limits.window (passed Side.Sent head m.payload) (began Side.Sent head ∷ s.journal) placed s.given m.sent.given_now m.sent.taken_now
       old.peer.management.answers new.peer
       (open-none plan (passed Side.Sent head m.payload) (began Side.Sent head ∷ s.journal) (s.given 0) old.peer.management.answers refl
-      (quiet-step plan (began Side.Sent head) s.journal (s.given 0) old.peer.management.answers d.plan_is.listens refl d.desk))
+      (part-step plan (began Side.Sent head) s.journal (s.given 0) old.peer.management.answers refl d.desk))
       m.sent.gives (holds-in old.limits.window next m.sent.given_now m.sent.taken_now new.peer m.sent.stands.holds) done in
       subst (DesksWithin plan new) (sym (ap (λ (x : List ℕ). put_all x log) m.spelled ∙ put-append before octets log)) (record {
         plan_is = plan-on plan old new same d.plan_is;
@@ -308,7 +340,7 @@ module _ (plan : PlainPlan) (old new : Held) (before after : List ℕ) (log : Li
             (record { stands = m.sent.stands; upright = m.upright; lawful = m.lawful }) (is_frame, (is, s.framed))
             (frame-written (terms_of old) s.rest s.journal (put_all before log) head m.payload s.logged is_frame m.lawful);
         listed = (
-          (λ count. sent-within plan d.plan_is.listens d.plan_is.none old.limits.window (passed Side.Sent head m.payload) (began Side.Sent head ∷ s.journal) m.sent.given_now m.sent.taken_now
+          (λ count. begins-within plan (passed Side.Sent head m.payload) (began Side.Sent head ∷ s.journal) placed d.plan_is.none old.limits.window m.sent.given_now m.sent.taken_now
               new.peer (holds-in old.limits.window next m.sent.given_now m.sent.taken_now new.peer m.sent.stands.holds) within count),
           told-began plan Side.Sent head s.journal d.listed,
         );
@@ -316,6 +348,8 @@ module _ (plan : PlainPlan) (old new : Held) (before after : List ℕ) (log : Li
         item = passed Side.Sent head m.payload;
         before = began Side.Sent head ∷ s.journal;
         journal_is = refl;
+        grants = record { going = λ position e. absurd (let h : false ≡ true = e in cc); first = λ e. absurd (let h : false ≡ true = e in cc) };
+        placed = placed;
         desk = within;
         stuck = stuck;
       })
@@ -333,7 +367,8 @@ module _ (plan : PlainPlan) (old new : Held) (before after : List ℕ) (log : Li
             (seq-written (terms_of old) s.rest s.journal (put_all before log) seq s.logged is m.lawful);
         meets = meets-told Side.Sent seq s.journal d.meets;
         listed = told-seq plan Side.Sent seq s.journal d.listed;
-        desk = quiet-step plan (told Side.Sent seq) s.journal (s.given 0) new.peer.management.answers d.plan_is.listens refl
+        placed = parts-placed plan (told Side.Sent seq) s.journal refl d.placed;
+        desk = part-step plan (told Side.Sent seq) s.journal (s.given 0) new.peer.management.answers refl
             (subst (λ (k : Managed). IsDeskOf plan s.journal (s.given 0) k.answers) (sym kept) d.desk);
         stuck = still d.stuck;
       })

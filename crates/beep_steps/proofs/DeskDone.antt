@@ -22,6 +22,7 @@ use Rattle.beep_logged.proofs.EndLemmas.{put-append}
 use Rattle.beep_logged.proofs.WriteLemmas.{frame-written, lawful-frame}
 use Rattle.beep_script.specs.Desk.{desk}
 use Rattle.beep_desk.proofs.ClearLemmas.{all-done}
+use Rattle.beep_desk.proofs.QuietLemmas.{asks-nothing}
 use Rattle.beep_desk.proofs.OwedLemmas.{owed-true}
 use Rattle.beep_steps.proofs.CallLemmas.{on-so, settles-on}
 use Rattle.beep_steps.proofs.DeskBorn.{gone-done}
@@ -82,7 +83,8 @@ says-on plan notes session log s have on =
 -- the desk is what the script says
 pub closes-desk : (plan : PlainPlan) (notes : Notes) (session : Held) (log : List Moment) (d : DesksWithin plan session log) (s : SpeaksOn plan notes session log) → AreTaken session
     → HaveProfile plan.raw_uri s.on.journal → DesksOn plan session log
-closes-desk plan notes session log d s taken have = ends-desk plan session log d taken (says-on plan notes session log s have d.on)
+closes-desk plan notes session log d s taken have =
+    ends-desk plan session log d (asks-nothing plan d.item d.before s.listens) taken (says-on plan notes session log s have d.on)
 
 -- ---- a message of channel zero that is settled
 
@@ -151,5 +153,5 @@ sent-on plan notes old new before after log d same head is m stuck g have spoken
     born : SpeaksSo plan notes (passed Side.Sent head m.payload ∷ began Side.Sent head ∷ d.on.journal) m.sent.given_now × HaveProfile plan.raw_uri (passed Side.Sent head m.payload ∷ began Side.Sent head ∷ d.on.journal)
         → AreDoneFor plan (passed Side.Sent head m.payload ∷ began Side.Sent head ∷ d.on.journal) m.sent.given_now old.peer.management.answers
     born both =
-        gone-done plan d.plan_is.listens notes old.limits.window head m.payload d.on.journal m.sent.given_now m.sent.taken_now new.peer.lives m.sent.stands.holds.live both.1 both.0 spoken
+        gone-done plan g.listens notes old.limits.window head m.payload d.on.journal m.sent.given_now m.sent.taken_now new.peer.lives m.sent.stands.holds.live both.1 both.0 spoken
         (desk plan d.on.journal).owed old.peer.management.answers (owed-true plan d.on.journal) d.desk.waits

@@ -1,4 +1,4 @@
--- What is given above channel zero leaves what a listener said there, and holds back what was held back.
+-- What is given above channel zero leaves what an end said there, and holds back what was held back.
 use Rattle.std.proofs.Common.{◌≡◌, ◌∙◌, refl, sym, ap, subst, ℕ, ◌==◌, Bool, true, false, if◌then◌else◌, List, [], ◌∷◌, ◌++◌, length, map, Option, None, Some, arith, length-append}
 use Rattle.std.specs.Prelude.{is_some, IfSome}
 use Rattle.beep_frame.specs.declared.kind.Kind.{Kind}
@@ -111,6 +111,7 @@ module _ (plan : PlainPlan) (number : ℕ) (above : (number == 0) ≡ false) (ki
     on = gives_on d.on;
     meets = d.meets;
     listed = d.listed;
+    placed = d.placed;
     desk = subst (λ (m : Managed). IsDeskOf plan d.on.journal (with_marks number (ones d.on) d.on.given 0) m.answers) (sym g.kept)
         (subst (λ (ms : List Mark). IsDeskOf plan d.on.journal ms old.peer.management.answers) (sym (zero-same d.on)) d.desk);
     stuck = gives-stuck d.on d.stuck;
@@ -125,6 +126,8 @@ module _ (plan : PlainPlan) (number : ℕ) (above : (number == 0) ≡ false) (ki
     item = d.item;
     before = d.before;
     journal_is = d.journal_is;
+    grants = d.grants;
+    placed = d.placed;
     desk = subst (λ (m : Managed). IsDeskWithin plan d.item d.before (with_marks number (ones d.on) d.on.given 0) m.answers) (sym g.kept)
         (subst (λ (ms : List Mark). IsDeskWithin plan d.item d.before ms old.peer.management.answers) (sym (zero-same d.on)) d.desk);
     stuck = gives-stuck d.on d.stuck;
@@ -186,6 +189,7 @@ module _ (plan : PlainPlan) (old new : Held) (s : IsStill old new) (upright : Ke
     on = still_on d.on;
     meets = d.meets;
     listed = d.listed;
+    placed = d.placed;
     desk = subst (IsDeskOf plan d.on.journal (d.on.given 0)) (sym p.kept.answers) d.desk;
     stuck = still-stuck d.stuck;
   }
@@ -199,6 +203,8 @@ module _ (plan : PlainPlan) (old new : Held) (s : IsStill old new) (upright : Ke
     item = d.item;
     before = d.before;
     journal_is = d.journal_is;
+    grants = d.grants;
+    placed = d.placed;
     desk = subst (IsDeskWithin plan d.item d.before (d.on.given 0)) (sym p.kept.answers) d.desk;
     stuck = still-stuck d.stuck;
   }

@@ -18,10 +18,15 @@ use Rattle.beep_history.proofs.PassedLemmas.{sound}
 use Rattle.beep_history.proofs.SoundLemmas.{IsDue, Sound}
 use Rattle.beep_journal.specs.Broken.{breaks_no_greeting, breaks_size, broken_head, is_greeting, none_tunes, or_else, session_rules}
 use Rattle.beep_journal.specs.Life.{history}
-use Rattle.beep_journal.specs.Zero.{channel_of, zero_history}
+use Rattle.beep_mgmt.specs.Form.{Form}
+use Rattle.beep_mgmt.specs.Message.{message_said}
+use Rattle.beep_journal.specs.Zero.{asked, channel_of, gathered, zero_history}
 use Rattle.beep_hearing.specs.Hears.{Join}
+use Rattle.beep_script.specs.Desk.{grants_own}
 use Rattle.beep_replies.proofs.CountLemmas.{keeps-where}
 use Rattle.beep_desk.proofs.EventLemmas.{answered-more}
+use Rattle.beep_desk.proofs.OnceLemmas.{grant-answers}
+use Rattle.beep_desk.proofs.SaysLemmas.{says-nothing}
 use Rattle.beep_steps.specs.Desking.{IsGreetingDue, IsGreetingOpen, Meets, is_single}
 
 -- ---- kinds
@@ -163,7 +168,7 @@ meets-told by seq journal (inr (inl a)) = inr (inl (record { none = a.none; unde
 meets-told by seq journal (inr (inr b)) = inr (inr (of (seq.channel == 0)))
   where
     of : (z : Bool) → IsGreetingOpen (if z then told by seq ∷ zero_history journal else zero_history journal)
-    of true = record { before = b.before; last = b.last; more = b.more; single = b.single; under = b.under }
+    of true = record { before = b.before; last = b.last; more = b.more; single = b.single; under = b.under; unasked = b.unasked }
     of false = b
 
 pub meets-begun : (head : Head) (journal : List Item) → Meets journal → Meets (began Side.Sent head ∷ journal)
@@ -172,7 +177,7 @@ meets-begun head journal (inr (inl a)) = inr (inl (record { none = a.none; under
 meets-begun head journal (inr (inr b)) = inr (inr (of (head.channel == 0)))
   where
     of : (z : Bool) → IsGreetingOpen (if z then began Side.Sent head ∷ zero_history journal else zero_history journal)
-    of true = record { before = b.before; last = b.last; more = b.more; single = b.single; under = b.under }
+    of true = record { before = b.before; last = b.last; more = b.more; single = b.single; under = b.under; unasked = b.unasked }
     of false = b
 
 pub meets-sent : (head : Head) (payload : List ℕ) (journal : List Item) → Meets journal → Meets (passed Side.Sent head payload ∷ journal)
@@ -181,7 +186,7 @@ meets-sent head payload journal (inr (inl a)) = inr (inl (record { none = a.none
 meets-sent head payload journal (inr (inr b)) = inr (inr (of (head.channel == 0)))
   where
     of : (z : Bool) → IsGreetingOpen (if z then passed Side.Sent head payload ∷ zero_history journal else zero_history journal)
-    of true = record { before = b.before; last = b.last; more = b.more; single = b.single; under = b.under }
+    of true = record { before = b.before; last = b.last; more = b.more; single = b.single; under = b.under; unasked = b.unasked }
     of false = b
 
 meets-began : (head : Head) (journal : List Item) → broken_head none_tunes Side.Received journal head ≡ None → KeepsExchangeRules (zero_history (began Side.Received head ∷ journal)) → Meets journal
@@ -200,6 +205,7 @@ meets-began head journal e keeps (inr (inr b)) = inr (inr (of (head.channel == 0
       single = b.single;
       under = λ h is. subst (λ (x : Head). is_single x.kind ≡ true) (same-some head h is)
           (goes-on-single (zero_history journal) head b.before (kept Side.Received (zero_history journal) head k.1) b.last b.more b.single (zero-whole journal head e zero));
+      unasked = b.unasked;
     }
     of false zero k = b
 
@@ -235,12 +241,39 @@ ends-first head payload zero keeps single last = of (is_answered Side.Sent 0 zer
         ∙ ap (λ (b : Bool). b || list_any ends_reply (reply Side.Sent 0 zero)) ends
 
 meets-zero : (head : Head) (payload : List ℕ) (journal zero : List Item) → KeepsExchangeRules (passed Side.Received head payload ∷ zero) → is_single head.kind ≡ true
-    → MeetsBy journal (passed Side.Received head payload ∷ zero)
-meets-zero head payload journal zero keeps single = of head.more refl
+    → asked Side.Received zero ≡ None ∷ [] → MeetsBy journal (passed Side.Received head payload ∷ zero)
+meets-zero head payload journal zero keeps single unasked = of head.more refl
   where
+    still : asked Side.Received (passed Side.Received head payload ∷ zero) ≡ None ∷ []
+    still =
+        ap (λ (b : Bool). if b && not head.more then message_said (gathered Side.Received zero ++ payload) ∷ asked Side.Received zero else asked Side.Received zero) (single-apart head.kind single)
+        ∙ unasked
+
     of : (m : Bool) → head.more ≡ m → MeetsBy journal (passed Side.Received head payload ∷ zero)
-    of true more = inr (inr (record { before = head; last = refl; more = more; single = single; under = λ h is. absurd (let x : None ≡ Some h = is in cc) }))
+    of true more =
+        inr (inr (record { before = head; last = refl; more = more; single = single; under = λ h is. absurd (let x : None ≡ Some h = is in cc); unasked = still }))
     of false last = inl (ends-first head payload zero keeps single last)
+
+-- before the first frame of the peer passes it has asked nothing
+due-unasked : (journal : List Item) → previous Side.Received journal ≡ None → asked Side.Received (zero_history journal) ≡ None ∷ []
+due-unasked [] none = ap (λ (f : Option Form). f ∷ []) says-nothing
+due-unasked (began by head ∷ journal) none = of (head.channel == 0) (due-unasked journal none)
+  where
+    of : (b : Bool) → asked Side.Received (zero_history journal) ≡ None ∷ [] → asked Side.Received (if b then began by head ∷ zero_history journal else zero_history journal) ≡ None ∷ []
+    of true e = e
+    of false e = e
+due-unasked (told by seq ∷ journal) none = of (seq.channel == 0) (due-unasked journal none)
+  where
+    of : (b : Bool) → asked Side.Received (zero_history journal) ≡ None ∷ [] → asked Side.Received (if b then told by seq ∷ zero_history journal else zero_history journal) ≡ None ∷ []
+    of true e = e
+    of false e = e
+due-unasked (passed Side.Sent head payload ∷ journal) none = of (head.channel == 0) (due-unasked journal none)
+  where
+    of : (b : Bool) → asked Side.Received (zero_history journal) ≡ None ∷ []
+        → asked Side.Received (if b then passed Side.Sent head payload ∷ zero_history journal else zero_history journal) ≡ None ∷ []
+    of true e = e
+    of false e = e
+due-unasked (passed Side.Received head payload ∷ journal) none = absurd (let h : Some head ≡ None = none in cc)
 
 meets-passed : (head : Head) (payload : List ℕ) (journal : List Item) → under_way Side.Received journal ≡ Some head
     → KeepsExchangeRules (zero_history (passed Side.Received head payload ∷ journal)) → Meets journal → Meets (passed Side.Received head payload ∷ journal)
@@ -249,13 +282,13 @@ meets-passed head payload journal under keeps (inr (inl a)) = of (head.channel =
   where
     of : (z : Bool) → z ≡ true → KeepsExchangeRules (if z then passed Side.Received head payload ∷ zero_history journal else zero_history journal)
         → MeetsBy (passed Side.Received head payload ∷ journal) (if z then passed Side.Received head payload ∷ zero_history journal else zero_history journal)
-    of true e k = meets-zero head payload (passed Side.Received head payload ∷ journal) (zero_history journal) k (greeting-single head (a.under head under))
+    of true e k = meets-zero head payload (passed Side.Received head payload ∷ journal) (zero_history journal) k (greeting-single head (a.under head under)) (due-unasked journal a.none)
     of false e k = absurd cc
 meets-passed head payload journal under keeps (inr (inr b)) = of (head.channel == 0) keeps
   where
     of : (z : Bool) → KeepsExchangeRules (if z then passed Side.Received head payload ∷ zero_history journal else zero_history journal)
         → MeetsBy (passed Side.Received head payload ∷ journal) (if z then passed Side.Received head payload ∷ zero_history journal else zero_history journal)
-    of true k = meets-zero head payload (passed Side.Received head payload ∷ journal) (zero_history journal) k (b.under head k.0)
+    of true k = meets-zero head payload (passed Side.Received head payload ∷ journal) (zero_history journal) k (b.under head k.0) b.unasked
     of false k = inr (inr b)
 
 -- ---- items that come
@@ -283,7 +316,7 @@ meets-settled = meets-passed
 
 -- ---- a request that comes
 
-zero-under : (journal : List Item) (head : Head) → (head.channel == 0) ≡ true → under_way Side.Received journal ≡ Some head → under_way Side.Received (zero_history journal) ≡ Some head
+pub zero-under : (journal : List Item) (head : Head) → (head.channel == 0) ≡ true → under_way Side.Received journal ≡ Some head → under_way Side.Received (zero_history journal) ≡ Some head
 zero-under [] head zero e = absurd (let h : None ≡ Some head = e in cc)
 zero-under (began Side.Received h ∷ journal) head zero e =
     let same : h ≡ head = same-some h head e in
@@ -313,6 +346,13 @@ request-met journal head under zero request (inr (inl a)) =
     absurd (let h : true ≡ false = sym request ∙ single-apart head.kind (greeting-single head (a.under head under)) in cc)
 request-met journal head under zero request (inr (inr b)) =
     absurd (let h : true ≡ false = sym request ∙ single-apart head.kind (b.under head (zero-under journal head zero under)) in cc)
+
+-- as it comes the peer has asked nothing
+pub greets-first : (item : Item) (journal : List Item) → KeepsExchangeRules (zero_history (item ∷ journal)) → Meets journal → grants_own 0 item journal ≡ true
+    → asked Side.Received (zero_history journal) ≡ None ∷ []
+greets-first item journal keeps (inl met) e = absurd (let h : true ≡ false = sym met ∙ (grant-answers 0 item journal keeps e).0 in cc)
+greets-first item journal keeps (inr (inl a)) e = due-unasked journal a.none
+greets-first item journal keeps (inr (inr b)) e = b.unasked
 
 -- nothing has come
 pub meets-none : Meets []

@@ -1,5 +1,6 @@
--- The positions that a listener names on channel zero are below 2^64, so that what it sent there is the beginning of its script as it is.
-use Rattle.std.proofs.Common.{◌≡◌, ◌∙◌, refl, sym, ap, subst, ℕ, ◌+◌, ◌<◌, ◌≤◌, ◌^◌, ◌==◌, Bool, true, false, not, ◌&&◌, if◌then◌else◌, List, [], ◌∷◌, ◌++◌, length, map, filter, flat_map, arith, length-append}
+-- The positions that an end names on channel zero are below 2^64, so that what it sent there is the beginning of its script as it is.
+use Rattle.std.proofs.Common.{◌≡◌, ◌∙◌, refl, sym, ap, subst, ℕ, ◌+◌, ◌<◌, ◌≤◌, ◌^◌, ◌==◌, Bool, true, false, not, ◌&&◌, if◌then◌else◌, List, [], ◌∷◌, ◌++◌, length, map, filter, flat_map, take, None, arith, length-append}
+use Rattle.std.specs.List.{prefix_len}
 use Rattle.beep_frame.specs.declared.head.Head.{Head}
 use Rattle.beep_frame.specs.Frame.{is_msg}
 use Rattle.beep_history.specs.declared.journal.Side.{Side}
@@ -14,12 +15,13 @@ use Rattle.beep_journal.proofs.MomentLemmas.{equal-number}
 use Rattle.beep_lawful.specs.declared.terms.Terms.{Terms}
 use Rattle.beep_lawful.specs.Lawful.{IsLawful, IsLawfulLog}
 use Rattle.beep_lawful.proofs.LawfulLemmas.{lawful-before}
+use Rattle.beep_mgmt.specs.Form.{close, start}
 use Rattle.beep_mgmt.specs.Message.{message_said}
 use Rattle.beep_answering.specs.Decided.{NoneTunes}
 use Rattle.beep_talk.specs.declared.plan.Command.{Command}
-use Rattle.beep_talk.specs.AtZero.{Answer, ZeroMessage}
+use Rattle.beep_talk.specs.AtZero.{Answer, ZeroMessage, answer_message, profile_of}
 use Rattle.beep_talk.specs.Plan.{PlainPlan}
-use Rattle.beep_script.specs.Desk.{desk}
+use Rattle.beep_script.specs.Desk.{asks, asks_where, decided, desk, ends_lines, grants_own, is_clear}
 use Rattle.beep_script.specs.Laws.{replied_positions}
 use Rattle.beep_script.specs.Script.{BeginsWith, KeepsScript, history_at, message_marks, script_marks, whole_message}
 use Rattle.beep_served.specs.Served.{items_got, octets_got, side_of}
@@ -27,7 +29,7 @@ use Rattle.beep_served.proofs.PositionLemmas.{few-zero}
 use Rattle.beep_served.proofs.ShownLemmas.{items-shown}
 use Rattle.beep_replies.specs.Replies.{KeepsAbove}
 use Rattle.beep_desk.specs.Listed.{ArePlacedFrom}
-use Rattle.beep_desk.proofs.TagLemmas.{AllPlain, desk-plain}
+use Rattle.beep_desk.proofs.TheirLemmas.{reply-kind}
 use Rattle.beep_desk.proofs.TurnLemmas.{in-turn}
 use Rattle.beep_steps.specs.Desking.{ShowsToldZero, ToldZero}
 use Rattle.beep_steps.specs.Scripting.{ShowsWhole}
@@ -116,65 +118,102 @@ request_of one = one.tag.request
 abbrev is_reply_of : ZeroMessage → Bool
 is_reply_of one = not (is_msg one.tag.kind)
 
-plain-count : (listed : List ZeroMessage) → AllPlain listed → length (replied_positions listed) ≡ length listed
-plain-count [] a = refl
-plain-count (l ∷ listed) a =
-    ap (λ (b : Bool). length (map request_of (if not b then l ∷ filter is_reply_of listed else filter is_reply_of listed))) a.0.0 ∙ more (plain-count listed a.1)
-  where
-    more : length (replied_positions listed) ≡ length listed → length (l.tag.request ∷ replied_positions listed) ≡ length (l ∷ listed)
-    more e = omega (arith, e)
+-- the own requests have one of the first places
+abbrev FewAsked : List ZeroMessage → Type 0
+FewAsked [] = Unit {0}
+FewAsked (l ∷ listed) = (is_msg l.tag.kind ≡ true → l.tag.request ≤ 3) × FewAsked listed
 
-listed-told : (k : ℕ) (listed : List ZeroMessage) → AllPlain listed → ArePlacedFrom k (replied_positions listed) → k + length listed < 2 ^ 64
+few-append : (xs ys : List ZeroMessage) → FewAsked xs → FewAsked ys → FewAsked (xs ++ ys)
+few-append [] ys a b = b
+few-append (x ∷ xs) ys a b = (a.0, few-append xs ys a.1 b)
+
+few-answers : (answers : List Answer) → FewAsked (map answer_message answers)
+few-answers [] = tt
+few-answers (answer ∷ answers) =
+    ((λ e. absurd (let h : true ≡ false = sym e ∙ reply-kind answer.form in cc)), few-answers answers)
+
+where-few : (uri : List ℕ) (a b c : Bool) → FewAsked (asks_where a 1 (start 1 None (profile_of uri ∷ [])) ++ asks_where b 2 (close 1 200 []) ++ asks_where c 3 (close 0 200 []))
+where-few uri true true true = ((λ e. omega arith), ((λ e. omega arith), ((λ e. omega arith), tt)))
+where-few uri true true false = ((λ e. omega arith), ((λ e. omega arith), tt))
+where-few uri true false true = ((λ e. omega arith), ((λ e. omega arith), tt))
+where-few uri true false false = ((λ e. omega arith), tt)
+where-few uri false true true = ((λ e. omega arith), ((λ e. omega arith), tt))
+where-few uri false true false = ((λ e. omega arith), tt)
+where-few uri false false true = ((λ e. omega arith), tt)
+where-few uri false false false = tt
+
+desk-few : (plan : PlainPlan) (journal : List Item) → FewAsked (desk plan journal).listed
+desk-few plan [] = ((λ e. absurd (let h : false ≡ true = e in cc)), tt)
+desk-few plan (item ∷ journal) =
+    let d = desk plan journal in
+    let queue = d.owed ++ decided plan d item journal in
+    let said = map answer_message (take (prefix_len (is_clear plan d.listed (item ∷ journal)) queue) queue) in
+    few-append (d.listed ++ said) (asks plan.command plan item journal)
+    (few-append d.listed said (desk-few plan journal) (few-answers (take (prefix_len (is_clear plan d.listed (item ∷ journal)) queue) queue)))
+    (of plan.command)
+  where
+    of : (c : Command) → FewAsked (asks c plan item journal)
+    of Command.Send = where-few plan.raw_uri (grants_own 0 item journal) (ends_lines plan item journal) (grants_own 2 item journal)
+    of Command.Listen = tt
+
+listed-told : (k : ℕ) (listed : List ZeroMessage) → FewAsked listed → ArePlacedFrom k (replied_positions listed) → k + length (replied_positions listed) < 2 ^ 64
     → AreTold (flat_map message_marks (map whole_message listed))
 listed-told k [] a p less = refl
-listed-told k (l ∷ listed) a p less =
-    let placed : ArePlacedFrom k (l.tag.request ∷ replied_positions listed) =
-    subst (ArePlacedFrom k) (ap (λ (b : Bool). map request_of (if not b then l ∷ filter is_reply_of listed else filter is_reply_of listed)) a.0.0) p in
-    let at = placed.0 in
-    told-both (message_marks (whole_message l)) (flat_map message_marks (map whole_message listed)) (message-told (whole_message l) (omega (arith, at, less)))
-    (listed-told (k + 1) listed a.1 placed.1 (omega (arith, less)))
+listed-told k (l ∷ listed) a p less = of (is_msg l.tag.kind) refl p less (λ n q more. listed-told n listed a.1 q more)
+  where
+    others : List ZeroMessage
+    others = filter is_reply_of listed
+
+    of : (b : Bool) → is_msg l.tag.kind ≡ b → ArePlacedFrom k (map request_of (if not b then l ∷ others else others)) → k + length (map request_of (if not b then l ∷ others else others)) < 2 ^ 64
+        → ((n : ℕ) → ArePlacedFrom n (replied_positions listed) → n + length (replied_positions listed) < 2 ^ 64 → AreTold (flat_map message_marks (map whole_message listed)))
+        → AreTold (flat_map message_marks (map whole_message (l ∷ listed)))
+    of true msg p less rest =
+        let few = a.0 msg in
+        told-both (message_marks (whole_message l)) (flat_map message_marks (map whole_message listed)) (message-told (whole_message l) (omega (arith, few))) (rest k p less)
+    of false reply p less rest =
+        let at = p.0 in
+        told-both (message_marks (whole_message l)) (flat_map message_marks (map whole_message listed)) (message-told (whole_message l) (omega (arith, at, less)))
+        (rest (k + 1) p.1 (omega (arith, less)))
 
 front-placed : (k : ℕ) (xs ys : List ℕ) → ArePlacedFrom k (xs ++ ys) → ArePlacedFrom k xs
 front-placed k [] ys p = tt
 front-placed k (x ∷ xs) ys p = (p.0, front-placed (k + 1) xs ys p.1)
 
-script-told : (plan : PlainPlan) (count : ℕ) (journal : List Item) → plan.command ≡ Command.Listen → NoneTunes plan.offers → items_got journal < 2 ^ 32 → AreTold (script_marks plan 0 count journal)
-script-told plan count journal listens none few =
+script-told : (plan : PlainPlan) (count : ℕ) (journal : List Item) → NoneTunes plan.offers → items_got journal < 2 ^ 32 → AreTold (script_marks plan 0 count journal)
+script-told plan count journal none few =
     let listed = (desk plan journal).listed in
     let owed = map (λ (answer : Answer). answer.position) (desk plan journal).owed in
     let t = in-turn plan journal none in
-    let plain = desk-plain plan journal listens in
-    let counted = plain-count listed plain in
     let each = t.1 in
     let both = length-append (replied_positions listed) owed in
     let most = asked-most (zero_history journal) in
     let within = zero-items journal in
-    listed-told 0 listed plain (front-placed 0 (replied_positions listed) owed t.0) (omega (arith, counted, each, both, most, within, few))
+    listed-told 0 listed (desk-few plan journal) (front-placed 0 (replied_positions listed) owed t.0) (omega (arith, each, both, most, within, few))
 
 -- ---- the whole
 
-zero-exact : (plan : PlainPlan) (terms : Terms) (count : ℕ) (journal : List Item) → plan.command ≡ Command.Listen → NoneTunes plan.offers → IsLawful terms none_tunes journal
+zero-exact : (plan : PlainPlan) (terms : Terms) (count : ℕ) (journal : List Item) → NoneTunes plan.offers → IsLawful terms none_tunes journal
     → items_got journal < 2 ^ 32 → ToldZero plan journal → BeginsWith (script_marks plan 0 count journal) (marks Side.Sent (zero_history journal))
-zero-exact plan terms count journal listens none lawful few told_zero =
-    subst (λ (ms : List Mark). BeginsWith ms (marks Side.Sent (zero_history journal))) (script-told plan count journal listens none few)
+zero-exact plan terms count journal none lawful few told_zero =
+    subst (λ (ms : List Mark). BeginsWith ms (marks Side.Sent (zero_history journal))) (script-told plan count journal none few)
     (subst (λ (ms : List Mark). BeginsWith (map mark_modulo_2_64 (script_marks plan 0 count journal)) ms) (zero-told terms journal lawful few) (told_zero count))
 
 -- what passed in each life, channel zero among them, is the beginning of its script
-whole-script : (plan : PlainPlan) (terms : Terms) (journal : List Item) → plan.command ≡ Command.Listen → NoneTunes plan.offers → IsLawful terms none_tunes journal → items_got journal < 2 ^ 32
+pub whole-script : (plan : PlainPlan) (terms : Terms) (journal : List Item) → NoneTunes plan.offers → IsLawful terms none_tunes journal → items_got journal < 2 ^ 32
     → KeepsAbove plan journal → ToldZero plan journal → KeepsScript plan journal
-whole-script plan terms journal listens none lawful few above told_zero number count = of (number == 0) refl
+whole-script plan terms journal none lawful few above told_zero number count = of (number == 0) refl
   where
     of : (b : Bool) → (number == 0) ≡ b → BeginsWith (script_marks plan number count journal) (marks Side.Sent (history_at number count journal))
     of true zero =
         subst (λ (n : ℕ). BeginsWith (script_marks plan n count journal) (marks Side.Sent (history_at n count journal))) (sym (equal-number number 0 zero))
-        (zero-exact plan terms count journal listens none lawful few told_zero)
+        (zero-exact plan terms count journal none lawful few told_zero)
     of false apart =
         subst (λ (past : List Item). BeginsWith (script_marks plan number count journal) (marks Side.Sent past)) (sym (ap (λ (b : Bool). if b then zero_history journal else life number count journal) apart))
         (above number count apart)
 
--- so of each session that a lawful log shows
+-- so of each session of a listener that a lawful log shows
 pub shown-whole : (plan : PlainPlan) (terms : Terms) (log : List Moment) → plan.command ≡ Command.Listen → NoneTunes plan.offers → IsLawfulLog terms none_tunes log → octets_got log < 2 ^ 32
     → ShowsTold plan log → ShowsToldZero plan log → ShowsWhole plan log
 shown-whole plan terms log listens none lawful few above zero past shows =
     let most = items-shown none_tunes log past shows in
-    whole-script plan terms past.journal listens none (lawful.items past shows) (omega (arith, few, most)) (shown-above plan terms log listens lawful few above past shows) (zero past shows)
+    whole-script plan terms past.journal none (lawful.items past shows) (omega (arith, few, most)) (shown-above plan terms log listens lawful few above past shows) (zero past shows)

@@ -123,7 +123,7 @@ module _ (plan : PlainPlan) (p : Progress) (old new : Held) (before after : List
       above : (head.channel == 0) ≡ false
       above = ap (λ (n : ℕ). n == 0) number
 
-      there : is_there 1 journal ≡ true
+      pub there : is_there 1 journal ≡ true
       there =
           s.on.stands.stands.holds.live.there 1
           ∙ there-at old.peer.lives turn.place turn.channel 1 turn.first.at (ap (λ (n : ℕ). n == 1) turn.named ∙ one)
@@ -134,7 +134,7 @@ module _ (plan : PlainPlan) (p : Progress) (old new : Held) (before after : List
       there-now : is_there 1 now ≡ true
       there-now = ap (is_live 1) same-events ∙ there
 
-      first-before : life_now 1 journal ≡ 1
+      pub first-before : life_now 1 journal ≡ 1
       first-before = only-life (events journal) there few-before
 
       first-now : life_now 1 now ≡ 1
@@ -152,7 +152,7 @@ module _ (plan : PlainPlan) (p : Progress) (old new : Held) (before after : List
       stands : Stands old.limits.window channel.0.held (history 1 now) (m.sent.given_now 1) (m.sent.taken_now 1)
       stands = m.sent.stands.holds.live.above 1 channel.0 refl channel.1
 
-      keeps : KeepsExchangeRules (passed Side.Sent head m.payload ∷ began Side.Sent head ∷ life 1 1 journal)
+      pub keeps : KeepsExchangeRules (passed Side.Sent head m.payload ∷ began Side.Sent head ∷ life 1 1 journal)
       keeps = subst KeepsExchangeRules history-is stands.held.exchange.unbroken
 
       sent-so : m.sent.given_now 1 ≡ map mark_modulo_2_64 (marks Side.Sent (passed Side.Sent head m.payload ∷ began Side.Sent head ∷ life 1 1 journal)) ++ unsent_marks channel.0.held.queue

@@ -39,6 +39,10 @@ greeting-said uri = refl
 greeting-short : (uri : List ℕ) → is_uri uri ≡ true → length (message_text (greeting_of (one-offer uri))) ≤ MAX_TEXT
 greeting-short uri is = greeting-length (one-offer uri) (omega arith) (both (is_uri uri) true is refl)
 
+-- the element of a greeting that holds none
+abbrev bare : Tree
+bare = element (codes "greeting") [] nothing
+
 module _ (law : (payload : List ℕ) (form : Form) → (message_said payload ≡ Some form) ↔ ((length payload ≤ MAX_TEXT) × Says payload form)) where
   -- where the URI may be offered
   pub greeting-read : (uri : List ℕ) → is_uri uri ≡ true
@@ -46,3 +50,7 @@ module _ (law : (payload : List ℕ) (form : Form) → (message_said payload ≡
   greeting-read uri is =
       reads-back law (greeting_of (one-offer uri)) (greeting-around (plain uri)) (greeting-is uri)
       (record { named = refl; attrs = refl; items = plain-items uri is; nested = omega arith }) (greeting-said uri) (greeting-short uri is)
+
+  -- that of an end that offers nothing
+  pub bare-read : message_said (message_text (greeting_of [])) ≡ Some (greeting_of [])
+  bare-read = reads-back law (greeting_of []) bare refl (record { named = refl; attrs = refl; items = refl; nested = omega arith }) refl (greeting-length [] (omega arith) refl)

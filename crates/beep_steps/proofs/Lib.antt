@@ -45,6 +45,7 @@ pub mod EndScripts
 pub mod DeskCalls
 pub mod DeskGives
 pub mod SpeakDone
+pub mod SendDone
 pub mod DeskDone
 pub mod BornLemmas
 pub mod DeskAsks
@@ -55,3 +56,19 @@ pub mod DeskAnswers
 pub mod DeskBegins
 pub mod DeskTold
 pub mod DeskSmall
+pub mod RestLemmas
+pub mod RestCalls
+pub mod SendRests
+pub mod DeskSends
+pub mod DeskAsking
+pub mod AskedSettles
+pub mod SendEnds
+pub mod SendCloses
+pub mod SendOpens
+pub mod AskedNext
+pub mod EachLemmas
+pub mod SendLives
+pub mod SendStarts
+pub mod SendEnding
+pub mod SendReleases
+pub mod SendSmall

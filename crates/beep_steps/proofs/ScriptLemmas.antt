@@ -97,16 +97,25 @@ pub record Agrees (plan : PlainPlan) (given : List Mark) : Type 0 where
   pub rest : List Mark
   pub same : given ++ rest ≡ map mark_modulo_2_64 (replies_marks plan 0 many)
 
+-- the answers of the lines from a place on, and their end
+abbrev pub lines_left : PlainPlan → ℕ → List Mark
+lines_left plan next =
+    flat_map message_marks (answers_from 0 (0 + length (take next plan.lines)) (drop next plan.lines)) ++ flat_map message_marks (nul 0 ∷ [])
+
+-- with those of the lines before they are the reply to the first request
+pub lines-go : (plan : PlainPlan) (next : ℕ) → plan.command ≡ Command.Send → answers_of (take next plan.lines) ++ lines_left plan next ≡ map mark_modulo_2_64 (replies_marks plan 0 1)
+lines-go plan next send =
+    sym (append_assoc (answers_of (take next plan.lines)) (flat_map message_marks (answers_from 0 (0 + length (take next plan.lines)) (drop next plan.lines))) (flat_map message_marks (nul 0 ∷ [])))
+    ∙ ap (λ (ms : List Mark). ms ++ flat_map message_marks (nul 0 ∷ []))
+    (sym (answers-split 0 (take next plan.lines) (drop next plan.lines)) ∙ ap answers_of (take-append-drop next plan.lines))
+    ∙ sym (answers-given plan send)
+
 pub agrees : (plan : PlainPlan) (next : ℕ) (given : List Mark) → plan.command ≡ Command.Send → RepliesGiven plan next given → Agrees plan given
 agrees plan next given send (whole_given count enough is) = record { many = count + 1; rest = []; same = append-nil given ∙ is }
 agrees plan next given send (part_given is) = record {
   many = 1;
-  rest = flat_map message_marks (answers_from 0 (0 + length (take next plan.lines)) (drop next plan.lines)) ++ flat_map message_marks (nul 0 ∷ []);
-  same = ap (λ (ms : List Mark). ms ++ (flat_map message_marks (answers_from 0 (0 + length (take next plan.lines)) (drop next plan.lines)) ++ flat_map message_marks (nul 0 ∷ []))) is
-      ∙ sym (append_assoc (answers_of (take next plan.lines)) (flat_map message_marks (answers_from 0 (0 + length (take next plan.lines)) (drop next plan.lines))) (flat_map message_marks (nul 0 ∷ [])))
-      ∙ ap (λ (ms : List Mark). ms ++ flat_map message_marks (nul 0 ∷ []))
-      (sym (answers-split 0 (take next plan.lines) (drop next plan.lines)) ∙ ap answers_of (take-append-drop next plan.lines))
-      ∙ sym (answers-given plan send);
+  rest = lines_left plan next;
+  same = ap (λ (ms : List Mark). ms ++ lines_left plan next) is ∙ lines-go plan next send;
 }
 
 -- ---- an item that is no sent frame

@@ -51,7 +51,7 @@ frame-ends true tag head payload one = ends-octets any tag payload (if head.more
     of true = refl
     of false = refl
 
-messages-ends : (past : List Item) → ends_of any (marks Side.Sent past) ≡ length (messages Side.Sent past)
+pub messages-ends : (past : List Item) → ends_of any (marks Side.Sent past) ≡ length (messages Side.Sent past)
 messages-ends [] = refl
 messages-ends (began by head ∷ past) = messages-ends past
 messages-ends (told by seq ∷ past) = messages-ends past
@@ -65,7 +65,7 @@ messages-ends (passed by head payload ∷ past) =
     let whole = length-append (messages Side.Sent past) (if c && not head.more then one ∷ [] else []) in
     omega (arith, split, here, before, whole)
 
-all-ends : (ms : List Message) → ends_of any (flat_map message_marks ms) ≡ length ms
+pub all-ends : (ms : List Message) → ends_of any (flat_map message_marks ms) ≡ length ms
 all-ends [] = refl
 all-ends (m ∷ ms) =
     let split = ends-append any (message_marks m) (flat_map message_marks ms) in
@@ -81,11 +81,11 @@ unsent-none (m ∷ queue) e =
     let one : ends_of any (map (octet m.tag) m.octets ++ end m.tag ∷ []) ≡ 1 = ends-octets any m.tag m.octets (end m.tag ∷ []) in
     absurd (omega (arith, e, split, one))
 
-queued-none : (queue : List Unsent) → queue ≡ [] → queued_replies queue ≡ 0
+pub queued-none : (queue : List Unsent) → queue ≡ [] → queued_replies queue ≡ 0
 queued-none queue e = ap queued_replies e
 
 -- the requests whose end is untaken
-untaken-ends : (runs : List Run) → ends_of is_msg (untaken_marks runs) ≡ ended_of is_msg runs
+pub untaken-ends : (runs : List Run) → ends_of is_msg (untaken_marks runs) ≡ ended_of is_msg runs
 untaken-ends [] = refl
 untaken-ends (r ∷ runs) =
     ends-append is_msg (run_marks r) (untaken_marks runs) ∙ ap (λ (x : ℕ). x + ends_of is_msg (untaken_marks runs)) (ends-part is_msg r.tag r.octets r.ended)
@@ -102,7 +102,7 @@ replies-length plan listens position zero = refl
 replies-length plan listens position (suc count) =
     ap (λ (ms : List Message). length (ms ++ replies plan (position + 1) count)) (one-reply plan listens position) ∙ ap suc (replies-length plan listens (position + 1) count)
 
-no-request : (a b : ℕ) → ((a == 0) && (b == 0)) ≡ true → a ≡ 0
+pub no-request : (a b : ℕ) → ((a == 0) && (b == 0)) ≡ true → a ≡ 0
 no-request a b e = equal-number a 0 (left (a == 0) (b == 0) e)
   where
     left : (x y : Bool) → (x && y) ≡ true → x ≡ true

@@ -224,7 +224,7 @@ answers-modulo answers [] = refl
 answers-modulo answers (octet tag value ∷ ms) = answers-modulo answers ms
 answers-modulo answers (end tag ∷ ms) = answers-modulo (answers_with tag.kind answers) ms
 
-answers-octets : (answers : ℕ) (tag : Tag) (os : List ℕ) (ms : List Mark) → answers_after answers (map (octet tag) os ++ ms) ≡ answers_after answers ms
+pub answers-octets : (answers : ℕ) (tag : Tag) (os : List ℕ) (ms : List Mark) → answers_after answers (map (octet tag) os ++ ms) ≡ answers_after answers ms
 answers-octets answers tag [] ms = refl
 answers-octets answers tag (o ∷ os) ms = answers-octets answers tag os ms
 

@@ -8,5 +8,7 @@ pub mod Serving
 pub mod Steps
 pub mod Scripting
 pub mod Desking
+pub mod Resting
+pub mod EachEnd
 -- What proofs alone need: what a turn of either end keeps.
 pub mod Turning

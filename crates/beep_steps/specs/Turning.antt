@@ -14,12 +14,15 @@ use Rattle.beep_logged.proofs.EndLemmas.{put-append, sound-of, sound-puts}
 use Rattle.beep_logged.proofs.ReadLemmas.{quiet-logged, over-logged}
 use Rattle.beep_logged.specs.Logged.{IsLogged, IsSound}
 use Rattle.beep_wires.specs.Log.{Entry, wrote, quiet, ended}
-use Rattle.beep_link.specs.Causes.{IsOfFaults, IsOfReads}
+use Rattle.beep_link.specs.Causes.{IsOfFaults, IsOfReads, ended_by}
 use Rattle.beep_link.specs.declared.ended.Ended.{Ended}
+use Rattle.beep_link.specs.declared.ended.Stop.{Stop}
 use Rattle.beep_lawful.specs.declared.terms.Terms.{Terms}
 use Rattle.beep_talk.specs.declared.plan.Command.{Command}
 use Rattle.beep_talk.specs.Plan.{PlainPlan}
 use Rattle.beep_steps.specs.Logs.{moments, command_of, StandsOn, Shows, ShowsGoing}
+use Rattle.beep_script.specs.Prompt.{IsIdle}
+use Rattle.beep_steps.specs.Resting.{TellsIdle}
 use Rattle.beep_steps.specs.Refusing.{GoesUnrefused, IsUnrefused, Unrefused}
 use Rattle.beep_steps.specs.Sending.{Progress, SendsOn, TellsSent}
 use Rattle.beep_steps.specs.Serving.{ServesOn}
@@ -264,3 +267,40 @@ module _ (command : Command) (closing : Bool) (log : List Entry) where
       → IsUnrefused command closing (moments (ended ∷ log))
   closes_unrefused u past s =
       subst (λ (p : Past). Unrefused command closing p.journal) (sym s.2) (u s.0 s.1)
+
+-- ---- what was due
+
+-- a fault of the link says nothing of what was due
+pub faults_idle : (plan : PlainPlan) (cause : Ended) (log : List Moment) → IsOfFaults cause
+    → TellsIdle plan cause log
+faults_idle plan Ended.Released log is = absurd is
+faults_idle plan (Ended.Broken rule place) log is = absurd is
+faults_idle plan Ended.WriteFault log is = absurd is
+faults_idle plan Ended.WireFault log is = tt
+faults_idle plan Ended.NoMemory log is = tt
+faults_idle plan (Ended.Refused code) log is = absurd is
+faults_idle plan (Ended.Cut left) log is = absurd is
+faults_idle plan (Ended.Idle count) log is = absurd is
+faults_idle plan (Ended.Spent count) log is = absurd is
+
+-- where nothing is due the settings may stop it
+pub reads_idle : (plan : PlainPlan) (cause : Ended) (log : List Moment) → IsOfReads cause
+    → IsIdle plan log → TellsIdle plan cause log
+reads_idle plan Ended.Released log is idle = absurd is
+reads_idle plan (Ended.Broken rule place) log is idle = absurd is
+reads_idle plan Ended.WriteFault log is idle = absurd is
+reads_idle plan Ended.WireFault log is idle = absurd is
+reads_idle plan Ended.NoMemory log is idle = absurd is
+reads_idle plan (Ended.Refused code) log is idle = absurd is
+reads_idle plan (Ended.Cut left) log is idle = absurd is
+reads_idle plan (Ended.Idle count) log is idle = idle
+reads_idle plan (Ended.Spent count) log is idle = idle
+
+-- no more is said of what was due where the end itself stops
+pub stop_idle : (plan : PlainPlan) (stop : Stop) (log : List Moment)
+    → TellsIdle plan (ended_by stop) log
+stop_idle plan Stop.Released log = tt
+stop_idle plan (Stop.Broken rule place) log = tt
+stop_idle plan Stop.WriteFault log = tt
+stop_idle plan Stop.NoMemory log = tt
+stop_idle plan (Stop.Refused code) log = tt

@@ -1,7 +1,9 @@
 //! What both ends do with a session. What each call wants is looked at beside it.
-ghost use Rattle.std.specs.Prelude.{Bool, ◌≡◌, ◌<◌, ◌≤◌, ◌^◌, ◌==◌, List, length, take, ℕ, false, true, IfOk, IfErr, IfNone, IfSome, OnOk};
+ghost use Rattle.std.specs.Prelude.{Bool, ◌≡◌, ◌<◌, ◌≤◌, ◌==◌, List, length, take, ℕ, false, true, is_some, IfOk, IfErr, IfNone, IfSome, OnOk};
+ghost use Rattle.beep_octets.specs.Numbers.{numbers_32};
 ghost use Rattle.beep_history.specs.Marks.{Mark};
 ghost use Rattle.beep_journal.specs.Log.{Moment, got_all, put_all};
+ghost use Rattle.beep_lives.specs.Lives.{live_at};
 ghost use Rattle.beep_peer.specs.Peering.{zero_waits};
 ghost use Rattle.beep_session.specs.Channels.{IsOpen};
 ghost use Rattle.beep_session.specs.Lawfully.{terms_of};
@@ -12,7 +14,10 @@ ghost use Rattle.beep_steps.specs.Logs.{command_of, AreTaken, ComesOn, StandsOn,
 ghost use Rattle.beep_steps.specs.Scripting.{ComesScripting, KeepsScripting, ScriptedOn, ScriptedWaiting};
 ghost use Rattle.beep_steps.specs.Sending.{went_by, ComesSending, KeepsSending, Progress, SendsOn, SendsWaiting, StopsSending};
 ghost use Rattle.beep_steps.specs.Serving.{ComesServing, KeepsServing, ServesOn, ServesWaiting};
-ghost use Rattle.beep_steps.specs.Desking.{ComesDesk, DesksOn, DesksWaiting, DesksWithin, SaidDesk};
+ghost use Rattle.beep_history.specs.declared.journal.Side.{Side};
+ghost use Rattle.beep_history.specs.Journal.{passed};
+ghost use Rattle.beep_steps.specs.Desking.{AsksSo, EndsLinesSo, ComesDesk, DesksOn, DesksWaiting, DesksWithin, SaidDesk};
+ghost use Rattle.beep_steps.specs.Resting.{IsAwake, RestsAfter};
 ghost use Rattle.beep_steps.specs.Speaking.{noted_by, ComesSpeaking, KeepsSpeaking, Notes, SpeaksGone, SpeaksOn, SpeaksWaiting};
 ghost use Rattle.beep_steps.specs.Refusing.{closing_by, ComesUnrefused, IsOtherStop, IsUnrefused, RefusesOn, SettlesSo, Unrefused};
 ghost use Rattle.beep_talk.specs.declared.plan.Command.{Command};
@@ -58,6 +63,15 @@ pub fn say_next(session: &mut Session, out: &mut Octets) -> Emit
         → SpeaksOn plan notes session.old (put_all out.old.octets log)
         → DesksOn plan session.old (put_all out.old.octets log)
         → SaidDesk plan result session.new (put_all out.new.octets log) }
+    ensures rests { (log : List Moment) → StandsOn session.old (put_all out.old.octets log)
+        → RestsAfter result session.new }
+    ensures asking { (plan : PlainPlan) (p : Progress) (log : List Moment)
+        → ScriptedOn plan p session.old (put_all out.old.octets log)
+        → DesksOn plan session.old (put_all out.old.octets log)
+        → SaidDesk plan result session.new (put_all out.new.octets log) }
+    ensures ends { (plan : PlainPlan) (p : Progress) (log : List Moment)
+        (s : ScriptedOn plan p session.old (put_all out.old.octets log))
+        → EndsLinesSo plan p result s.sends.on.journal }
     ensures spoke { (log : List Moment) (s : StandsOn session.old (put_all out.old.octets log))
         → Spoke result session.old session.new s.journal (put_all out.new.octets log) }
     ensures unrefused { (command : Command) (closing : Bool) (log : List Moment)
@@ -133,13 +147,16 @@ pub fn hear_next(session: &mut Session, bytes: &[u8]) -> Result<(usize, Came), S
 /// Takes what has arrived on a channel, as much as `buf` holds.
 pub fn take_part(session: &mut Session, number: u32, buf: &mut [u8]) -> Option<Part>
     requires some { 0 < length buf.old }
-    requires fits { length buf.old < 2 ^ 32 }
+    requires fits { length buf.old < numbers_32 }
     ensures stays { StaysOn session.old session.new }
     ensures serving { (plan : PlainPlan) → KeepsServing plan session.old session.new }
     ensures speaking { (plan : PlainPlan) (notes : Notes)
         → KeepsSpeaking plan notes notes session.old session.new }
     ensures desk { (plan : PlainPlan) (notes : Notes) (log : List Moment)
         → ServesOn plan session.old log → SpeaksOn plan notes session.old log
+        → DesksWithin plan session.old log → DesksWithin plan session.new log }
+    ensures asking { (plan : PlainPlan) (p : Progress) (log : List Moment)
+        → ScriptedOn plan p session.old log
         → DesksWithin plan session.old log → DesksWithin plan session.new log }
     ensures sending { (plan : PlainPlan) (p : Progress)
         → KeepsSending plan p p session.old session.new }
@@ -185,6 +202,12 @@ pub fn settle_message(session: &mut Session) -> Result<Settled, Stop>
         → ServesWaiting plan session.old log → SpeaksWaiting plan notes session.old log
         → DesksWaiting plan session.old log → AreTaken session.old
         → OnOk result (DesksOn plan session.new log) }
+    ensures asking { (plan : PlainPlan) (p : Progress) (log : List Moment)
+        → ScriptedWaiting plan p session.old log → DesksWaiting plan session.old log
+        → OnOk result (DesksWithin plan session.new log) }
+    ensures asks { (plan : PlainPlan) (p : Progress) (log : List Moment)
+        (w : SendsWaiting plan p session.old log) → IfOk result (λ settled.
+        AsksSo p.asked settled (passed Side.Received w.on.head w.on.payload) w.on.journal) }
     ensures stopped { (log : List Moment) (octets : List ℕ) → WaitsOn session.old log
         → IfErr result (λ stop. StopsOn (terms_of session.old) stop (got_all octets log)) }
     ensures done { (log : List Moment) (w : WaitsOn session.old log) → OnOk result
@@ -209,7 +232,9 @@ pub fn settle_message(session: &mut Session) -> Result<Settled, Stop>
 
 /// Whether a channel above zero is live and nothing waits to be settled.
 pub fn is_open(session: &Session, number: u32) -> bool
-    ensures { result ≡ true → IsOpen number session.now }
+    ensures open { result ≡ true → IsOpen number session.now }
+    ensures shut { (number == 0) ≡ false → IsAwake session.now → result ≡ false
+        → is_some (live_at number session.now.peer.lives) ≡ false }
 {
     !session.zero_waits() && !session.is_over() && session.live(number)
 }

@@ -23,3 +23,11 @@ pub fn what_a_listener_greets_with_is_read()
 {
     the_value_said_is_that_of_the_message();
 }
+
+/// The greeting of a sender, which offers nothing, is read as what it says (RFC 3080, section
+/// 2.3.1.1).
+pub fn what_a_sender_greets_with_is_read()
+    ensures { IsGreetingRead [] }
+{
+    the_value_said_is_that_of_the_message();
+}

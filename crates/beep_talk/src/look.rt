@@ -1,5 +1,6 @@
 //! What the crates below don't tell of a history, by plain look-back, the latest item first.
-ghost use Rattle.std.specs.Prelude.{◌≡◌, ◌+◌, ◌*◌, ◌^◌, ◌≤◌, ◌==◌, not, length, IfOk};
+ghost use Rattle.std.specs.Prelude.{◌≡◌, ◌+◌, ◌*◌, ◌≤◌, ◌==◌, not, length, IfOk};
+ghost use Rattle.beep_octets.specs.Numbers.{numbers_64};
 ghost use Rattle.beep_history.specs.Journal.{history_of};
 ghost use Rattle.beep_history.specs.Marks.{position_of, tag_of, carries, marks, requests, unanswered};
 ghost use Rattle.beep_history.specs.Messages.{messages, same_tag, gathered};
@@ -129,7 +130,7 @@ pub fn message_count(side: Side, past: &[JournalItem]) -> usize
 /// How many marks of a side have passed.
 pub fn mark_count(side: Side, past: &[JournalItem]) -> u128
     ensures value { result ≡ length (marks side (history_of past.now)) }
-    ensures within { result ≤ length past.now * 2 ^ 64 }
+    ensures within { result ≤ length past.now * numbers_64 }
 {
     match past {
         [] => 0,

@@ -30,7 +30,7 @@ pub enum Letters {
 /// What of a character was read.
 #[derive(Clone, Copy, Debug, PartialEq, Eq)]
 pub enum Part {
-    /// Nothing.
+    /// No octet: the next one begins a character.
     Fresh,
     /// All but one octet of its UTF-8, with the value so far.
     One(u32),

@@ -23,6 +23,15 @@ const LEAD_OF_TWO: u8 = 0xC0;
 
 const TAIL_VALUES: u64 = 64;
 
+// The least numbers of characters that a text may have.
+const TAB: u64 = b'\t' as u64;
+
+const LF: u64 = b'\n' as u64;
+
+const CR: u64 = b'\r' as u64;
+
+const SPACE: u64 = b' ' as u64;
+
 // The numbers of characters: all but the surrogates and two more.
 const LAST_BEFORE_SURROGATES: u64 = 0xD7FF;
 
@@ -83,8 +92,8 @@ fn is_hex_digit(octet: u8) -> bool
 fn is_allowed(number: u64) -> bool
     ensures { result ≡ is_allowed number }
 {
-    (number == 9 || number == 10 || number == 13)
-        || (32 <= number && number <= LAST_BEFORE_SURROGATES)
+    (number == TAB || number == LF || number == CR)
+        || (SPACE <= number && number <= LAST_BEFORE_SURROGATES)
         || (FIRST_AFTER_SURROGATES <= number && number <= LAST_OF_THREE)
         || (LEAST_OF_FOUR <= number && number <= LAST)
 }

@@ -38,7 +38,7 @@ acknowledged (began by head ∷ past) = acknowledged past
 acknowledged (passed by head payload ∷ past) = acknowledged past
 acknowledged (told by seq ∷ past) = if same_side by Side.Sent then passed_octets Side.Received past else acknowledged past
 
--- the window that this end told last
+-- the window that this end advertised last
 abbrev pub window_advertised : List Item → ℕ
 window_advertised [] = INITIAL_WINDOW
 window_advertised (began by head ∷ past) = window_advertised past

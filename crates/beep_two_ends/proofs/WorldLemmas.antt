@@ -18,7 +18,7 @@ use Rattle.beep_two_ends.proofs.RowsLemmas.{all_rows_at}
 use Rattle.beep_two_ends.proofs.WindowLemmas.{kept_of, unbroken, acknowledged, window_advertised, windows, acked-arrived, window-arrived, window-sent, acked-sent, seq_counted}
 use Rattle.beep_two_ends.proofs.SplitLemmas.{SentAt, sent_at, when, lawful-earlier, whole-earlier, arrived-append, edge-earlier, octets-earlier}
 
--- the edge that a sender goes by was told by the other end
+-- the edge that a sender goes by was advertised by the other end
 pub edge_told : (mine theirs : List Item) → IsLawful theirs → NeverBroke theirs → Sees mine theirs
     → acked_octets Side.Sent mine + last_window Side.Sent mine ≤ greatest_edge Side.Received theirs
 edge_told mine theirs l w s =

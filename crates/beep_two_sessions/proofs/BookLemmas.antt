@@ -31,7 +31,7 @@ use Rattle.beep_two_sessions.proofs.ReadLemmas.{all-come}
 use Rattle.beep_two_sessions.proofs.MoveLemmas.{stands-a, stands-b}
 use Rattle.beep_two_sessions.proofs.FollowLemmas.{Begins, begins-then, Follows, gained-follows, told-follows, settled-follows, sent-follows}
 
--- ---- marks as calls tell them
+-- ---- marks, positions modulo 2^64
 
 abbrev pub modulo_marks : List Mark → List Mark
 modulo_marks ms = map mark_modulo_2_64 ms

@@ -34,7 +34,7 @@ use Rattle.beep_session.specs.Acts.{AsksZero}
 use Rattle.beep_session.specs.Channels.{IsOfPeer, Gives, Takes}
 use Rattle.beep_session.specs.Lawfully.{terms_of, IsLawfulSession, KeepsUpright, FeedsLawfully, GainsLawfully, WaitsLawfully}
 use Rattle.beep_session.specs.Session.{Held, AreLimits}
-use Rattle.beep_two_sessions.specs.End.{End, Doing, goes, waits, end_of_new, Stands, StandsAs, Awaits}
+use Rattle.beep_two_sessions.specs.End.{End, Doing, goes, waits, end_of_new, EndStands, StandsAs, Awaits}
 use Rattle.beep_two_sessions.specs.Acts.{Act, gives, asks, takes, settles, stops, sends, pauses, gets, rests, sent_by, used_by, LeadsTo}
 use Rattle.beep_two_sessions.specs.World.{World, Move, a_does, b_does, IsReached}
 
@@ -49,15 +49,15 @@ module _ (old : End) (session : Held) (same : IsOfPeer old.session session) wher
       subst (λ (t : Terms). IsLawfulPeer t fed rest journal given taken session.peer) (sym terms-stay) p
 
 -- what is known of an end that goes on
-stood : (old : End) → old.doing ≡ goes → Stands old → IsLawfulSession old.session old.fed old.rest old.journal old.given old.taken
+stood : (old : End) → old.doing ≡ goes → EndStands old → IsLawfulSession old.session old.fed old.rest old.journal old.given old.taken
 stood old e s = subst (λ (d : Doing). StandsAs d old) e s
 
-stood-waiting : (head : Head) (payload : List ℕ) (old : End) → old.doing ≡ waits head payload → Stands old → Awaits head payload old
+stood-waiting : (head : Head) (payload : List ℕ) (old : End) → old.doing ≡ waits head payload → EndStands old → Awaits head payload old
 stood-waiting head payload old e s = subst (λ (d : Doing). StandsAs d old) e s
 
 -- ---- what a program gives and takes
 
-pub gives-step : (number : ℕ) (kind : Kind) (octets : List ℕ) (old : End) (session : Held) → old.doing ≡ goes → is_over old.session.peer ≡ false → Stands old
+pub gives-step : (number : ℕ) (kind : Kind) (octets : List ℕ) (old : End) (session : Held) → old.doing ≡ goes → is_over old.session.peer ≡ false → EndStands old
     → Gives number kind octets old.session session → KeepsUpright old.session session → LeadsTo (gives number kind octets) old session
 gives-step number kind octets old session e on s g u =
     let l = stood old e s in
@@ -75,7 +75,7 @@ gives-step number kind octets old session e on s g u =
       },
     )
 
-pub asks-step : (octets : List ℕ) (old : End) (session : Held) → old.doing ≡ goes → Stands old
+pub asks-step : (octets : List ℕ) (old : End) (session : Held) → old.doing ≡ goes → EndStands old
     → ((fed rest : List ℕ) (journal : List Item) (given taken : Marks) → IsPeer old.session.limits.window fed rest journal given taken old.session.peer
     → AsksZero old.session.limits.window fed rest journal given taken octets session.peer)
     → IsOfPeer old.session session → KeepsUpright old.session session → LeadsTo (asks octets) old session
@@ -97,7 +97,7 @@ asks-step octets old session e s f same u =
       },
     )
 
-pub takes-step : (number : ℕ) (part : Part) (octets : List ℕ) (old : End) (session : Held) → old.doing ≡ goes → is_over old.session.peer ≡ false → Stands old
+pub takes-step : (number : ℕ) (part : Part) (octets : List ℕ) (old : End) (session : Held) → old.doing ≡ goes → is_over old.session.peer ≡ false → EndStands old
     → Takes number part octets old.session session → KeepsUpright old.session session → LeadsTo (takes number part octets) old session
 takes-step number part octets old session e on s g u =
     let l = stood old e s in
@@ -118,7 +118,7 @@ takes-step number part octets old session e on s g u =
       },
     )
 
-pub rests-step : (old : End) (session : Held) → old.doing ≡ goes → Stands old → IsUnchanged old.session.peer session.peer → IsOfPeer old.session session
+pub rests-step : (old : End) (session : Held) → old.doing ≡ goes → EndStands old → IsUnchanged old.session.peer session.peer → IsOfPeer old.session session
     → KeepsUpright old.session session → LeadsTo rests old session
 rests-step old session e s g same u =
     let l = stood old e s in (
@@ -143,7 +143,7 @@ rests-step old session e s g same u =
 
 -- ---- a message that waits
 
-pub settles-step : (head : Head) (payload : List ℕ) (old : End) (session : Held) → old.doing ≡ waits head payload → Stands old
+pub settles-step : (head : Head) (payload : List ℕ) (old : End) (session : Held) → old.doing ≡ waits head payload → EndStands old
     → Settles old.session.limits.window old.fed old.journal old.given old.taken head payload session.peer
     → IsUpright (terms_of old.session) (passed Side.Received head payload ∷ old.journal) session.peer.lives session.peer.management
     → IsOfPeer old.session session → LeadsTo settles old session
@@ -174,7 +174,7 @@ pub stops-step : (head : Head) (payload : List ℕ) (rule : Rule) (place : ℕ) 
 stops-step head payload rule place old session e k f same =
     (_, refl, record { head = head; payload = payload; waiting = e; session = session; same = same; reply = k; formless = f; new_is = refl })
 
-pub waits-step : (head : Head) (payload : List ℕ) (old : End) (session : Held) → old.doing ≡ waits head payload → Stands old
+pub waits-step : (head : Head) (payload : List ℕ) (old : End) (session : Held) → old.doing ≡ waits head payload → EndStands old
     → WaitsIn old.session.limits.window old.fed old.journal old.given old.taken head payload session.peer
     → IsUpright (terms_of old.session) old.journal session.peer.lives session.peer.management → IsOfPeer old.session session → LeadsTo rests old session
 waits-step head payload old session e s w u same =

@@ -26,7 +26,7 @@ use Rattle.beep_session.specs.declared.event.Event.{Event}
 use Rattle.beep_session.specs.Channels.{IsOfPeer}
 use Rattle.beep_session.specs.Lawfully.{terms_of}
 use Rattle.beep_session.specs.Session.{Held}
-use Rattle.beep_two_sessions.specs.End.{End, Doing, goes, waits, stopped, with_more, Stands, StandsAs, StandsSo, StandsUnbroken, Awaits}
+use Rattle.beep_two_sessions.specs.End.{End, Doing, goes, waits, stopped, with_more, EndStands, StandsAs, StandsSo, StandsUnbroken, Awaits}
 use Rattle.beep_two_sessions.specs.Acts.{Act, gives, asks, takes, settles, stops, sends, pauses, gets, rests, sent_by, used_by, given_marks, HasGiven, HasAsked, HasTaken, HasSettled, HasStopped, HasSent, HasTold, SendsAs, HasGained, HasMessage, GetsAs, UsesNone, HasRested, Does}
 use Rattle.beep_two_sessions.specs.World.{World, IsBegun, Move, a_does, b_does, IsReached}
 use Rattle.beep_two_sessions.proofs.ReadLemmas.{all-come, head-of-fed, head-of-whole, head-of-none}
@@ -222,7 +222,7 @@ module _ (of_a of_b : Terms) (a b : End) (to_a to_b : List ℕ) (l : Linked of_a
           journal = s.zero.gained ++ a.journal;
           taken = s.zero.taken_now;
         } in
-        let t : Stands now = subst Stands s.new_is s.stands in
+        let t : EndStands now = subst EndStands s.new_is s.stands in
         let z = s.zero in
         let w = t.waits.waits in
         subst (λ (e : End). Linked of_a of_b e b later to_b) (sym s.new_is) (record {

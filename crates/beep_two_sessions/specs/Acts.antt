@@ -26,7 +26,7 @@ use Rattle.beep_session.specs.Channels.{IsOfPeer}
 use Rattle.beep_session.specs.Feeds.{Gains, ZeroWaits}
 use Rattle.beep_session.specs.Lawfully.{IsLawfulSession}
 use Rattle.beep_session.specs.Session.{Held}
-use Rattle.beep_two_sessions.specs.End.{End, goes, waits, stopped, with_more, Stands, StandsAs, IsQuiet}
+use Rattle.beep_two_sessions.specs.End.{End, goes, waits, stopped, with_more, EndStands, StandsAs, IsQuiet}
 use Rattle.beep_two_sessions.specs.Kept.{IsPrefix}
 
 -- ---- what an end may do
@@ -250,7 +250,7 @@ pub record HasMessage (octets : List ℕ) (old new : End) : Type 0 where
     journal = zero.gained ++ old.journal;
     taken = zero.taken_now;
   }
-  pub stands : Stands new
+  pub stands : EndStands new
 
 -- the last of these octets broke a rule
 pub record HasBroken (octets : List ℕ) (rule : Rule) (place : ℕ) (old new : End) : Type 0 where

@@ -69,8 +69,8 @@ StandsAs goes one =
 StandsAs (waits head payload) one = Awaits head payload one
 StandsAs (stopped rule place) one = Unit {0}
 
-abbrev pub Stands : End → Type 0
-Stands one = StandsAs one.doing one
+abbrev pub EndStands : End → Type 0
+EndStands one = StandsAs one.doing one
 
 -- the session stands for all this, and did not stop
 abbrev pub StandsSo : Doing → End → Type 0

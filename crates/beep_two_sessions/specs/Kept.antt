@@ -15,8 +15,8 @@ use Rattle.beep_two_sessions.specs.End.{End}
 abbrev pub IsPrefix : List Mark → List Mark → Type 0
 IsPrefix first whole = (later : List Mark) × (whole ≡ first ++ later)
 
--- what an end took of a life is, as calls tell it, the first of what arrived of it there, whose
--- replies name their requests in their order
+-- what an end took of a life is, positions modulo 2^64, the first of what arrived of it there,
+-- whose replies name their requests in their order
 abbrev pub IsTakenInOrder : End → ℕ → ℕ → Type 0
 IsTakenInOrder one number count =
     IsRising (reply_positions (marks Side.Received (life number count one.journal)))

@@ -29,7 +29,7 @@ ghost use Rattle.beep_session.specs.Acts.{AsksZero};
 ghost use Rattle.beep_session.specs.Channels.{IsOfPeer, Gives, Takes};
 ghost use Rattle.beep_session.specs.Lawfully.{terms_of, IsLawfulSession, KeepsUpright, FeedsLawfully};
 ghost use Rattle.beep_session.specs.Session.{Held, AreLimits};
-ghost use Rattle.beep_two_sessions.specs.End.{End, goes, waits, end_of_new, Stands, StandsUnbroken, NothingIsDue};
+ghost use Rattle.beep_two_sessions.specs.End.{End, goes, waits, end_of_new, EndStands, StandsUnbroken, NothingIsDue};
 ghost use Rattle.beep_two_sessions.specs.Acts.{Act, gives, asks, takes, settles, stops, sends, pauses, gets, rests, sent_by, used_by, LeadsTo};
 ghost use Rattle.beep_two_sessions.specs.World.{World, Move, a_does, b_does, IsReached, first_of};
 ghost use Rattle.beep_two_sessions.specs.Still.{IsStill, GreetsShortly};
@@ -75,7 +75,7 @@ pub fn a_step_of_a_session_leads_on()
 /// channel, are a step.
 pub fn a_message_that_is_given_is_a_step()
     ensures { (number : ℕ) (kind : Kind) (octets : List ℕ) (old : End) (session : Held)
-        → old.doing ≡ goes → is_over old.session.peer ≡ false → Stands old
+        → old.doing ≡ goes → is_over old.session.peer ≡ false → EndStands old
         → Gives number kind octets old.session session
         → KeepsUpright old.session session → LeadsTo (gives number kind octets) old session }
 {}
@@ -83,7 +83,7 @@ pub fn a_message_that_is_given_is_a_step()
 /// A start, a close and the release that are done are a step: a close, by what it says that it
 /// gave to channel zero.
 pub fn a_request_of_channel_zero_is_a_step()
-    ensures { (octets : List ℕ) (old : End) (session : Held) → old.doing ≡ goes → Stands old
+    ensures { (octets : List ℕ) (old : End) (session : Held) → old.doing ≡ goes → EndStands old
         → ((fed rest : List ℕ) (journal : List Item) (given taken : Marks)
         → IsPeer old.session.limits.window fed rest journal given taken old.session.peer
         → AsksZero old.session.limits.window fed rest journal given taken octets session.peer)
@@ -94,7 +94,7 @@ pub fn a_request_of_channel_zero_is_a_step()
 /// A take that gives a part is a step.
 pub fn a_take_is_a_step()
     ensures { (number : ℕ) (part : Part) (octets : List ℕ) (old : End) (session : Held)
-        → old.doing ≡ goes → is_over old.session.peer ≡ false → Stands old
+        → old.doing ≡ goes → is_over old.session.peer ≡ false → EndStands old
         → Takes number part octets old.session session
         → KeepsUpright old.session session → LeadsTo (takes number part octets) old session }
 {}
@@ -102,7 +102,7 @@ pub fn a_take_is_a_step()
 /// A call that is refused, or runs out of memory, is a step: it makes room and nothing else. What
 /// the session has to say is left as it was.
 pub fn a_refused_call_is_a_step()
-    ensures { (old : End) (session : Held) → old.doing ≡ goes → Stands old
+    ensures { (old : End) (session : Held) → old.doing ≡ goes → EndStands old
         → IsUnchanged old.session.peer session.peer → IsOfPeer old.session session
         → KeepsUpright old.session session → LeadsTo rests old session }
 {}
@@ -111,7 +111,7 @@ pub fn a_refused_call_is_a_step()
 /// session has to say is left as it was; it is a reply that breaks a rule.
 pub fn a_settle_is_a_step()
     ensures done { (head : Head) (payload : List ℕ) (old : End) (session : Held)
-        → old.doing ≡ waits head payload → Stands old
+        → old.doing ≡ waits head payload → EndStands old
         → Settles old.session.limits.window old.fed old.journal old.given old.taken head payload
         session.peer
         → IsUpright (terms_of old.session) (passed Side.Received head payload ∷ old.journal)
@@ -122,7 +122,7 @@ pub fn a_settle_is_a_step()
         → completes_form Side.Received head payload (zero_history old.journal) ≡ false
         → IsOfPeer old.session session → LeadsTo (stops rule place) old session }
     ensures memory { (head : Head) (payload : List ℕ) (old : End) (session : Held)
-        → old.doing ≡ waits head payload → Stands old
+        → old.doing ≡ waits head payload → EndStands old
         → WaitsIn old.session.limits.window old.fed old.journal old.given old.taken head payload
         session.peer
         → IsUpright (terms_of old.session) old.journal session.peer.lives

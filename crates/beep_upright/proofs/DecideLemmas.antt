@@ -11,7 +11,7 @@ use Rattle.beep_journal.specs.Zero.{events}
 use Rattle.beep_channel.specs.Held.{Live}
 use Rattle.beep_decide.specs.Decide.{PlainStanding, Decision, refuse, choose, grant_close, is_among, is_used, used_count, first_row, decide_profile, decide_start, decide_close, first_offered}
 use Rattle.beep_decide.specs.Numbers.{other_role, may_start}
-use Rattle.beep_decide.specs.declared.limits.TheConstants.{MAX_CHANNELS}
+use Rattle.beep_turns.specs.declared.turns.TheConstants.{MAX_CHANNELS}
 use Rattle.beep_management.specs.Managed.{numbers_of}
 use Rattle.beep_upright.specs.Upright.{is_free, AreApart, MayBegin}
 use Rattle.beep_upright.proofs.TestLemmas.{not-false}

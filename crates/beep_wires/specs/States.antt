@@ -1,4 +1,4 @@
--- What a source and a sink are to a contract: their octets, where they tell them, and what came of
+-- What a source and a sink are to a contract: their octets, where they are known, and what came of
 -- the calls so far.
 -- The code of one may keep more, or nothing.
 use Rattle.std.specs.Prelude.{ℕ, Bool, Option, List}

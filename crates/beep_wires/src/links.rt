@@ -22,7 +22,7 @@ pub enum Got {
 pub enum WireError {
     /// The accept or the dial failed.
     Failed,
-    /// Want of memory, and nothing else.
+    /// Out of memory: what the call would open or note finds no room.
     NoMemory,
 }
 

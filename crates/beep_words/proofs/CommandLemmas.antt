@@ -13,7 +13,10 @@ use Rattle.beep_words.specs.declared.form.Form.{Form}
 use Rattle.beep_words.specs.declared.command.ShowSettings.{ShowSettings}
 use Rattle.beep_words.specs.declared.command.PairSettings.{PairSettings}
 use Rattle.beep_words.specs.declared.command.Command.{Command}
-use Rattle.beep_words.specs.declared.options.TheConstants.{MAX_HOST, MAX_URI, MIN_WINDOW, MAX_PORT, MAX_WINDOW, MAX_PIECE, MAX_IDLE, MAX_SETTING, MAX_SESSIONS}
+use Rattle.beep_settings.specs.declared.limits.TheConstants.{MAX_PIECE}
+use Rattle.beep_seq.specs.declared.limits.TheConstants.{MIN_WINDOW, MAX_WINDOW}
+use Rattle.beep_chars.specs.declared.limits.TheConstants.{MAX_URI}
+use Rattle.beep_words.specs.declared.options.TheConstants.{MAX_HOST, MAX_PORT, MAX_IDLE, MAX_SETTING, MAX_SESSIONS}
 use Rattle.beep_words.specs.CommandSet.{Value, choice, number, text, OptionRow, Chosen, words_of, number_set, form_in, IsOf, IsOfSome, IsTaken, value_in, AreWords, show_options, send_options, listen_options, pair_options, IsShow, IsReplay, IsTextOf, IsEnd, IsListen, IsPair, IsCommand, IsOfEnd}
 use Rattle.beep_words.specs.Choosing.{are_options, is_lone, are_listen_options, show_of, settings_of, pair_of, number_at, number_set_at, choice_at, command_in, command_at, makes_end}
 use Rattle.beep_words.proofs.ValueLemmas.{and_left, and_right, and_both, IsReadable, IsReadableSome}

@@ -9,7 +9,10 @@ use Rattle.beep_chars.specs.Characters.{is_allowed}
 use Rattle.beep_settings.specs.declared.settings.Settings.{Settings}
 use Rattle.beep_settings.specs.declared.settings.TheConstants.{RAW_URI, PORT, WINDOW, PIECE, IDLE, OCTETS, SESSIONS}
 use Rattle.beep_words.specs.declared.form.Form.{Form}
-use Rattle.beep_words.specs.declared.options.TheConstants.{MAX_URI, MAX_PORT, MIN_WINDOW, MAX_WINDOW, MAX_PIECE, MAX_IDLE, MAX_SETTING, MAX_SESSIONS}
+use Rattle.beep_settings.specs.declared.limits.TheConstants.{MAX_PIECE}
+use Rattle.beep_seq.specs.declared.limits.TheConstants.{MIN_WINDOW, MAX_WINDOW}
+use Rattle.beep_chars.specs.declared.limits.TheConstants.{MAX_URI}
+use Rattle.beep_words.specs.declared.options.TheConstants.{MAX_PORT, MAX_IDLE, MAX_SETTING, MAX_SESSIONS}
 use Rattle.beep_words.specs.CommandSet.{Value, choice, number, text, is_printable, OptionRow, Chosen, form_in, IsText, IsOf, IsOfSome, IsTaken, value_in, IsTextOf, IsEnd, IsSend, IsListen, IsPair, send_options, listen_options, pair_options}
 use Rattle.beep_words.specs.declared.command.PairSettings.{PairSettings}
 use Rattle.beep_words.specs.Usable.{IsUsable, IsPairUsable}

@@ -10,7 +10,10 @@ use Rattle.beep_words.specs.declared.form.Form.{Form}
 use Rattle.beep_words.specs.declared.command.Command.{Command}
 use Rattle.beep_words.specs.declared.command.ShowSettings.{ShowSettings}
 use Rattle.beep_words.specs.declared.command.PairSettings.{PairSettings}
-use Rattle.beep_words.specs.declared.options.TheConstants.{MAX_HOST, MAX_URI, MAX_PORT, MIN_WINDOW, MAX_WINDOW, MAX_PIECE, MAX_IDLE, MAX_SETTING, MAX_SESSIONS}
+use Rattle.beep_settings.specs.declared.limits.TheConstants.{MAX_PIECE}
+use Rattle.beep_seq.specs.declared.limits.TheConstants.{MIN_WINDOW, MAX_WINDOW}
+use Rattle.beep_chars.specs.declared.limits.TheConstants.{MAX_URI}
+use Rattle.beep_words.specs.declared.options.TheConstants.{MAX_HOST, MAX_PORT, MAX_IDLE, MAX_SETTING, MAX_SESSIONS}
 
 -- ---- values
 

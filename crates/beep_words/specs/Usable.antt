@@ -5,7 +5,10 @@ use Rattle.std.specs.List.{list_all}
 use Rattle.beep_chars.specs.Characters.{is_allowed}
 use Rattle.beep_settings.specs.declared.settings.Settings.{Settings}
 use Rattle.beep_words.specs.declared.command.PairSettings.{PairSettings}
-use Rattle.beep_words.specs.declared.options.TheConstants.{MAX_URI, MAX_PORT, MIN_WINDOW, MAX_WINDOW, MAX_PIECE, MAX_IDLE, MAX_SETTING, MAX_SESSIONS}
+use Rattle.beep_settings.specs.declared.limits.TheConstants.{MAX_PIECE}
+use Rattle.beep_seq.specs.declared.limits.TheConstants.{MIN_WINDOW, MAX_WINDOW}
+use Rattle.beep_chars.specs.declared.limits.TheConstants.{MAX_URI}
+use Rattle.beep_words.specs.declared.options.TheConstants.{MAX_PORT, MAX_IDLE, MAX_SETTING, MAX_SESSIONS}
 
 -- each number is in its range
 pub record AreRanged (settings : Settings) : Type 0 where

@@ -61,7 +61,7 @@ fn begins_with_dash(octets: &[u8]) -> bool
 fn are_printable(octets: &[u8]) -> bool
     ensures { result ≡ list_all is_printable octets.now }
 {
-    octets.iter().all(|octet| 32 <= *octet && *octet <= 126)
+    octets.iter().all(|octet| b' ' <= *octet && *octet <= b'~')
 }
 
 /// A number of 32 bits that is written as it is printed.

@@ -3,24 +3,15 @@ ghost use Rattle.std.specs.Prelude.{◌≡◌};
 ghost use Rattle.beep_words.specs.CommandSet.{form_in, show_options, send_options, listen_options, end_options, pair_options};
 
 use crate::form::Form;
+use beep_chars::MAX_URI;
+use beep_seq::{MAX_WINDOW, MIN_WINDOW};
+use beep_settings::MAX_PIECE;
 
 /// The most octets of the name of a host.
 pub const MAX_HOST: usize = 253;
 
-/// The most characters of a URI.
-pub const MAX_URI: usize = 255;
-
 /// The greatest number of a port.
 pub const MAX_PORT: u32 = 65535;
-
-/// The least own window: that with which a channel begins.
-pub const MIN_WINDOW: u32 = 4096;
-
-/// The greatest own window.
-pub const MAX_WINDOW: u32 = 65536;
-
-/// The most octets of payload in one frame that is sent.
-pub const MAX_PIECE: u32 = 4096;
 
 /// The most quiet reads in a row, more than a day.
 pub const MAX_IDLE: u32 = 1000000;

@@ -9,7 +9,7 @@ pub(crate) enum Stop {
     Words,
     /// A call was refused.
     Refused,
-    /// Out of memory.
+    /// A channel or a text found no memory.
     NoMemory,
 }
 

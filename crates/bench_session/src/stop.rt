@@ -8,7 +8,7 @@ pub(crate) enum Stop {
     Words,
     /// A call was refused that is never refused here.
     Refused,
-    /// Out of memory.
+    /// A session or a text found no memory.
     NoMemory,
 }
 

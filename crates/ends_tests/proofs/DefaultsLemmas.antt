@@ -1,7 +1,7 @@
 -- A session can be held with what holds where no option is set.
 use Rattle.std.proofs.Common.{◌≡◌, ℕ, ◌≤◌, ◌<◌, true, refl, sym, ap, subst, arith}
 use Rattle.beep_seq.specs.declared.limits.TheConstants.{MIN_WINDOW, MAX_WINDOW}
-use Rattle.beep_session.specs.declared.limits.TheConstants.{MAX_PIECE}
+use Rattle.beep_settings.specs.declared.limits.TheConstants.{MAX_PIECE}
 use Rattle.beep_answering.specs.Sent.{is_uri}
 use Rattle.beep_settings.specs.declared.settings.Settings.{Settings}
 use Rattle.beep_settings.specs.declared.settings.TheConstants.{RAW_URI}

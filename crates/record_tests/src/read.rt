@@ -55,13 +55,15 @@ fn what_lines_say(rt: HostRuntime) -> Result<(), Fail> {
     let log = read_record(rt.alloc(), text)?;
     assert_eq!(rt; log.role, Role::Listener);
     assert_eq!(rt; log.entries.len(), 3);
-    match (log.entries.get(0), log.entries.get(1), log.entries.get(2)) {
-        (Some(Entry::Read(read)), Some(Entry::Wrote(wrote)), Some(Entry::Ended)) => {
-            assert_eq!(rt; read.as_slice(), b"a\\".as_slice());
-            assert_eq!(rt; wrote.as_slice(), b"\0\r".as_slice());
-        }
-        _ => return Err("other entries".into()),
-    }
+    let (Some(Entry::Read(read)), Some(Entry::Wrote(wrote)), Some(Entry::Ended)) = (
+        log.entries.get(0),
+        log.entries.get(1),
+        log.entries.get(2),
+    ) else {
+        return Err("other entries".into());
+    };
+    assert_eq!(rt; read.as_slice(), b"a\\".as_slice());
+    assert_eq!(rt; wrote.as_slice(), b"\0\r".as_slice());
     Ok(())
 }
 

@@ -111,7 +111,8 @@ fn a_sender_says_three_lines_and_their_end(rt: HostRuntime) -> Result<(), Fail> 
         are(
             rt.alloc(),
             &answers,
-            "ANS 0 0 =|<34>Oct_11_22:14:15_mymachine_su:_'su_root'_failed_for_lonvick_on_/dev/pts/8|;
+            "ANS 0 0 =|<34>Oct_11_22:14:15_mymachine_su:_'su_root'_failed_for_lonvick_\
+             on_/dev/pts/8|;
             ANS 0 1 =|<13>Oct_11_22:14:16_mymachine_sshd:_session_opened|;
             ANS 0 2 =|<165>Oct_11_22:14:17_mymachine_cron:_job_done|; NUL 0 ="
         )?,

@@ -59,7 +59,8 @@ fn element_of(word: &str) -> Option<&'static str> {
             "<greeting><profile uri='http://xml.resource.org/profiles/syslog/RAW' /></greeting>",
         ),
         "raw_start" => Some(
-            "<start number='1'><profile uri='http://xml.resource.org/profiles/syslog/RAW' /></start>",
+            "<start number='1'>\
+             <profile uri='http://xml.resource.org/profiles/syslog/RAW' /></start>",
         ),
         "raw_chosen" => Some("<profile uri='http://xml.resource.org/profiles/syslog/RAW' />"),
         _ => None,

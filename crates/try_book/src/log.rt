@@ -52,8 +52,8 @@ impl Log {
         Ok(())
     }
 
-    /// Runs the plain programs over the next item, while there may be more: one that arrived breaks no
-    /// rule, and one that was sent nothing that `is_lawful` asks of it.
+    /// Runs the plain programs over the next item, while there may be more: one that arrived breaks
+    /// no rule, and one that was sent nothing that `is_lawful` asks of it.
     fn judge(&mut self, terms: &Terms, item: JournalItem) -> Result<(), Stop> {
         if self.most <= self.items.len() {
             return Ok(());

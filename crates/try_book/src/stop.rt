@@ -12,7 +12,7 @@ pub enum Stop {
     Words,
     /// A call was refused that is never refused here.
     Refused,
-    /// Out of memory.
+    /// A session, the book or a text found no memory, which is no finding.
     NoMemory,
     /// The output couldn't be written.
     Output,
@@ -29,7 +29,8 @@ pub enum Fault {
     Unsettled,
     /// An ERR came in place of a greeting.
     Denied,
-    /// A feed used no octet where some were left, or told that all were used where some weren't.
+    /// A feed used no octet where some were left, or answered that all were used where some
+    /// weren't.
     Unused,
     /// `may_emit` and `emit` don't agree.
     MayEmit,

@@ -46,24 +46,47 @@ pub(crate) struct Mood {
     releases: u32,
 }
 
-/// What a schedule is like, drawn. One whose journal is judged is short.
-pub(crate) fn drawn_mood(dice: &mut Dice, short: bool) -> Mood {
+/// How long a schedule is. The plain programs go over a whole journal for each item.
+#[derive(Clone, Copy, Debug)]
+pub(crate) enum Length {
+    /// Its journals aren't judged.
+    Long,
+    /// The first items of its journals are judged.
+    Short,
+    /// All items of its journals are judged.
+    Brief,
+}
+
+/// How many acts a schedule has, drawn.
+fn drawn_acts(dice: &mut Dice, length: Length) -> u32 {
+    match length {
+        Length::Long => dice.between(100, 300),
+        Length::Short => dice.between(30, 110),
+        Length::Brief => dice.between(20, 60),
+    }
+}
+
+/// The most octets of a message, drawn: in half of the schedules few.
+fn drawn_longest(dice: &mut Dice, length: Length) -> u32 {
+    if dice.below(2) != 0 {
+        return dice.below(60);
+    }
+    match length {
+        Length::Long | Length::Short => 3000,
+        Length::Brief => 300,
+    }
+}
+
+/// What a schedule of this length is like, drawn.
+pub(crate) fn drawn_mood(dice: &mut Dice, length: Length) -> Mood {
     let ends = dice.below(4) == 0;
     Mood {
-        acts: if short {
-            dice.between(30, 110)
-        } else {
-            dice.between(100, 300)
-        },
+        acts: drawn_acts(dice, length),
         a: limits(dice),
         b: limits(dice),
         opens: dice.below(4) != 0 && !(ends && dice.below(2) == 0),
         numbers: dice.between(2, NUMBERS),
-        longest: if dice.below(2) == 0 {
-            3000
-        } else {
-            dice.below(60)
-        },
+        longest: drawn_longest(dice, length),
         sends: dice.between(10, 30),
         hears: dice.between(10, 30),
         takes: dice.between(4, 14),

@@ -1,6 +1,6 @@
 //! One schedule: two sessions, the wires between them, and the acts that are drawn.
 
-use crate::act::{Act, Mood, draw, drawn_mood};
+use crate::act::{Act, Length, Mood, draw, drawn_mood};
 use crate::dice::Dice;
 use crate::end::{End, MOST_TAKEN, NUMBERS};
 use beep_frame::Kind;
@@ -19,7 +19,7 @@ const MOST_JUDGED: usize = 60;
 pub(crate) enum Judging {
     /// Of each eighth schedule the first items.
     Some,
-    /// Of each schedule all items, each as it comes. All schedules are short.
+    /// Of each schedule all items, each as it comes. All schedules are brief.
     Each,
 }
 
@@ -44,13 +44,13 @@ impl World {
         schedule: u64,
         judging: Judging,
     ) -> Result<World, Stop> {
-        let (logs, most) = match judging {
-            Judging::Some => (schedule % EACH == 0, MOST_JUDGED),
-            Judging::Each => (true, usize::MAX),
+        let (length, most) = match judging {
+            Judging::Some if schedule % EACH == 0 => (Length::Short, Some(MOST_JUDGED)),
+            Judging::Some => (Length::Long, None),
+            Judging::Each => (Length::Brief, Some(usize::MAX)),
         };
         let mut dice = Dice::new(seed, schedule);
-        let mood = drawn_mood(&mut dice, logs);
-        let most = if logs { Some(most) } else { None };
+        let mood = drawn_mood(&mut dice, length);
         let a = End::new(alloc, Who::A, mood.a, most)?;
         let b = End::new(alloc, Who::B, mood.b, most)?;
         let mut book = Book::new(alloc);

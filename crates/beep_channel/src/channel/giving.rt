@@ -1,5 +1,6 @@
 //! Messages that are given, and marks that are taken.
-ghost use Rattle.std.specs.Prelude.{◌≡◌, ◌≢◌, ◌↔◌, ◌<◌, ◌≤◌, ◌==◌, ◌^◌, [], true, not, length, take, None, Some, IsSome, IfSome, IfNone, IfOk, IfErr, OnOk, OnErr, IsOk, if◌then◌else◌};
+ghost use Rattle.std.specs.Prelude.{◌≡◌, ◌≢◌, ◌↔◌, ◌<◌, ◌≤◌, ◌==◌, [], true, not, length, take, None, Some, IsSome, IfSome, IfNone, IfOk, IfErr, OnOk, OnErr, IsOk, if◌then◌else◌};
+ghost use Rattle.beep_octets.specs.Numbers.{numbers_32};
 ghost use Rattle.beep_history.specs.declared.limits.TheConstants.{MAX_REQUESTS};
 ghost use Rattle.beep_exchange.specs.Given.{MayTake, after_taken, next_asked_now, first_asked_now, first_owed_now};
 ghost use Rattle.beep_outbox.specs.declared.outbox.TheConstants.{MAX_UNLIMITED};
@@ -156,7 +157,7 @@ impl Channel {
     /// that follows. It takes no memory.
     pub fn take(&mut self, buf: &mut [u8]) -> Option<Part>
         requires some { 0 < length buf.old }
-        requires fits { length buf.old < 2 ^ 32 }
+        requires fits { length buf.old < numbers_32 }
         ensures some { IfSome result (λ part.
             TakesPart part self.old.held self.new.held buf.old buf.new) }
         ensures none { IfNone result (self.old.held.inbox ≡ []) }

@@ -81,7 +81,7 @@ fn note(rt: &impl Abort, exchange: &mut Exchange, side: Side, head: &Head) {
             exchange.note_whole();
         }
         Side::Sent => {
-            assert!(rt; exchange.sending().is_none());
+            assert!(rt; exchange.sent.under_way().is_none());
             assert!(rt; exchange.judge_out(head).is_none());
             exchange.note_out(head);
             exchange.note_sent();

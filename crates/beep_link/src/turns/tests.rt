@@ -29,6 +29,8 @@ impl End for Echo {
 
     ghost goes = { λ _. Unit {0} };
 
+    ghost rests = { λ _. Unit {0} };
+
     ghost writes = { λ _ _ _ _ _ _. tt };
 
     ghost quiets = { λ _ _ _ _. tt };
@@ -37,7 +39,7 @@ impl End for Echo {
 
     ghost stops = { λ _ _ _ _ _ _ _. tt };
 
-    ghost spends = { λ _ _ _ _ _ _ _. tt };
+    ghost spends = { λ _ _ _ _ _ _ _ _. tt };
 
     fn gather(&mut self, out: &mut Octets) -> Result<bool, NoMemory> {
         if self.due == 0 {

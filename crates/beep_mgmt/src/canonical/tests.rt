@@ -21,8 +21,8 @@ static WRITTEN: [&[u8]; 11] = [
 ];
 
 // Each differs in one place from one of those above, and what is written of what it says; None
-// where it has no form (RFC 3080, section 2.3.1). A TAB in a value is kept (docs/DECISIONS.md, "Line
-// ends and white space in values").
+// where it has no form (RFC 3080, section 2.3.1). A TAB in a value is kept (docs/DECISIONS.md,
+// "Line ends and white space in values").
 static NEIGHBOURS: [(&[u8], Option<&[u8]>); 24] = [
     (b"<ok  />", Some(b"<ok />")),
     (b"<ok/>", Some(b"<ok />")),

@@ -1,7 +1,7 @@
 //! Texts that are made of repeated parts.
 
 use beep_octets::{NoMemory, Octets};
-use beep_text::TextError;
+use beep_text::{MAX_NAME, TextError};
 use std::alloc::Global;
 
 /// Parts, each with how often it stands.
@@ -185,10 +185,11 @@ fn digit(n: usize) -> u8 {
 const NAME_OCTETS: &[u8; 66] =
     b"ABCDEFGHIJKLMNOPQRSTUVWXYZabcdefghijklmnopqrstuvwxyz0123456789_-.:";
 
-/// A tag with an attribute whose name has 63 octets, and others whose names are longer by one of
-/// the first so many octets; then the first name again, and its end.
+/// A tag with an attribute whose name is shorter by one octet than the longest may be, and others
+/// whose names are longer by one of the first so many octets; then the first name again, and its
+/// end.
 pub(crate) fn longer_names(alloc: Global, count: usize, end: &[u8]) -> Result<Octets, NoMemory> {
-    let name = [b'b'; 63];
+    let name = [b'b'; MAX_NAME - 1];
     let mut out = Octets::new(alloc);
     out.extend(b"<a ")?;
     out.extend(&name)?;

@@ -1,10 +1,18 @@
 //! What a sender gives on its channel: lines, their end, and its close (RFC 3195, section 3.1).
-ghost use Rattle.std.specs.Prelude.{◌≡◌, slice_get, Some, true};
+ghost use Rattle.std.specs.Prelude.{◌≡◌, ◌<◌, ◌≤◌, slice_get, false, length, List, Some, true, IfOk, OnOk};
+ghost use Rattle.beep_journal.specs.Life.{is_there};
+ghost use Rattle.beep_journal.specs.Log.{Moment};
+ghost use Rattle.beep_peer.specs.Peering.{is_over};
+ghost use Rattle.prof_raw.specs.declared.line.TheConstants.{ENTRY_MAX};
 ghost use Rattle.beep_talk.specs.Plan.{PlainPlan};
 ghost use Rattle.beep_session.specs.Lawfully.{terms_of};
 ghost use Rattle.beep_session.specs.Lending.{answering_number, answering_session, duty_number, duty_session, IsSameReference};
 ghost use Rattle.beep_sender.specs.declared.sender.TheConstants.{CHANNEL, STARTED};
-ghost use Rattle.beep_steps.specs.Scripting.{KeepsScripting};
+ghost use Rattle.beep_sender.specs.Asking.{AsksOn, KeepsAsking};
+ghost use Rattle.beep_steps.specs.Desking.{AsksClose, DesksWithin};
+ghost use Rattle.beep_steps.specs.Logs.{AreTaken};
+ghost use Rattle.beep_steps.specs.Resting.{AreShort, HasRepliedAt, HoldsStill, IsAwake, IsFullAt};
+ghost use Rattle.beep_steps.specs.Scripting.{KeepsScripting, ScriptedOn};
 ghost use Rattle.beep_steps.specs.Sending.{at_next, if_closed, if_given, KeepsSending, Progress};
 
 use super::CHANNEL;
@@ -20,6 +28,15 @@ pub(super) fn close_channel(session: &mut Session) -> Result<bool, NoMemory>
         → KeepsSending plan p (if_closed result p) session.old session.new }
     ensures scripted { (plan : PlainPlan) (p : Progress) → p.asked ≡ STARTED → p.is_sent ≡ true
         → KeepsScripting plan p (if_closed result p) session.old session.new }
+    ensures asking { (plan : PlainPlan) (p : Progress) (log : List Moment)
+        (d : DesksWithin plan session.old log) → ScriptedOn plan p session.old log
+        → p.asked ≡ STARTED → p.is_sent ≡ true → AreTaken session.old
+        → AsksClose plan d.item d.before
+        → IfOk result (λ given. given ≡ true → AsksOn plan session.new log) }
+    ensures given { (plan : PlainPlan) (p : Progress) (log : List Moment)
+        (s : ScriptedOn plan p session.old log) → p.asked ≡ STARTED
+        → is_over session.old.peer ≡ false → is_there 1 s.sends.on.journal ≡ true
+        → IfOk result (λ given. given ≡ true) }
     ensures terms { terms_of session.new ≡ terms_of session.old }
 {
     if session.zero_waits() {
@@ -31,7 +48,8 @@ pub(super) fn close_channel(session: &mut Session) -> Result<bool, NoMemory>
     match channel.try_close() {
         Ok(()) => Ok(true),
         Err(CloseError::NoMemory) => Err(NoMemory),
-        Err(CloseError::Busy(_) | CloseError::TooManyAsked) => Ok(false),
+        Err(CloseError::Busy(_)) => Ok(false),
+        Err(CloseError::TooManyAsked) => Ok(false),
     }
 }
 
@@ -49,6 +67,10 @@ pub(super) fn answer_some(
     ensures scripted { (plan : PlainPlan) (p : Progress) → plan.lines ≡ lines.now
         → p.next ≡ next.old
         → KeepsScripting plan p (at_next next.new p) session.old session.new }
+    ensures asking { (plan : PlainPlan) → KeepsAsking plan session.old session.new }
+    ensures rests { IfOk result (λ given. given ≡ false → AreShort lines.now
+        → HoldsStill session.old session.new
+        × (IsAwake session.new → HasRepliedAt CHANNEL session.new)) }
     ensures terms { terms_of session.new ≡ terms_of session.old }
 {
     if !is_open(session, CHANNEL) {
@@ -99,10 +121,15 @@ fn give_lines(
         → p.next ≡ next.old → answering_number answering.old ≡ CHANNEL
         → KeepsScripting plan p (at_next next.new p)
         (answering_session answering.old).now (answering_session answering.new).now }
+    ensures asking { (plan : PlainPlan) → KeepsAsking plan
+        (answering_session answering.old).now (answering_session answering.new).now }
+    ensures rests { OnOk result (AreShort lines.now → next.new ≤ next.old
+        → next.new < length lines.now → IsFullAt (answering_number answering.old)
+        (answering_session answering.old).now (answering_session answering.new).now) }
     ensures terms { terms_of (answering_session answering.new).now
         ≡ terms_of (answering_session answering.old).now }
 {
-    for _ in *next..lines.len() {
+    while *next < lines.len() {
         let Some(line) = lines.get(*next) else {
             return Ok(());
         };
@@ -132,6 +159,11 @@ fn give_line(
         → answering_number answering.old ≡ CHANNEL
         → KeepsScripting plan p (if_given result p)
         (answering_session answering.old).now (answering_session answering.new).now }
+    ensures asking { (plan : PlainPlan) → KeepsAsking plan
+        (answering_session answering.old).now (answering_session answering.new).now }
+    ensures rests { IfOk result (λ given. given ≡ false → length line.now ≤ ENTRY_MAX
+        → IsFullAt (answering_number answering.old)
+        (answering_session answering.old).now (answering_session answering.new).now) }
     ensures terms { terms_of (answering_session answering.new).now
         ≡ terms_of (answering_session answering.old).now }
 {

@@ -4,19 +4,23 @@ ghost use Rattle.beep_journal.specs.Log.{Moment, got_all};
 ghost use Rattle.beep_talk.specs.declared.plan.Command.{Command};
 ghost use Rattle.beep_session.specs.Lawfully.{terms_of};
 ghost use Rattle.beep_link.specs.declared.ended.Stop.{Stop as StopValue};
+ghost use Rattle.beep_answering.specs.declared.settled.Settled.{Settled as SettledValue};
+ghost use Rattle.beep_steps.specs.Desking.{closes_own};
 ghost use Rattle.beep_steps.specs.Logs.{SaysNothing};
 ghost use Rattle.beep_steps.specs.Refusing.{refused_so, IsUnrefused, RefusesOn, RefusesWith, Unrefused};
 ghost use Rattle.beep_steps.specs.Sending.{StopsSending};
 
 use super::noting::{closed_early, stopped};
+use super::taking::take_all;
 use super::{CHANNEL, CLOSED, RELEASED, STARTED, Sender, UNSTARTED};
 use beep_link::Stop;
 use beep_octets::NoMemory;
 use beep_session::{ReleaseError, Settled, StartError, one_profile};
-use beep_steps::{Came, denial, hear_next, settle_message, take_part};
+use beep_steps::{Came, denial, hear_next, settle_message};
 
 impl Sender<'_> {
-    ghost use Rattle.beep_sender.specs.Sender.{plan_of, KeepsScriptingBy, KeepsSendingBy, ScriptsBy, ScriptsWaitingBy, SendsBy, SendsWaitingBy};
+    ghost use Rattle.beep_sender.specs.Asking.{AsksSettled};
+    ghost use Rattle.beep_sender.specs.Sender.{plan_of, AsksBy, AsksWaitingBy, KeepsScriptingBy, KeepsSendingBy, ScriptsBy, ScriptsWaitingBy, SendsBy, SendsWaitingBy};
 
     /// Uses all octets, unless the session ends. Each event uses one at least.
     pub(super) fn hear_all(&mut self, bytes: &[u8]) -> Result<(), Stop>
@@ -24,6 +28,8 @@ impl Sender<'_> {
             → OnOk result (SendsBy self.new (got_all bytes.now log)) }
         ensures scripted { (log : List Moment) → ScriptsBy self.old log
             → OnOk result (ScriptsBy self.new (got_all bytes.now log)) }
+        ensures asking { (log : List Moment) → AsksBy self.old log
+            → OnOk result (AsksBy self.new (got_all bytes.now log)) }
         ensures stopped { (log : List Moment) → SendsBy self.old log
             → IfErr result (λ stop.
             StopsSending (plan_of self.old) stop (got_all bytes.now log)) }
@@ -57,6 +63,8 @@ impl Sender<'_> {
             SendsBy self.new (got_all (take n bytes.now) log)) }
         ensures scripted { (log : List Moment) → ScriptsBy self.old log → IfOk result (λ n.
             ScriptsBy self.new (got_all (take n bytes.now) log)) }
+        ensures asking { (log : List Moment) → AsksBy self.old log → IfOk result (λ n.
+            AsksBy self.new (got_all (take n bytes.now) log)) }
         ensures stopped { (log : List Moment) → SendsBy self.old log
             → IfErr result (λ stop.
             StopsSending (plan_of self.old) stop (got_all bytes.now log)) }
@@ -79,7 +87,7 @@ impl Sender<'_> {
         match came {
             Came::More => Ok(count),
             Came::Arrived(number) => {
-                let _ = take_part(&mut self.session, number, self.taken.as_mut_slice());
+                take_all(&mut self.session, number, self.taken.as_mut_slice());
                 Ok(count)
             }
             Came::Zero => match self.settle() {
@@ -95,6 +103,8 @@ impl Sender<'_> {
             → OnOk result (SendsBy self.new log) }
         ensures scripted { (log : List Moment) → ScriptsWaitingBy self.old log
             → OnOk result (ScriptsBy self.new log) }
+        ensures asking { (log : List Moment) → AsksWaitingBy self.old log
+            → OnOk result (AsksBy self.new log) }
         ensures stopped { (log : List Moment) (octets : List ℕ)
             → SendsWaitingBy self.old log → IfErr result (λ stop.
             StopsSending (plan_of self.old) stop (got_all octets log)) }
@@ -120,6 +130,9 @@ impl Sender<'_> {
     fn follow(&mut self, settled: Settled) -> Result<(), Stop>
         ensures sends { KeepsSendingBy self.old self.new }
         ensures scripted { KeepsScriptingBy self.old self.new }
+        ensures asking { (log : List Moment) → ScriptsBy self.old log
+            → AsksSettled (plan_of self.old) self.old.asked settled self.old.session log
+            → OnOk result (AsksBy self.new log) }
         ensures closing { self.new.is_closing ≡ self.old.is_closing }
         ensures stopped { IfErr result (λ stop. SaysNothing stop) }
         ensures unrefused { OnOk result
@@ -161,6 +174,9 @@ impl Sender<'_> {
     fn start(&mut self) -> Result<(), NoMemory>
         ensures sends { KeepsSendingBy self.old self.new }
         ensures scripted { KeepsScriptingBy self.old self.new }
+        ensures asking { (log : List Moment) → ScriptsBy self.old log
+            → AsksSettled (plan_of self.old) self.old.asked SettledValue.Greeted
+            self.old.session log → OnOk result (AsksBy self.new log) }
         ensures closing { self.new.is_closing ≡ self.old.is_closing }
         ensures plan { plan_of self.new ≡ plan_of self.old }
     {
@@ -189,9 +205,13 @@ impl Sender<'_> {
         }
     }
 
+    /// Asks for the release, once the close of the channel was granted.
     fn release(&mut self) -> Result<(), NoMemory>
         ensures sends { KeepsSendingBy self.old self.new }
         ensures scripted { KeepsScriptingBy self.old self.new }
+        ensures asking { (settled : SettledValue) (log : List Moment) → ScriptsBy self.old log
+            → AsksSettled (plan_of self.old) self.old.asked settled self.old.session log
+            → closes_own settled ≡ true → OnOk result (AsksBy self.new log) }
         ensures closing { self.new.is_closing ≡ self.old.is_closing }
         ensures plan { plan_of self.new ≡ plan_of self.old }
     {

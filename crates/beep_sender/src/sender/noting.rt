@@ -1,5 +1,5 @@
 //! What a sender notes of a frame that goes out, and of a message that was settled.
-ghost use Rattle.std.specs.Prelude.{◌≡◌, ◌==◌, ◌&&◌, ◌||◌, IfErr};
+ghost use Rattle.std.specs.Prelude.{◌≡◌, ◌==◌, ◌&&◌, ◌||◌, IfErr, IfOk, Ok};
 ghost use Rattle.beep_frame.specs.Frame.{is_nul as is_nul_kind};
 ghost use Rattle.beep_speaking.specs.declared.emit.Emit.{Emit as EmitValue};
 ghost use Rattle.beep_link.specs.declared.ended.Stop.{Stop as StopValue};
@@ -60,7 +60,8 @@ pub(super) fn closed_early(is_closing: bool, settled: &Settled) -> Option<u16>
 
 /// What stops a session where memory is wanting.
 pub(super) fn stopped(asked: Result<(), NoMemory>) -> Result<(), Stop>
-    ensures { IfErr result (λ stop. stop ≡ StopValue.NoMemory) }
+    ensures err { IfErr result (λ stop. stop ≡ StopValue.NoMemory) }
+    ensures ok { IfOk result (λ unit. asked ≡ Ok unit) }
 {
     match asked {
         Ok(()) => Ok(()),

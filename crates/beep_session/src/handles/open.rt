@@ -1,5 +1,5 @@
 //! What a program does with a channel that it holds.
-ghost use Rattle.std.specs.Prelude.{◌≡◌, ◌≢◌, ◌<◌, ◌^◌, [], ℕ, List, length, None, Some, is_some, true, false, IfSome, IfNone, IfOk, IfErr, OnOk, OnErr};
+ghost use Rattle.std.specs.Prelude.{◌≡◌, ◌≢◌, ◌<◌, [], ℕ, List, length, None, Some, is_some, true, false, IfSome, IfNone, IfOk, IfErr, OnOk, OnErr};
 ghost use Rattle.beep_frame.specs.declared.kind.Kind.{Kind as KindValue};
 ghost use Rattle.beep_frame.specs.Frame.{is_msg};
 ghost use Rattle.beep_frame.specs.Modulo.{modulo_2_64};
@@ -27,6 +27,7 @@ use beep_peer::CloseError;
 
 impl<'s> OpenChannel<'s> {
     ghost use Rattle.std.specs.Borrow.{sem, RestsIfNone};
+    ghost use Rattle.beep_octets.specs.Numbers.{numbers_32};
     ghost use Rattle.beep_session.specs.contracts.session.Session.{the_row};
     ghost use Rattle.beep_session.specs.Lending.{IsSameReference, open_session, open_number, closing_session, closing_number, duty_session, duty_number, has_begun};
 
@@ -61,7 +62,7 @@ impl<'s> OpenChannel<'s> {
     /// where that follows. It takes no memory.
     pub fn take(&mut self, buf: &mut [u8]) -> Option<Part>
         requires some { 0 < length buf.old }
-        requires fits { length buf.old < 2 ^ 32 }
+        requires fits { length buf.old < numbers_32 }
         ensures same { ((open_session self.new).ghost_name ≡ (open_session self.old).ghost_name)
             × (open_number self.new ≡ open_number self.old) }
         ensures some { IfSome result (λ part. Takes (open_number self.old) part buf.new
@@ -143,6 +144,7 @@ impl<'s> OpenChannel<'s> {
 
 impl<'s> ClosingChannel<'s> {
     ghost use Rattle.std.specs.Borrow.{sem, RestsIfNone};
+    ghost use Rattle.beep_octets.specs.Numbers.{numbers_32};
     ghost use Rattle.beep_session.specs.contracts.session.Session.{the_row};
     ghost use Rattle.beep_session.specs.Lending.{closing_session, closing_number, duty_session, duty_number, has_begun};
 
@@ -150,7 +152,7 @@ impl<'s> ClosingChannel<'s> {
     /// where that follows. It takes no memory.
     pub fn take(&mut self, buf: &mut [u8]) -> Option<Part>
         requires some { 0 < length buf.old }
-        requires fits { length buf.old < 2 ^ 32 }
+        requires fits { length buf.old < numbers_32 }
         ensures same { ((closing_session self.new).ghost_name
             ≡ (closing_session self.old).ghost_name)
             × (closing_number self.new ≡ closing_number self.old) }

@@ -8,7 +8,7 @@ ghost use Rattle.beep_mgmt.specs.Form.{form_of, plain_profile, start as start_fo
 ghost use Rattle.beep_mgmt.specs.Message.{message_text};
 ghost use Rattle.beep_mgmt.specs.Written.{is_writable, comes_back};
 ghost use Rattle.beep_decide.specs.Numbers.{may_start};
-ghost use Rattle.beep_decide.specs.declared.limits.TheConstants.{MAX_CHANNELS};
+ghost use Rattle.beep_turns.specs.declared.turns.TheConstants.{MAX_CHANNELS};
 ghost use Rattle.beep_lives.specs.Lives.{live_at};
 ghost use Rattle.beep_standing.specs.Standing.{Marks};
 ghost use Rattle.beep_management.specs.Managed.{number_started};

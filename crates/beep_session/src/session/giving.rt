@@ -1,5 +1,5 @@
 //! What a program gives and takes on a live channel (RFC 3080, section 2.1).
-ghost use Rattle.std.specs.Prelude.{◌≡◌, ◌≢◌, ◌<◌, ◌^◌, [], ℕ, List, length, None, Some, true, false, is_some, IfSome, IfNone, IfOk, IfErr, OnOk, OnErr};
+ghost use Rattle.std.specs.Prelude.{◌≡◌, ◌≢◌, ◌<◌, [], ℕ, List, length, None, Some, true, false, is_some, IfSome, IfNone, IfOk, IfErr, OnOk, OnErr};
 ghost use Rattle.beep_frame.specs.declared.kind.Kind.{Kind as KindValue};
 ghost use Rattle.beep_frame.specs.Frame.{is_msg, is_ans, is_reply};
 ghost use Rattle.beep_frame.specs.Modulo.{modulo_2_64};
@@ -24,6 +24,7 @@ use beep_inbox::Part;
 use beep_outbox::GiveError;
 
 impl Session {
+    ghost use Rattle.beep_octets.specs.Numbers.{numbers_32};
     ghost use Rattle.beep_session.specs.Lawfully.{KeepsUpright, terms_of};
     ghost use Rattle.beep_session.specs.Channels.{IsOpen, is_closing, next_answer, IsStill, Gives, Takes};
 
@@ -121,7 +122,7 @@ impl Session {
     pub(crate) fn take(&mut self, n: u32, buf: &mut [u8]) -> Option<Part>
         requires open { IsOpen n self.old }
         requires some { 0 < length buf.old }
-        requires fits { length buf.old < 2 ^ 32 }
+        requires fits { length buf.old < numbers_32 }
         ensures some { IfSome result (λ part. Takes n part buf.new self.old self.new) }
         ensures upright { KeepsUpright self.old self.new }
         ensures stuck { IfSome result (λ part.

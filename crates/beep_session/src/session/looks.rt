@@ -1,4 +1,4 @@
-//! What a session tells of itself.
+//! What a session answers of itself.
 ghost use Rattle.std.specs.Prelude.{◌≡◌, ◌↔◌, ◌==◌, ◌&&◌, ◌||◌, not, ◌+◌, ◌<◌, true, false, ℕ, List, length, IfSome, is_some, slice_get};
 ghost use Rattle.std.specs.List.{list_any};
 ghost use Rattle.beep_frame.specs.declared.head.Head.{Head as HeadValue};

@@ -6,13 +6,14 @@ mod rows;
 mod world;
 
 use super::Session;
-use crate::limits::{Limits, MAX_PIECE};
+use crate::limits::Limits;
 use crate::listing::is_uri;
 use beep_answering::{Offers, Settled};
 use beep_chars::Text;
 use beep_decide::Offer;
 use beep_journal::Role;
 use beep_seq::{MAX_WINDOW, MIN_WINDOW};
+use beep_settings::MAX_PIECE;
 use std::alloc::Global;
 use std::test::Fail;
 

@@ -36,8 +36,8 @@ impl End {
         Ok(())
     }
 
-    /// Notes an event of a feed that used so many octets and left so many, and tells whether there
-    /// may be another one.
+    /// Notes an event of a feed that used so many octets and left so many, and answers whether
+    /// there may be another one.
     fn came(&mut self, event: Event, used: usize, left: usize) -> Result<bool, Fail> {
         match event {
             Event::More => {

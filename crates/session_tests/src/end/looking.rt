@@ -1,4 +1,4 @@
-//! What a session tells of itself.
+//! What a session answers of itself.
 
 use super::{End, number_in};
 use crate::names::push_number;
@@ -6,7 +6,7 @@ use beep_session::Duty;
 use std::test::Fail;
 
 impl End {
-    /// Notes what the session tells: `open NUMBER` and `closing NUMBER`, whether it lends that
+    /// Notes what the session answers: `open NUMBER` and `closing NUMBER`, whether it lends that
     /// channel so, `owed NUMBER` what is owed there, `live NUMBER`, `may`, `over`, `untaken` and
     /// `between` a yes or no, `left` a number.
     pub(super) fn looks(&mut self, line: &str) -> Result<bool, Fail> {

@@ -27,7 +27,7 @@ impl End {
     }
 
     /// Notes the header or the SEQ that goes out, with the code of an ERR of channel zero, and
-    /// tells whether there was one. `may_emit` has to know it before.
+    /// answers whether there was one. `may_emit` has to know it before.
     fn say(&mut self, most: u32) -> Result<bool, Fail> {
         self.out.clear();
         self.out.reserve(ROOM)?;

@@ -6,7 +6,7 @@ use std::test::Fail;
 // The octets of channel zero are those of traps/zero.rt.
 static ENDS: [Trap; 15] = [
     // After a broken rule nothing goes out, whether a SEQ is due, a frame is queued, or both. The
-    // header has 15 octets, and `left` tells them.
+    // header has 15 octets, and `left` answers them.
     Trap(
         8192,
         "opens\nmay = yes\nframe MSG 3 0 . 0 2 hi = NoSuchChannel header\nleft = 15\nmay = no\n\

@@ -17,7 +17,7 @@ static LIVES: [Trap; 18] = [
          take 1 = RPY 0 hi .\nclose 1 = ok\nopen 1 = no\nclosing 1 = yes\n\
          say = MSG 0 2 . 384 71\nsays RPY 2 <ok /> = closed 1\nlive 1 = no",
     ),
-    // So with a late ERR, whose code is told; and with a close of the new life that waits.
+    // So with a late ERR, whose code is answered; and with a close of the new life that waits.
     Trap(
         4096,
         "opens\nbegins 1\nclose 1 = ok\nall\ncloses 1 = peer closes 1 200\nall\nbegins 1\n\
@@ -84,8 +84,8 @@ static LIVES: [Trap; 18] = [
         4096,
         "opens\nstarts 1 = peer starts 1 0\nframe MSG 1 0 . 0 2 hi = NoSuchChannel header",
     ),
-    // A new life has windows of 4,096 octets, whatever was told in the one before. A SEQ to a
-    // number without a life is ignored.
+    // A new life has windows of 4,096 octets, whatever was advertised in the one before. A SEQ to
+    // a number without a life is ignored.
     Trap(
         4096,
         "opens\nbegins 1\nseq SEQ 1 0 60000 = more\ncloses 1 = peer closes 1 200\nall\n\

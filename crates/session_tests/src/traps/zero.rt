@@ -56,7 +56,7 @@ static ANSWERS: [Trap; 16] = [
          asks <start number='1'><profile uri='http://beep.example/pair'>y</profile></start> \
          = peer starts 1 0",
     ),
-    // A close tells its code; without a number it is of 0.
+    // The code of a close is answered; without a number it is of 0.
     Trap(
         4096,
         "opens\nbegins 1\nasks <close number='1' code='421' /> = peer closes 1 421\n\

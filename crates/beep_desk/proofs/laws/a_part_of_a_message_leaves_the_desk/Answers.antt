@@ -1,5 +1,5 @@
-use Rattle.beep_desk.proofs.StepLemmas.{quiet-step}
+use Rattle.beep_desk.proofs.StepLemmas.{part-step}
 use Rattle.beep_desk.proofs.laws.a_part_of_a_message_leaves_the_desk.Goals as goal
 
 pub returns : goal.returns
-returns c = quiet-step
+returns c = part-step

@@ -1,9 +1,9 @@
 -- Each write changes nothing of the reads that the log shows, and what is written is what was gathered.
-use Rattle.std.proofs.Common.{◌∙◌, [], sym, subst}
+use Rattle.std.proofs.Common.{◌∙◌, [], rules, sym, subst}
 use Rattle.beep_link.specs.declared.ended.Ended.{Ended}
 use Rattle.beep_link.proofs.KeepLemmas.{SameReads-wrote, SameReads-trans, Keeps-wrote}
 use Rattle.beep_link.specs.Causes.{WithText}
-use Rattle.beep_link.proofs.StandLemmas.{wrote-stands, front-tells, grew-more, told-map, text-map}
+use Rattle.beep_link.proofs.StandLemmas.{wrote-stands, front-tells, grew-more, known-then, told-map, text-map}
 use Rattle.beep_link.proofs.say.say.Goals as goal
 
 pub returns-in_default-clause-stopped : goal.returns-in_default-clause-stopped
@@ -25,11 +25,19 @@ returns-then-not-is_more-clause-terms g c = c.gather_some.ensures.terms ∙ c.lo
 pub returns-clause-terms : goal.returns-clause-terms
 returns-clause-terms g c = c.loop.invariant.terms
 
-pub returns-clause-empty : goal.returns-clause-empty
-returns-clause-empty g c = c.loop.invariant.empty
+pub returns-clause-stopped : goal.returns-clause-stopped
+returns-clause-stopped g c before now s =
+    let E = g.E.End in
+    told-map _ _ (λ log h. text-map before now _ (E.tells (E.terms c.args.end.now) Ended.NoMemory log)
+    (λ text k. subst (λ t. E.tells t Ended.NoMemory log text) c.loop.invariant.terms
+    (g.met.E.End.stops c.loop.end log [] text Ended.NoMemory tt k)) h) _ (c.loop.invariant.stands before now s)
 
-pub returns-clause-said : goal.returns-clause-said
-returns-clause-said g c before now s = c.loop.invariant.stands before now s
+pub returns-then-not-is_more-clause-rested : goal.returns-then-not-is_more-clause-rested
+returns-then-not-is_more-clause-rested g c before now s =
+    let E = g.E.End in
+    let w = c.in-Ok-written.ensures in
+    known-then (λ log. WithText before now (E.stands c.loop.end log [])) (E.rests c.gather_some.new.end) (λ log h. c.in-Ok.ensures.rested log h.0 (subst (λ octets. E.stands c.loop.end log octets h.0) (sym c.loop.invariant.empty) h.2) (search rules))
+    (g.W.Wires.state c.loop.wires c.args.link).log (g.W.Wires.state c.write_link-written.new.wires c.args.link).log w.wrote.more w.wrote.logs (c.loop.invariant.stands before now s)
 
 pub returns-in-Err-clause-stopped : goal.returns-in-Err-clause-stopped
 returns-in-Err-clause-stopped g c before now s =

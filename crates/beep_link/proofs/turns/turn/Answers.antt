@@ -35,10 +35,11 @@ returns-in-Some-is_spent-clause-stopped g c before s =
     let now = (g.O.Sink.state c.args.output.now).written in
     let t : IsOfReads c.in-Some-is_spent.ended = spent-is c.in-Some-is_spent.ended c.args.reads c.args.left.now c.in-Some-is_spent.ensures.some in
     let h : WhereKnown (λ log. WithText before now (E.tells (E.terms c.args.end.now) c.in-Some-is_spent.ended log)) (g.W.Wires.state c.say.new.wires c.args.link).log =
-    told-map (λ log. WithText before now (E.stands c.say.new.end log [])) (λ log. WithText before now (E.tells (E.terms c.args.end.now) c.in-Some-is_spent.ended log))
+    told-map (λ log. WithText before now (E.stands c.say.new.end log []) × E.rests c.say.new.end) (λ log. WithText before now (E.tells (E.terms c.args.end.now) c.in-Some-is_spent.ended log))
     (λ log h. text-map before now (E.stands c.say.new.end log []) (E.tells (E.terms c.args.end.now) c.in-Some-is_spent.ended log)
-    (λ text k. subst (λ e. E.tells e c.in-Some-is_spent.ended log text) c.say.ensures.terms (g.met.E.End.spends c.say.new.end log text c.in-Some-is_spent.ended t (search rules) k)) h)
-    (g.W.Wires.state c.say.new.wires c.args.link).log (c.in_ok-say.ensures.said before now s) in
+    (λ text k. subst (λ e. E.tells e c.in-Some-is_spent.ended log text) c.say.ensures.terms (g.met.E.End.spends c.say.new.end log text c.in-Some-is_spent.ended t (search rules) h.1 k)) h.0)
+    (g.W.Wires.state c.say.new.wires c.args.link).log
+    (told-pair _ _ (g.W.Wires.state c.say.new.wires c.args.link).log (c.in_ok-say.ensures.said before now s) (c.in_ok-say.ensures.rested before now s)) in
     search (rules, h)
 
 pub returns-in-Ok-clause-stands : goal.returns-in-Ok-clause-stands
@@ -121,9 +122,10 @@ returns-in-Ok-clause-waits g c before s r =
     let logged : Logs (g.W.Wires.state c.say.new.wires c.args.link).log (g.W.Wires.state c.read_once.new.wires c.args.link).log (read (take c.in-Ok-Bytes.count c.read_once.new.coming) ∷ []) = search rules in
     entered (λ log. ((text : List ℕ) × E.tells (E.terms c.args.end.now) (Ended.Idle 0) log text) × ReadsWhere (λ log. (text : List ℕ) × E.tells (E.terms c.args.end.now) (Ended.Idle 0) log text) log) (ReadsWhere (λ log. (text : List ℕ) × E.tells (E.terms c.args.end.now) (Ended.Idle 0) log text)) (read (take c.in-Ok-Bytes.count c.read_once.new.coming))
     (λ log h. h) _ _ logged (told-pair _ _ _
-    (told-map (λ log. WithText before now (E.stands c.say.new.end log [])) (λ log. (text : List ℕ) × E.tells (E.terms c.args.end.now) (Ended.Idle 0) log text)
-    (λ log h. (h.0, subst (λ e. E.tells e (Ended.Idle 0) log h.0) c.say.ensures.terms (g.met.E.End.spends c.say.new.end log h.0 (Ended.Idle 0) tt (search rules) h.2)))
-    (g.W.Wires.state c.say.new.wires c.args.link).log (c.in_ok-say.ensures.said before now s)) (reads-grown _ _ _ c.say.ensures.writes r))
+    (told-map (λ log. WithText before now (E.stands c.say.new.end log []) × E.rests c.say.new.end) (λ log. (text : List ℕ) × E.tells (E.terms c.args.end.now) (Ended.Idle 0) log text)
+    (λ log h. (h.0.0, subst (λ e. E.tells e (Ended.Idle 0) log h.0.0) c.say.ensures.terms (g.met.E.End.spends c.say.new.end log h.0.0 (Ended.Idle 0) tt (search rules) h.1 h.0.2)))
+    (g.W.Wires.state c.say.new.wires c.args.link).log
+    (told-pair _ _ (g.W.Wires.state c.say.new.wires c.args.link).log (c.in_ok-say.ensures.said before now s) (c.in_ok-say.ensures.rested before now s))) (reads-grown _ _ _ c.say.ensures.writes r))
 
 pub returns-in-Err-hear-clause-waits : goal.returns-in-Err-hear-clause-waits
 returns-in-Err-hear-clause-waits g c before s r =
@@ -132,9 +134,10 @@ returns-in-Err-hear-clause-waits g c before s r =
     let logged : Logs (g.W.Wires.state c.say.new.wires c.args.link).log (g.W.Wires.state c.read_once.new.wires c.args.link).log (read (take c.in-Ok-Bytes.count c.read_once.new.coming) ∷ []) = search rules in
     entered (λ log. ((text : List ℕ) × E.tells (E.terms c.args.end.now) (Ended.Idle 0) log text) × ReadsWhere (λ log. (text : List ℕ) × E.tells (E.terms c.args.end.now) (Ended.Idle 0) log text) log) (ReadsWhere (λ log. (text : List ℕ) × E.tells (E.terms c.args.end.now) (Ended.Idle 0) log text)) (read (take c.in-Ok-Bytes.count c.read_once.new.coming))
     (λ log h. h) _ _ logged (told-pair _ _ _
-    (told-map (λ log. WithText before now (E.stands c.say.new.end log [])) (λ log. (text : List ℕ) × E.tells (E.terms c.args.end.now) (Ended.Idle 0) log text)
-    (λ log h. (h.0, subst (λ e. E.tells e (Ended.Idle 0) log h.0) c.say.ensures.terms (g.met.E.End.spends c.say.new.end log h.0 (Ended.Idle 0) tt (search rules) h.2)))
-    (g.W.Wires.state c.say.new.wires c.args.link).log (c.in_ok-say.ensures.said before now s)) (reads-grown _ _ _ c.say.ensures.writes r))
+    (told-map (λ log. WithText before now (E.stands c.say.new.end log []) × E.rests c.say.new.end) (λ log. (text : List ℕ) × E.tells (E.terms c.args.end.now) (Ended.Idle 0) log text)
+    (λ log h. (h.0.0, subst (λ e. E.tells e (Ended.Idle 0) log h.0.0) c.say.ensures.terms (g.met.E.End.spends c.say.new.end log h.0.0 (Ended.Idle 0) tt (search rules) h.1 h.0.2)))
+    (g.W.Wires.state c.say.new.wires c.args.link).log
+    (told-pair _ _ (g.W.Wires.state c.say.new.wires c.args.link).log (c.in_ok-say.ensures.said before now s) (c.in_ok-say.ensures.rested before now s))) (reads-grown _ _ _ c.say.ensures.writes r))
 
 pub returns-in-Ok-Quiet-clause-waits : goal.returns-in-Ok-Quiet-clause-waits
 returns-in-Ok-Quiet-clause-waits g c before s r =
@@ -143,9 +146,10 @@ returns-in-Ok-Quiet-clause-waits g c before s r =
     let logged : Logs (g.W.Wires.state c.say.new.wires c.args.link).log (g.W.Wires.state c.read_once.new.wires c.args.link).log (quiet ∷ []) = search rules in
     entered (λ log. ((text : List ℕ) × E.tells (E.terms c.args.end.now) (Ended.Idle 0) log text) × ReadsWhere (λ log. (text : List ℕ) × E.tells (E.terms c.args.end.now) (Ended.Idle 0) log text) log) (ReadsWhere (λ log. (text : List ℕ) × E.tells (E.terms c.args.end.now) (Ended.Idle 0) log text)) quiet
     (λ log h. h) _ _ logged (told-pair _ _ _
-    (told-map (λ log. WithText before now (E.stands c.say.new.end log [])) (λ log. (text : List ℕ) × E.tells (E.terms c.args.end.now) (Ended.Idle 0) log text)
-    (λ log h. (h.0, subst (λ e. E.tells e (Ended.Idle 0) log h.0) c.say.ensures.terms (g.met.E.End.spends c.say.new.end log h.0 (Ended.Idle 0) tt (search rules) h.2)))
-    (g.W.Wires.state c.say.new.wires c.args.link).log (c.in_ok-say.ensures.said before now s)) (reads-grown _ _ _ c.say.ensures.writes r))
+    (told-map (λ log. WithText before now (E.stands c.say.new.end log []) × E.rests c.say.new.end) (λ log. (text : List ℕ) × E.tells (E.terms c.args.end.now) (Ended.Idle 0) log text)
+    (λ log h. (h.0.0, subst (λ e. E.tells e (Ended.Idle 0) log h.0.0) c.say.ensures.terms (g.met.E.End.spends c.say.new.end log h.0.0 (Ended.Idle 0) tt (search rules) h.1 h.0.2)))
+    (g.W.Wires.state c.say.new.wires c.args.link).log
+    (told-pair _ _ (g.W.Wires.state c.say.new.wires c.args.link).log (c.in_ok-say.ensures.said before now s) (c.in_ok-say.ensures.rested before now s))) (reads-grown _ _ _ c.say.ensures.writes r))
 
 pub returns-in-Ok-End-clause-waits : goal.returns-in-Ok-End-clause-waits
 returns-in-Ok-End-clause-waits g c before s r =
@@ -154,9 +158,10 @@ returns-in-Ok-End-clause-waits g c before s r =
     let logged : Logs (g.W.Wires.state c.say.new.wires c.args.link).log (g.W.Wires.state c.read_once.new.wires c.args.link).log (ended ∷ []) = search rules in
     entered (λ log. ((text : List ℕ) × E.tells (E.terms c.args.end.now) (Ended.Idle 0) log text) × ReadsWhere (λ log. (text : List ℕ) × E.tells (E.terms c.args.end.now) (Ended.Idle 0) log text) log) (ReadsWhere (λ log. (text : List ℕ) × E.tells (E.terms c.args.end.now) (Ended.Idle 0) log text)) ended
     (λ log h. h) _ _ logged (told-pair _ _ _
-    (told-map (λ log. WithText before now (E.stands c.say.new.end log [])) (λ log. (text : List ℕ) × E.tells (E.terms c.args.end.now) (Ended.Idle 0) log text)
-    (λ log h. (h.0, subst (λ e. E.tells e (Ended.Idle 0) log h.0) c.say.ensures.terms (g.met.E.End.spends c.say.new.end log h.0 (Ended.Idle 0) tt (search rules) h.2)))
-    (g.W.Wires.state c.say.new.wires c.args.link).log (c.in_ok-say.ensures.said before now s)) (reads-grown _ _ _ c.say.ensures.writes r))
+    (told-map (λ log. WithText before now (E.stands c.say.new.end log []) × E.rests c.say.new.end) (λ log. (text : List ℕ) × E.tells (E.terms c.args.end.now) (Ended.Idle 0) log text)
+    (λ log h. (h.0.0, subst (λ e. E.tells e (Ended.Idle 0) log h.0.0) c.say.ensures.terms (g.met.E.End.spends c.say.new.end log h.0.0 (Ended.Idle 0) tt (search rules) h.1 h.0.2)))
+    (g.W.Wires.state c.say.new.wires c.args.link).log
+    (told-pair _ _ (g.W.Wires.state c.say.new.wires c.args.link).log (c.in_ok-say.ensures.said before now s) (c.in_ok-say.ensures.rested before now s))) (reads-grown _ _ _ c.say.ensures.writes r))
 
 pub returns-in-Err-clause-waits : goal.returns-in-Err-clause-waits
 returns-in-Err-clause-waits g c before s r =

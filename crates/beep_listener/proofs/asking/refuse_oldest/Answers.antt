@@ -21,6 +21,11 @@ use Rattle.beep_steps.proofs.SpeakCalls.{same-speaking, still-speaking}
 use Rattle.beep_steps.proofs.SpeakGives.{begun-speaking, gone-speaking}
 use Rattle.beep_steps.specs.Desking.{DesksOn}
 use Rattle.beep_listener.proofs.SpeakingLemmas.{gone-desk, rest-desk}
+use Rattle.std.specs.Prelude.{◌≢◌, length}
+use Rattle.beep_outbox.specs.declared.give_error.GiveError.{GiveError}
+use Rattle.beep_steps.specs.Resting.{HasRepliedAt, HoldsStill, IsAwake}
+use Rattle.beep_steps.proofs.OnLemmas.{ok-map}
+use Rattle.beep_steps.proofs.RestCalls.{full-replied, none-owed, none-there, still-none, still-replied, unchanged-still}
 use Rattle.beep_listener.proofs.asking.refuse_oldest.Goals as goal
 
 pub returns-in-Ok : goal.returns-in-Ok
@@ -50,6 +55,7 @@ returns-in-Ok c =
           let k : DesksOn plan c.refuse.follows.lender-at-none log = gone-desk plan old c.in-Some-Fresh.owed.session.now c.refuse.follows.lender-at-none (ap (λ (d : Duty). (duty_session d).now) (sym c.in-Some-Fresh.field-0-is) ∙ c.in-Some-Fresh.ensures.same.0) c.in-Some-Fresh.owed.at (above-zero c.in-Some-Fresh.owed.at (positive c.in-Some-Fresh.owed.at c.in-Some-Fresh.owed.open.above)) Kind.Err c.args.refusal.now c.refuse.result c.in-Ok.field-0 c.in-Ok.is c.refuse.follows.holds-at-none log d in
           let g : (x : Held) → x ≡ c.refuse.follows.lender-at-none → DesksOn plan x log = λ x e. subst (λ (y : Held). DesksOn plan y log) (sym e) k in
           g _ (search rules);
+      rests = λ small e. absurd (let h : true ≡ false = e in cc);
     }
 
 pub returns-in-Err : goal.returns-in-Err
@@ -77,6 +83,21 @@ returns-in-Err c =
           let k : DesksOn plan c.in-Err._owed.session.now log = rest-desk plan old c.in-Some-Fresh.owed.session.now c.in-Err._owed.session.now (ap (λ (d : Duty). (duty_session d).now) (sym c.in-Some-Fresh.field-0-is) ∙ c.in-Some-Fresh.ensures.same.0) c.in-Err.ensures.same.0 c.in-Err.ensures.upright log d in
           let g : (x : Held) → x ≡ c.in-Err._owed.session.now → DesksOn plan x log = λ x e. subst (λ (y : Held). DesksOn plan y log) (sym e) k in
           g _ (search rules);
+      rests = λ small.
+          let mid = c.in-Some-Fresh.owed.session.now in
+          let new = c.in-Err._owed.session.now in
+          let same : mid ≡ old = ap (λ (d : Duty). (duty_session d).now) (sym c.in-Some-Fresh.field-0-is) ∙ c.in-Some-Fresh.ensures.same.0 in
+          let number : c.in-Some-Fresh.owed.at ≡ c.args.number = ap duty_number (sym c.in-Some-Fresh.field-0-is) ∙ c.in-Some-Fresh.ensures.same.1 in
+          let still : HoldsStill mid new = unchanged-still mid new c.in-Err.ensures.same.0.peer in
+          let k : c.in-Err.error ≢ GiveError.NoMemory → HoldsStill old new × (IsAwake new → (c.args.number == 0) ≡ false → HasRepliedAt c.args.number new) =
+          λ other. (
+            subst (λ (x : Held). HoldsStill x new) same still,
+            λ awake above. subst (λ n. HasRepliedAt n new) number
+                (still-replied mid new still c.in-Some-Fresh.owed.at (full-replied c.in-Some-Fresh.owed.at mid (length c.args.refusal.now) c.in-Err.error (c.in-Err.ensures.refused other) small)),
+          ) in
+          let g : c.in-Err.error ≢ GiveError.NoMemory → (x : Held) → x ≡ new → HoldsStill old x × (IsAwake x → (c.args.number == 0) ≡ false → HasRepliedAt c.args.number x) =
+          λ other x e. subst (λ (y : Held). HoldsStill old y × (IsAwake y → (c.args.number == 0) ≡ false → HasRepliedAt c.args.number y)) (sym e) (k other) in
+          ok-map c.found_no_room.result (λ given. c.in-Err.error ≢ GiveError.NoMemory) _ (λ given other none. g other _ (search rules)) c.found_no_room.ensures;
     }
 
 pub returns-in-Ok-done : goal.returns-in-Ok-done
@@ -103,6 +124,7 @@ returns-in-Ok-done c =
           let k : DesksOn plan c.done.follows.lender-at-none log = gone-desk plan old c.in-Some-Begun.answering.session.now c.done.follows.lender-at-none (ap (λ (d : Duty). (duty_session d).now) (sym c.in-Some-Begun.field-0-is) ∙ c.in-Some-Begun.ensures.same.0) c.in-Some-Begun.answering.at (above-zero c.in-Some-Begun.answering.at (positive c.in-Some-Begun.answering.at c.in-Some-Begun.answering.open.above)) Kind.Nul [] c.done.result c.in-Ok-done.field-0 c.in-Ok-done.is c.done.follows.holds-at-none log d in
           let g : (x : Held) → x ≡ c.done.follows.lender-at-none → DesksOn plan x log = λ x e. subst (λ (y : Held). DesksOn plan y log) (sym e) k in
           g _ (search rules);
+      rests = λ small e. absurd (let h : true ≡ false = e in cc);
     }
 
 pub returns-in-Err-done : goal.returns-in-Err-done
@@ -129,4 +151,11 @@ returns-in-Err-done c =
           let k : DesksOn plan c.in-Err-done._answering.session.now log = rest-desk plan old c.in-Some-Begun.answering.session.now c.in-Err-done._answering.session.now (ap (λ (d : Duty). (duty_session d).now) (sym c.in-Some-Begun.field-0-is) ∙ c.in-Some-Begun.ensures.same.0) c.in-Err-done.ensures.same.0 c.in-Err-done.ensures.upright log d in
           let g : (x : Held) → x ≡ c.in-Err-done._answering.session.now → DesksOn plan x log = λ x e. subst (λ (y : Held). DesksOn plan y log) (sym e) k in
           g _ (search rules);
+      rests = λ small. tt;
     }
+
+pub returns-then-not-is_open-clause-rests : goal.returns-then-not-is_open-clause-rests
+returns-then-not-is_open-clause-rests c small none = (
+  still-none c.args.session.now,
+  λ awake above. none-there c.args.number c.args.session.now (c.is_open.ensures.shut above awake c.if-not-is_open.true),
+)

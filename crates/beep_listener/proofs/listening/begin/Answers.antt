@@ -32,7 +32,7 @@ returns-clause-stands c =
     let speaking : SpeaksOn (plan_of session) no_notes session [] = begins-speaking (plan_of session) session _ _ e.stands no_marks refl on refl refl in
     let read = subst IsGreetingRead (sym one) (c.what_a_listener_greets_with_is_read.ensures c.args.settings.now.raw_uri c.requires.fit.uri) in
     let desk : DesksOn (plan_of session) session [] = begins-desk (plan_of session) session _ _ e.stands (ap (λ os. message_text (greeting_of os)) (sym e.terms.1)) read on refl refl
-    (record { listens = refl; role = refl; offers = refl; none = subst NoneTunes (sym one) refl }) in
+    (record { role = refl; offers = refl; none = subst NoneTunes (sym one) refl }) in
     ok-four c.new-2.result _ _ _ _ _ (λ listener same b l n. (
       (
         dry-as session listener.session listener.bodies listener.lines.octets.octets s same b l,

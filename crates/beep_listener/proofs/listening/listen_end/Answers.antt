@@ -13,9 +13,12 @@ use Rattle.beep_steps.specs.Serving.{ShowsServing}
 use Rattle.beep_listener.specs.Listening.{AreLinesOf, WritesLines, is_whole, listener_plan, plan_of}
 use Rattle.beep_listener.proofs.ServingLemmas.{told-lines, unread-bounded}
 use Rattle.beep_steps.specs.Desking.{ShowsToldZero}
+use Rattle.beep_script.specs.Prompt.{IsIdle}
+use Rattle.beep_steps.specs.Resting.{IsPromptOn}
 use Rattle.beep_steps.specs.Scripting.{KeepsWholeOn}
 use Rattle.beep_steps.specs.Speaking.{ShowsTold}
 use Rattle.beep_listener.proofs.SpeakingLemmas.{none-whole, told-whole}
+use Rattle.beep_steps.proofs.EachLemmas.{each-known}
 use Rattle.beep_listener.proofs.listening.listen_end.Goals as goal
 
 pub returns-in_default-clause-told : goal.returns-in_default-clause-told
@@ -109,3 +112,24 @@ returns-clause-waits g c =
     let plan = plan_of c.in-Ok.listener.session in
     subst (λ (x : PlainPlan). WhereKnown (ReadsOnlyGoing x.terms) log) c.in-Ok.ensures.plan
     (told-map _ (ReadsOnlyGoing plan.terms) (λ l r. reads-map _ (λ before. ShowsGoing plan.terms (moments before)) (λ before t. t.1.0.0.shows) l r) log (c.run_turns.ensures.waits c.in-Ok.ensures.stands))
+
+pub returns-in_default-clause-prompt : goal.returns-in_default-clause-prompt
+returns-in_default-clause-prompt g c =
+    none-told (IsPromptOn (listener_plan c.args.settings.now)) (g.W.Wires.state c.args.wires.now c.args.link).log tt c.requires.unused.unread
+
+pub returns-clause-prompt : goal.returns-clause-prompt
+returns-clause-prompt g c =
+    let log = (g.W.Wires.state c.run_turns.new.wires c.args.link).log in
+    let plan = plan_of c.in-Ok.listener.session in
+    subst (λ (x : PlainPlan). WhereKnown (IsPromptOn x) log) c.in-Ok.ensures.plan
+    (told-map _ (IsPromptOn plan) (λ l r. reads-map _ (λ before. IsIdle plan (moments before)) (λ before t. t.1.2) l r) log (c.run_turns.ensures.waits c.in-Ok.ensures.stands))
+
+pub returns-in_default-clause-each : goal.returns-in_default-clause-each
+returns-in_default-clause-each g c =
+    each-known (listener_plan c.args.settings.now) Ended.NoMemory (g.W.Wires.state c.args.wires.now c.args.link).log (returns-in_default-clause-lawful g c) (returns-in_default-clause-scripted g c)
+    (returns-in_default-clause-prompt g c) (returns-in_default-clause-waits g c) (returns-in_default-clause-told g c)
+
+pub returns-clause-each : goal.returns-clause-each
+returns-clause-each g c =
+    each-known (listener_plan c.args.settings.now) c.run_turns.result (g.W.Wires.state c.run_turns.new.wires c.args.link).log (returns-clause-lawful g c) (returns-clause-scripted g c) (returns-clause-prompt g c)
+    (returns-clause-waits g c) (returns-clause-told g c)

@@ -31,4 +31,4 @@ returns-clause-sent g c =
     let before : Seen = seen_of (W.state c.args.recorder.now.wires.now) (W.counts c.args.recorder.now.wires.now) (W.asked c.args.recorder.now.wires.now) (W.lent c.args.recorder.now.wires.now) in
     let used : Seen = seen_of (W.state c.send_end-ended.new.wires.wires.now) (W.counts c.send_end-ended.new.wires.wires.now) (W.asked c.send_end-ended.new.wires.wires.now) (W.lent c.send_end-ended.new.wires.wires.now) in
     let after : Seen = seen_of (W.state c.shut.new.self.wires.now) (W.counts c.shut.new.self.wires.now) (W.asked c.shut.new.self.wires.now) (W.lent c.shut.new.self.wires.now) in
-    sent_all c.args.settings.now c.args.lines.now c.send_end-ended.result c.put_record.result before used after c.in-Ok.link c.in-Ok.ensures.number c.shut.ensures.shut c.send_end-ended.ensures.sent c.send_end-ended.ensures.scripted c.send_end-ended.ensures.unrefused c.send_end-ended.ensures.waits c.put_record.ensures.ended
+    sent_all c.args.settings.now c.args.lines.now c.send_end-ended.result c.put_record.result before used after c.in-Ok.link c.in-Ok.ensures.number c.shut.ensures.shut c.send_end-ended.ensures.sent c.send_end-ended.ensures.unrefused c.send_end-ended.ensures.each c.put_record.ensures.ended

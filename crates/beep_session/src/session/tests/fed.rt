@@ -4,9 +4,10 @@
 use super::world::{End, number_in};
 use super::{LIMITS, ROOM, Session, URI, a_peer_within, shown};
 use crate::event::Event;
-use crate::limits::{Limits, MAX_PIECE};
+use crate::limits::Limits;
 use beep_journal::Role;
 use beep_octets::Octets;
+use beep_settings::MAX_PIECE;
 use beep_speaking::Emit;
 use std::alloc::Global;
 use std::process::Abort;

@@ -3,7 +3,6 @@
 use super::{ROOM, Session, URI, a_peer, shown};
 use crate::event::Event;
 use crate::handles::Duty;
-use crate::limits::MAX_PIECE;
 use crate::listing::{is_uri, one_profile};
 use crate::{CloseError, ReleaseError, StartError};
 use beep_channel::AskError;
@@ -11,6 +10,7 @@ use beep_chars::Text;
 use beep_journal::Role;
 use beep_octets::Octets;
 use beep_outbox::GiveError;
+use beep_settings::MAX_PIECE;
 use beep_speaking::Emit;
 use std::alloc::Global;
 use std::test::Fail;

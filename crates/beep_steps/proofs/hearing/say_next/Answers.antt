@@ -1,12 +1,12 @@
 -- What goes out joins what is to be written.
-use Rattle.std.proofs.Common.{[], refl, ap, subst, min}
+use Rattle.std.proofs.Common.{◌≡◌, ◌∙◌, [], false, true, refl, sym, ap, subst, min}
 use Rattle.beep_journal.specs.Log.{put_all}
 use Rattle.beep_peer.specs.Peering.{is_over}
 use Rattle.beep_octets.specs.Held.{Held as Octets}
 use Rattle.beep_speaking.specs.declared.emit.Emit.{Emit}
 use Rattle.beep_peer.specs.declared.peer.Peer.{Peer}
 use Rattle.beep_peer.specs.Calls.{Speaks}
-use Rattle.beep_session.specs.declared.limits.TheConstants.{MAX_PIECE}
+use Rattle.beep_settings.specs.declared.limits.TheConstants.{MAX_PIECE}
 use Rattle.beep_steps.specs.Logs.{StandsOn}
 use Rattle.beep_steps.proofs.CallLemmas.{emits-on}
 use Rattle.beep_steps.proofs.EmitScripts.{emits-scripting}
@@ -18,8 +18,12 @@ use Rattle.beep_steps.proofs.ServeLemmas.{shows-served}
 use Rattle.beep_steps.proofs.SpeakCalls.{emits-speaking, rests-gone, serving-at}
 use Rattle.beep_steps.specs.Speaking.{AllSpoken}
 use Rattle.beep_steps.proofs.DeskAnswers.{emits-desk}
+use Rattle.beep_steps.proofs.DeskSends.{emits-asking}
+use Rattle.beep_steps.proofs.SendEnds.{emits-ends}
+use Rattle.beep_steps.specs.Sending.{went_by}
 use Rattle.beep_steps.proofs.DeskCalls.{one-journal}
 use Rattle.beep_steps.proofs.RefusesLemmas.{spoke-unrefused}
+use Rattle.beep_steps.proofs.RestCalls.{emits-rests}
 use Rattle.beep_steps.proofs.hearing.say_next.Goals as goal
 
 pub returns-clause-said : goal.returns-clause-said
@@ -101,3 +105,34 @@ returns-clause-desk c plan notes log served s d =
     (subst (AllSpoken notes) (one-journal old (put_all c.args.out.now.octets log) s.on d.on) s.noted.all) (min MAX_PIECE old.limits.piece) c.emit.result (is_over old.peer) refl
     c.emit.ensures.lawful c.emit.ensures.framed c.emit.ensures.speaks c.emit.ensures.told c.emit.ensures.stuck
     (λ e. let r = c.emit.ensures.over e in (r.0, r.1, ap (λ (o : Octets). o.octets) r.2))
+
+pub returns-then-zero_waits-clause-rests : goal.returns-then-zero_waits-clause-rests
+returns-then-zero_waits-clause-rests c log s awake =
+    absurd (let h : true ≡ false = sym c.if-zero_waits.true ∙ c.zero_waits.ensures ∙ awake.settled in cc)
+
+pub returns-clause-rests : goal.returns-clause-rests
+returns-clause-rests c log s =
+    let old = c.args.session.now in
+    emits-rests c.emit.result old c.emit.new.self c.args.out.now.octets c.emit.new.out.octets (min MAX_PIECE old.limits.piece) (put_all c.args.out.now.octets log) s (is_over old.peer) refl
+    c.emit.ensures.turn (λ fed rest journal given taken going is. c.emit.ensures.speaks fed rest journal given taken going is) (λ e. (c.emit.ensures.over e).1)
+
+pub returns-then-zero_waits-clause-asking : goal.returns-then-zero_waits-clause-asking
+returns-then-zero_waits-clause-asking c plan p log x d = d
+
+pub returns-clause-asking : goal.returns-clause-asking
+returns-clause-asking c plan p log x d =
+    let old = c.args.session.now in
+    let new = c.emit.new.self in
+    emits-asking plan (went_by c.emit.result p) old new c.args.out.now.octets c.emit.new.out.octets log d c.emit.ensures.same (returns-clause-scripted c plan p log x) c.emit.ensures.still
+    (min MAX_PIECE old.limits.piece) c.emit.result (is_over old.peer) refl
+    c.emit.ensures.lawful c.emit.ensures.framed c.emit.ensures.speaks c.emit.ensures.told c.emit.ensures.stuck
+    (λ e. let r = c.emit.ensures.over e in (r.0, r.1, ap (λ (o : Octets). o.octets) r.2))
+
+pub returns-then-zero_waits-clause-ends : goal.returns-then-zero_waits-clause-ends
+returns-then-zero_waits-clause-ends c plan p log x = tt
+
+pub returns-clause-ends : goal.returns-clause-ends
+returns-clause-ends c plan p log x =
+    let old = c.args.session.now in
+    emits-ends plan p old c.emit.new.self c.args.out.now.octets c.emit.new.out.octets log x c.emit.result (is_over old.peer) refl c.emit.ensures.lawful c.emit.ensures.turn
+    (λ e. (c.emit.ensures.over e).0)

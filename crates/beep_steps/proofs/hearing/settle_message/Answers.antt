@@ -15,6 +15,8 @@ use Rattle.beep_session.specs.Lawfully.{terms_of}
 use Rattle.beep_steps.proofs.ServeLemmas.{shows-served}
 use Rattle.beep_steps.proofs.SpeakSettles.{settles-speaking}
 use Rattle.beep_steps.proofs.DeskAnswers.{settles-desk}
+use Rattle.beep_steps.proofs.AskedSettles.{settled-asks}
+use Rattle.beep_steps.proofs.DeskSends.{settles-asking}
 use Rattle.beep_steps.proofs.hearing.settle_message.Goals as goal
 
 pub returns-in-Ok-clause-settled : goal.returns-in-Ok-clause-settled
@@ -111,3 +113,23 @@ returns-in-Ok-clause-desk c plan notes log serving w d taken =
     (λ is. e.answered o.fed o.journal o.given o.taken o.head o.payload o.waits is)
     (λ reply. e.fits o.fed o.journal o.given o.taken o.head o.payload o.waits reply refl)
     (e.upright o.fed o.journal o.given o.taken o.head o.payload o.waits o.upright) e.stuck
+
+pub returns-in-Ok-clause-asking : goal.returns-in-Ok-clause-asking
+returns-in-Ok-clause-asking c plan p log x d =
+    let e = c.in-Ok.ensures in
+    let o = d.on in
+    settles-asking plan p c.args.session.now c.settle.new.self e.same log d c.in-Ok.settled (returns-in-Ok-clause-scripted c plan p log x)
+    (λ is. e.asked o.fed o.journal o.given o.taken o.head o.payload o.waits is)
+    (λ is. e.answered o.fed o.journal o.given o.taken o.head o.payload o.waits is)
+    (λ reply. e.fits o.fed o.journal o.given o.taken o.head o.payload o.waits reply refl)
+    (e.upright o.fed o.journal o.given o.taken o.head o.payload o.waits o.upright) e.stuck
+
+pub returns-in-Ok-clause-asks : goal.returns-in-Ok-clause-asks
+returns-in-Ok-clause-asks c plan p log w =
+    let e = c.in-Ok.ensures in
+    let o = w.on in
+    settled-asks plan p c.args.session.now log w _ c.in-Ok.settled
+    (λ is. e.decided o.fed o.journal o.given o.taken o.head o.payload o.waits is)
+    (λ reply. e.fits o.fed o.journal o.given o.taken o.head o.payload o.waits reply refl)
+    (λ is one at. e.replied o.fed o.journal o.given o.taken o.head o.payload one o.waits is at)
+    (λ is. oldest-waits c.args.session.now log o is (e.fits o.fed o.journal o.given o.taken o.head o.payload o.waits is refl))

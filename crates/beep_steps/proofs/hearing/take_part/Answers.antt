@@ -16,6 +16,7 @@ use Rattle.beep_steps.specs.Speaking.{KeepsSpeaking}
 use Rattle.beep_steps.proofs.SpeakCalls.{took-speaking}
 use Rattle.beep_steps.specs.Desking.{DesksWithin}
 use Rattle.beep_steps.proofs.DeskAnswers.{took-desk}
+use Rattle.beep_steps.proofs.DeskSends.{took-asking}
 use Rattle.beep_steps.proofs.ServeLemmas.{shows-served}
 use Rattle.beep_steps.proofs.hearing.take_part.Goals as goal
 
@@ -174,6 +175,36 @@ returns-then-zero_waits-clause-desk c plan notes log serves s d = d
 
 pub returns-clause-desk : goal.returns-clause-desk
 returns-clause-desk c plan notes log serves s d =
+    let one : c.open_channel.follows.lender-at-none ≡ c.args.session.now = search (rules, c.open_channel.follows.holds-at-none) in
+    let two : c.closing_channel.follows.lender-at-none ≡ c.open_channel.follows.lender-at-none = search (rules, c.closing_channel.follows.holds-at-none) in
+    subst (λ (y : Held). DesksWithin plan y log) (sym (two ∙ one)) d
+
+pub returns-in-Some-clause-asking : goal.returns-in-Some-clause-asking
+returns-in-Some-clause-asking c plan p log s d =
+    let k = c.in-Some in
+    let t = c.take in
+    let h : DesksWithin plan t.new.self.session.now log =
+    took-asking plan p t.result k.channel.at t.new.buf c.args.session.now k.channel.session.now t.new.self.session.now k.ensures.same.0 t.ensures.some t.ensures.stuck t.ensures.upright
+    t.ensures.kept log s d in
+    let f : (x : Held) → x ≡ t.new.self.session.now → DesksWithin plan x log = λ x e. subst (λ (y : Held). DesksWithin plan y log) (sym e) h in
+    f _ (search rules)
+
+pub returns-in-Some-closing_channel-clause-asking : goal.returns-in-Some-closing_channel-clause-asking
+returns-in-Some-closing_channel-clause-asking c plan p log s d =
+    let k = c.in-Some-closing_channel in
+    let t = c.take-in-Some-closing_channel in
+    let none : c.open_channel.follows.lender-at-none ≡ c.args.session.now = search (rules, c.open_channel.follows.holds-at-none) in
+    let h : DesksWithin plan t.new.self.session.now log =
+    took-asking plan p t.result k.channel.at t.new.buf c.args.session.now k.channel.session.now t.new.self.session.now (k.ensures.same.0 ∙ none) t.ensures.some t.ensures.stuck t.ensures.upright
+    t.ensures.kept log s d in
+    let f : (x : Held) → x ≡ t.new.self.session.now → DesksWithin plan x log = λ x e. subst (λ (y : Held). DesksWithin plan y log) (sym e) h in
+    f _ (search rules)
+
+pub returns-then-zero_waits-clause-asking : goal.returns-then-zero_waits-clause-asking
+returns-then-zero_waits-clause-asking c plan p log s d = d
+
+pub returns-clause-asking : goal.returns-clause-asking
+returns-clause-asking c plan p log s d =
     let one : c.open_channel.follows.lender-at-none ≡ c.args.session.now = search (rules, c.open_channel.follows.holds-at-none) in
     let two : c.closing_channel.follows.lender-at-none ≡ c.open_channel.follows.lender-at-none = search (rules, c.closing_channel.follows.holds-at-none) in
     subst (λ (y : Held). DesksWithin plan y log) (sym (two ∙ one)) d

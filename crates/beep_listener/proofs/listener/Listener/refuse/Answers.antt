@@ -4,26 +4,14 @@ use Rattle.beep_decide.specs.Decide.{is_among}
 use Rattle.beep_listener.specs.Speaking.{notes_of}
 use Rattle.beep_listener.proofs.listener.Listener.refuse.Goals as goal
 
-pub returns-in_err-is_given-clause-speaking : goal.returns-in_err-is_given-clause-speaking
-returns-in_err-is_given-clause-speaking c plan log s =
+pub returns-in-Ok-clause-speaking : goal.returns-in-Ok-clause-speaking
+returns-in-Ok-clause-speaking c plan log s =
     let a = c.args.self.now in
     let noted : is_among c.args.number a.spoken.items ≡ true = search rules in
     (c.refuse_oldest.ensures.speaking plan (notes_of a) noted (search rules) log s.0, c.refuse_oldest.ensures.desk plan log s.1)
 
-pub returns-in_err-reserve-clause-speaking : goal.returns-in_err-reserve-clause-speaking
-returns-in_err-reserve-clause-speaking c plan log s =
-    let a = c.args.self.now in
-    let noted : is_among c.args.number a.spoken.items ≡ true = search rules in
-    (c.refuse_oldest.ensures.speaking plan (notes_of a) noted (search rules) log s.0, c.refuse_oldest.ensures.desk plan log s.1)
-
-pub returns-in_ok-reserve-clause-speaking : goal.returns-in_ok-reserve-clause-speaking
-returns-in_ok-reserve-clause-speaking c plan log s =
-    let a = c.args.self.now in
-    let noted : is_among c.args.number a.spoken.items ≡ true = search rules in
-    (c.refuse_oldest.ensures.speaking plan (notes_of a) noted (search rules) log s.0, c.refuse_oldest.ensures.desk plan log s.1)
-
-pub returns-else-not-is_given-clause-speaking : goal.returns-else-not-is_given-clause-speaking
-returns-else-not-is_given-clause-speaking c plan log s =
+pub returns-in-Err-clause-speaking : goal.returns-in-Err-clause-speaking
+returns-in-Err-clause-speaking c plan log s =
     let a = c.args.self.now in
     let noted : is_among c.args.number a.spoken.items ≡ true = search rules in
     (c.refuse_oldest.ensures.speaking plan (notes_of a) noted (search rules) log s.0, c.refuse_oldest.ensures.desk plan log s.1)

@@ -1,11 +1,12 @@
 -- What goes out leaves what is kept, and a frame of channel zero may end lives.
-use Rattle.std.proofs.Common.{◌≡◌, ◌∙◌, ◌==◌, false, sym, ap, subst, rules, ℕ, List}
+use Rattle.std.proofs.Common.{◌≡◌, ◌∙◌, ◌==◌, false, true, sym, ap, subst, rules, ℕ, List}
 use Rattle.beep_journal.specs.Log.{put_all}
 use Rattle.beep_lines.specs.declared.bodies.Body.{Body}
 use Rattle.beep_talk.specs.declared.plan.Command.{Command}
 use Rattle.beep_speaking.specs.declared.emit.Emit.{Emit}
 use Rattle.beep_steps.specs.Desking.{DesksWithin, SaidDesk}
 use Rattle.beep_steps.specs.Refusing.{closing_by}
+use Rattle.beep_steps.specs.Resting.{RestsAfter}
 use Rattle.beep_steps.specs.Steps.{is_zero_frame}
 use Rattle.beep_listener.specs.Listening.{Listens}
 use Rattle.beep_listener.proofs.ListenLemmas.{same-plan, says-listens, stays-listens, zero-listens}
@@ -149,3 +150,16 @@ returns-in_ok-begun-in-Data-clause-unrefused c log u =
     stays-unrefused s.new.session c.begun.new.self.session (put_all s.new.out.octets log) c.begun.ensures.stays
     (goes-unrefused a.session s.new.session (put_all s.new.out.octets log) (closing_by s.result false) (s.ensures.said log u.on) s.ensures.terms u.role
     (s.ensures.unrefused Command.Listen false log u.on u.unrefused))
+
+pub returns-in-Nothing-clause-rests : goal.returns-in-Nothing-clause-rests
+returns-in-Nothing-clause-rests c log s none =
+    subst (λ (e : Emit). RestsAfter e c.say_next.new.session) c.in-Nothing.is (c.say_next.ensures.rests log s)
+
+pub returns-in-Seq-clause-rests : goal.returns-in-Seq-clause-rests
+returns-in-Seq-clause-rests c log s none = absurd (let h : true ≡ false = none in cc)
+
+pub returns-then-head-ne0-clause-rests : goal.returns-then-head-ne0-clause-rests
+returns-then-head-ne0-clause-rests c log s none = absurd (let h : true ≡ false = none in cc)
+
+pub returns-in_ok-begun-in-Data-clause-rests : goal.returns-in_ok-begun-in-Data-clause-rests
+returns-in_ok-begun-in-Data-clause-rests c log s none = absurd (let h : true ≡ false = none in cc)

@@ -19,6 +19,7 @@ use Rattle.beep_steps.proofs.DeskTold.{told-comes}
 use Rattle.beep_steps.proofs.ResultLemmas.{err-both, ok-and}
 use Rattle.beep_steps.proofs.SpeakShown.{shows-comes}
 use Rattle.beep_listener.specs.Speaking.{notes_of, SpeaksAll}
+use Rattle.beep_steps.specs.Turning.{stop_idle}
 use Rattle.beep_listener.proofs.listener.ListenerEnd.hear.Goals as goal
 
 pub returns-in-Ok-clause-heard : goal.returns-in-Ok-clause-heard
@@ -56,6 +57,7 @@ returns-in-Ok-clause-stopped g c log text s =
     (λ more t. (
       (t, shows-serving (plan_of a.session) a.session c.args.bytes.now (moments log) s.0.1, stop-refuses (terms_of a.session) stop log c.args.bytes.now (goes_refused a.session a.bodies a.lines.octets.octets log Ended.Released tt s.0.2) r),
       (shows-comes (plan_of a.session) (notes_of a) a.session c.args.bytes.now (moments log) s.1.0, told-comes (plan_of a.session) a.session c.args.bytes.now (moments log) s.1.1.on s.1.1.listed),
+      stop_idle (plan_of a.session) stop all,
     )) w)
     (err-both c.hear_all-heard.result _ _ _
     (λ stop (p : StopsOn (terms_of a.session) stop (got_all c.args.bytes.now (moments log)) × RefusesOn (terms_of a.session) stop (got_all c.args.bytes.now (moments log))) w. stop-tells (plan_of a.session) text before mid after all h.session h.bodies h.lines.octets.octets c.flush.new.self.octets.octets c.hear_all-heard.ensures.plan
@@ -86,6 +88,7 @@ returns-in-Err-clause-stopped g c log text s =
         stop-refuses (terms_of a.session) stop log octets (goes_refused a.session a.bodies a.lines.octets.octets log Ended.Released tt s.0.2) (subst (λ (x : Stop). RefusesOn (terms_of a.session) x (got_all octets (moments log))) (sym c.in-Err.ensures.stopped) tt),
       ),
       (shows-comes (plan_of a.session) (notes_of a) a.session octets (moments log) s.1.0, told-comes (plan_of a.session) a.session octets (moments log) s.1.1.on s.1.1.listed),
+      stop_idle (plan_of a.session) stop all,
     ))
     (failed-tells (plan_of a.session) text before mid after all h.session h.bodies h.lines.octets.octets c.flush.new.self.octets.octets c.hear_all-heard.ensures.plan
     (read octets ∷ log) refl c.in-Err.ensures.err stop c.in-Err.ensures.stopped shows w.0 w.1)

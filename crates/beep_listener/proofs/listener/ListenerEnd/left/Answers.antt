@@ -26,5 +26,6 @@ returns c = record {
           goes_refused a.session a.bodies a.lines.octets.octets log (Ended.Cut c.left.result) tt s.0.2,
         ),
         (shows-goes plan (notes_of a) a.session [] (moments log) s.1.0, told-goes plan a.session [] (moments log) s.1.1.on s.1.1.listed),
+        tt,
       );
 }

@@ -7,7 +7,7 @@ use Rattle.beep_talk.specs.Plan.{PlainPlan}
 use Rattle.beep_steps.specs.Refusing.{IsUnrefused, RefusesOn}
 use Rattle.beep_steps.specs.Sending.{StopsSending}
 use Rattle.beep_steps.proofs.OnLemmas.{got-last, got-more, got-whole, length-rest, rest-some}
-use Rattle.beep_sender.specs.Sender.{plan_of, ScriptsBy, SendsBy}
+use Rattle.beep_sender.specs.Sender.{plan_of, AsksBy, ScriptsBy, SendsBy}
 use Rattle.beep_sender.proofs.RefusedLemmas.{as-closing}
 use Rattle.beep_sender.proofs.sender.Sender.hear_all.Goals as goal
 
@@ -54,6 +54,7 @@ loop-preserved c =
       plan = c.hear_some.ensures.plan ∙ i.plan;
       sends = λ log s. subst (SendsBy c.hear_some.new.self) (got-more c.loop.at c.in-Ok.count bytes log) (e.heard (got_all (take c.loop.at bytes) log) (i.sends log s));
       scripted = λ log s. subst (ScriptsBy c.hear_some.new.self) (got-more c.loop.at c.in-Ok.count bytes log) (e.scripted (got_all (take c.loop.at bytes) log) (i.scripted log s));
+      asking = λ log s. subst (AsksBy c.hear_some.new.self) (got-more c.loop.at c.in-Ok.count bytes log) (e.asking (got_all (take c.loop.at bytes) log) (i.asking log s));
       closing = c.hear_some.ensures.closing ∙ i.closing;
       unrefused = λ log s u.
           let front = got_all (take c.loop.at bytes) log in
@@ -86,3 +87,16 @@ returns-in-Err-clause-refuses c log s u =
     subst (λ (plan : PlainPlan). RefusesOn plan.terms c.in-Err.stop (got_all bytes log)) i.plan
     (subst (RefusesOn (terms_of c.loop.self.session) c.in-Err.stop) (got-last c.loop.at bytes log)
     (c.in-Err.ensures.refuses front (i.sends log s) (as-closing Command.Send front c.loop.self.is_closing c.args.self.now.is_closing i.closing (i.unrefused log s u))))
+
+pub returns-clause-asking : goal.returns-clause-asking
+returns-clause-asking c log s =
+    let m = c.loop.invariant.more log s.0.sends in
+    let w = c.loop.invariant.within in
+    let whole : c.loop.at ≡ length c.args.bytes.now = omega (arith, m, w, c.loop-test.false) in
+    subst (AsksBy c.loop.self) (got-whole c.loop.at c.args.bytes.now log whole) (c.loop.invariant.asking log s)
+
+pub returns-then-bytes-at-clause-asking : goal.returns-then-bytes-at-clause-asking
+returns-then-bytes-at-clause-asking c log s =
+    let w = c.loop.invariant.within in
+    let whole : c.loop.at ≡ length c.args.bytes.now = omega (arith, w, c.if-bytes-at.true) in
+    subst (AsksBy c.loop.self) (got-whole c.loop.at c.args.bytes.now log whole) (c.loop.invariant.asking log s)

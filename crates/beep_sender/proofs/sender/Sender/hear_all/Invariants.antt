@@ -3,7 +3,7 @@ use Rattle.std.proofs.Common.{◌≡◌, ◌≤◌, List, length, take}
 use Rattle.beep_journal.specs.Log.{Moment, got_all}
 use Rattle.beep_talk.specs.declared.plan.Command.{Command}
 use Rattle.beep_steps.specs.Refusing.{IsUnrefused}
-use Rattle.beep_sender.specs.Sender.{plan_of, ScriptsBy, SendsBy}
+use Rattle.beep_sender.specs.Sender.{plan_of, AsksBy, ScriptsBy, SendsBy}
 use Rattle.beep_sender.proofs.sender.Sender.hear_all.Given as goal
 
 abbrev pub invariant-loop : goal.invariant-loop
@@ -12,6 +12,7 @@ invariant-loop l = record {
   plan : plan_of l.self ≡ plan_of l.fn.self;
   sends : (log : List Moment) → SendsBy l.fn.self log → SendsBy l.self (got_all (take l.at l.bytes) log);
   scripted : (log : List Moment) → ScriptsBy l.fn.self log → ScriptsBy l.self (got_all (take l.at l.bytes) log);
+  asking : (log : List Moment) → AsksBy l.fn.self log → AsksBy l.self (got_all (take l.at l.bytes) log);
   closing : l.self.is_closing ≡ l.fn.self.is_closing;
   unrefused : (log : List Moment) → SendsBy l.fn.self log → IsUnrefused Command.Send l.fn.self.is_closing log
       → IsUnrefused Command.Send l.fn.self.is_closing (got_all (take l.at l.bytes) log);

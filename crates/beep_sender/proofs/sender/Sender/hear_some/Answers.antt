@@ -14,7 +14,12 @@ use Rattle.beep_steps.proofs.CallScripts.{with-terms-scripted, waits-terms-scrip
 use Rattle.beep_steps.proofs.CallSends.{with-terms}
 use Rattle.beep_steps.proofs.OnLemmas.{got-rest}
 use Rattle.beep_sender.specs.Sender.{plan_by, plan_of, progress_of}
+use Rattle.beep_steps.specs.Desking.{ComesDesk, DesksWithin}
+use Rattle.beep_steps.specs.Steps.{CameFrame, CameMore, CameZero, ComesSo}
+use Rattle.beep_sender.specs.Asking.{AsksWaiting}
+use Rattle.beep_sender.proofs.AskingLemmas.{as-plan}
 use Rattle.beep_sender.proofs.SenderLemmas.{same-terms, waits-terms}
+use Rattle.beep_sender.proofs.TakingLemmas.{frame-takes, taken-asking}
 use Rattle.beep_sender.proofs.sender.Sender.hear_some.Goals as goal
 
 pub returns-in-Err-clause-stopped : goal.returns-in-Err-clause-stopped
@@ -37,10 +42,10 @@ pub returns-in-Arrived-clause-heard : goal.returns-in-Arrived-clause-heard
 returns-in-Arrived-clause-heard c log s =
     let one = c.args.self.now in
     let mid = c.hear_next.new.session in
-    let new = c.take_part.new.session in
+    let new = c.take_all.new.session in
     let front = got_all (take c.in-Ok.heard.0 c.args.bytes.now) log in
     with-terms (plan_of one) (terms_of new) (progress_of one) new front
-    (c.take_part.ensures.sending (plan_of one) (progress_of one) front
+    (c.take_all.ensures.sending (plan_of one) (progress_of one) front
     (subst (λ (x : Came). ComesSending (plan_of one) (progress_of one) x mid front) c.in-Arrived.is (c.in-Ok.ensures.sending (plan_of one) (progress_of one) log s)))
 
 pub returns-in-Arrived-clause-more : goal.returns-in-Arrived-clause-more
@@ -84,10 +89,10 @@ pub returns-in-Arrived-clause-scripted : goal.returns-in-Arrived-clause-scripted
 returns-in-Arrived-clause-scripted c log s =
     let one = c.args.self.now in
     let mid = c.hear_next.new.session in
-    let new = c.take_part.new.session in
+    let new = c.take_all.new.session in
     let front = got_all (take c.in-Ok.heard.0 c.args.bytes.now) log in
-    with-terms-scripted (plan_of one) (terms_of new) (progress_of one) new front (c.take_part.ensures.stays.terms ∙ c.hear_next.ensures.terms)
-    (c.take_part.ensures.scripted (plan_of one) (progress_of one) front
+    with-terms-scripted (plan_of one) (terms_of new) (progress_of one) new front (c.take_all.ensures.stays.terms ∙ c.hear_next.ensures.terms)
+    (c.take_all.ensures.scripted (plan_of one) (progress_of one) front
     (subst (λ (x : Came). ComesScripting (plan_of one) (progress_of one) x mid front) c.in-Arrived.is (c.in-Ok.ensures.scripted (plan_of one) (progress_of one) log s)))
 
 pub returns-in-Ok-settle-clause-scripted : goal.returns-in-Ok-settle-clause-scripted
@@ -140,3 +145,45 @@ pub returns-in-Err-clause-refuses : goal.returns-in-Err-clause-refuses
 returns-in-Err-clause-refuses c log s u =
     let one = c.args.self.now in
     c.in-Err.ensures.refuses one.is_closing log s.on (subst (λ (x : Command). IsUnrefused x one.is_closing log) (sym (ap command_of s.sender.role)) u)
+
+pub returns-in-More-clause-asking : goal.returns-in-More-clause-asking
+returns-in-More-clause-asking c log a =
+    let one = c.args.self.now in
+    let new = c.hear_next.new.session in
+    let front = got_all (take c.in-Ok.heard.0 c.args.bytes.now) log in
+    let came : CameMore one.session new a.0.sends.on.journal front = subst (λ (x : Came). ComesSo x one.session new a.0.sends.on.journal front) c.in-More.is (c.in-Ok.ensures.came log a.0.sends.on) in (
+      returns-in-More-clause-scripted c log a.0,
+      as-plan (plan_of one) _ new front (same-terms one.uri.now one.lines.now one.session new c.hear_next.ensures.terms)
+          (subst (λ (x : Came). ComesDesk (plan_of one) x new front) c.in-More.is (c.in-Ok.ensures.desk (plan_of one) log a.1.0), came.taken a.1.1),
+    )
+
+-- all of the frame is taken, for which nothing is asked
+pub returns-in-Arrived-clause-asking : goal.returns-in-Arrived-clause-asking
+returns-in-Arrived-clause-asking c log a =
+    let one = c.args.self.now in
+    let mid = c.hear_next.new.session in
+    let new = c.take_all.new.session in
+    let number = c.in-Arrived.number in
+    let journal = a.0.sends.on.journal in
+    let front = got_all (take c.in-Ok.heard.0 c.args.bytes.now) log in
+    let came : CameFrame number one.session mid journal front = subst (λ (x : Came). ComesSo x one.session mid journal front) c.in-Arrived.is (c.in-Ok.ensures.came log a.0.sends.on) in
+    let x = subst (λ (x : Came). ComesScripting (plan_of one) (progress_of one) x mid front) c.in-Arrived.is (c.in-Ok.ensures.scripted (plan_of one) (progress_of one) log a.0) in
+    let d : DesksWithin (plan_of one) mid front = subst (λ (x : Came). ComesDesk (plan_of one) x mid front) c.in-Arrived.is (c.in-Ok.ensures.desk (plan_of one) log a.1.0) in (
+      returns-in-Arrived-clause-scripted c log a.0,
+      as-plan (plan_of one) _ new front (same-terms one.uri.now one.lines.now one.session new (c.take_all.ensures.stays.terms ∙ c.hear_next.ensures.terms))
+          (taken-asking (plan_of one) (progress_of one) number one.session mid new journal front came (c.take_all.ensures.scripted (plan_of one) (progress_of one) front x) d
+          (c.take_all.ensures.asking (plan_of one) (progress_of one) front x d) (c.take_all.ensures.taken front (frame-takes number one.session mid journal front came a.1.1 c.in-Ok.ensures.going))),
+    )
+
+pub returns-in-Ok-settle-clause-asking : goal.returns-in-Ok-settle-clause-asking
+returns-in-Ok-settle-clause-asking c log a =
+    let one = c.args.self.now in
+    let new = c.hear_next.new.session in
+    let front = got_all (take c.in-Ok.heard.0 c.args.bytes.now) log in
+    let came : CameZero one.session new a.0.sends.on.journal front = subst (λ (x : Came). ComesSo x one.session new a.0.sends.on.journal front) c.in-Zero.is (c.in-Ok.ensures.came log a.0.sends.on) in
+    c.in-Ok-settle.ensures.asking front (
+      waits-terms-scripted (plan_of one) (terms_of new) (progress_of one) new front c.hear_next.ensures.terms
+          (subst (λ (x : Came). ComesScripting (plan_of one) (progress_of one) x new front) c.in-Zero.is (c.in-Ok.ensures.scripted (plan_of one) (progress_of one) log a.0)),
+      subst (λ (p : PlainPlan). AsksWaiting p new front) (sym (same-terms one.uri.now one.lines.now one.session new c.hear_next.ensures.terms))
+          (subst (λ (x : Came). ComesDesk (plan_of one) x new front) c.in-Zero.is (c.in-Ok.ensures.desk (plan_of one) log a.1.0), came.taken a.1.1),
+    )

@@ -4,6 +4,8 @@ use Rattle.beep_talk.specs.declared.plan.Command.{Command}
 use Rattle.beep_wires.specs.Log.{read}
 use Rattle.beep_link.proofs.StandLemmas.{text-none}
 use Rattle.beep_steps.specs.Logs.{moments}
+use Rattle.beep_steps.specs.Turning.{stop_idle}
+use Rattle.beep_steps.proofs.DeskTold.{told-comes}
 use Rattle.beep_steps.proofs.EndScripts.{comes-script}
 use Rattle.beep_steps.proofs.EndSends.{tells-stop}
 use Rattle.beep_steps.proofs.ResultLemmas.{err-both, ok-and}
@@ -19,14 +21,19 @@ returns-clause-heard g c log text s =
     let all = moments (read c.args.bytes.now ∷ log) in
     ok-and c.hear_all.result _ _ _
     (λ p u. text-none (g.O.Sink.state c.args._output.now).written _ (p, as-closing Command.Send all new.is_closing one.is_closing c.hear_all.ensures.closing u))
-    (c.hear_all.ensures.scripted (moments log) s.0) (c.hear_all.ensures.unrefused (moments log) s.0.sends s.1)
+    (c.hear_all.ensures.asking (moments log) s.0) (c.hear_all.ensures.unrefused (moments log) s.0.0.sends s.1)
 
 pub returns-clause-stopped : goal.returns-clause-stopped
 returns-clause-stopped g c log text s =
     let one = c.args.self.now in
+    let all = moments (read c.args.bytes.now ∷ log) in
     err-both c.hear_all.result _ _ _
-    (λ stop h r. text-none (g.O.Sink.state c.args._output.now).written _ (record {
-      tells = tells-stop (plan_of one) (progress_of one) one.session log c.args.bytes.now stop refl s.0.sends (sent-unrefused one log Ended.Released tt s) h r;
-      script = comes-script (plan_of one) (progress_of one) one.session c.args.bytes.now (moments log) s.0;
-    }))
-    (c.hear_all.ensures.stopped (moments log) s.0.sends) (c.hear_all.ensures.refuses (moments log) s.0.sends s.1)
+    (λ stop h r. text-none (g.O.Sink.state c.args._output.now).written _ (
+      record {
+        tells = tells-stop (plan_of one) (progress_of one) one.session log c.args.bytes.now stop refl s.0.0.sends (sent-unrefused one log Ended.Released tt s) h r;
+        script = comes-script (plan_of one) (progress_of one) one.session c.args.bytes.now (moments log) s.0.0;
+      },
+      told-comes (plan_of one) one.session c.args.bytes.now (moments log) s.0.1.0.on s.0.1.0.listed,
+      λ short. stop_idle (plan_of one) stop all,
+    ))
+    (c.hear_all.ensures.stopped (moments log) s.0.0.sends) (c.hear_all.ensures.refuses (moments log) s.0.0.sends s.1)

@@ -5,7 +5,7 @@ use Rattle.std.specs.Option.{option_to_list}
 use Rattle.beep_history.specs.Journal.{Item}
 use Rattle.beep_mgmt.specs.Form.{form_of}
 use Rattle.beep_lives.specs.Lives.{live_at}
-use Rattle.beep_decide.specs.declared.limits.TheConstants.{MAX_CHANNELS}
+use Rattle.beep_turns.specs.declared.turns.TheConstants.{MAX_CHANNELS}
 use Rattle.beep_decide.specs.Plain.{plain_offer}
 use Rattle.beep_standing.specs.Standing.{Marks}
 use Rattle.beep_management.specs.Managed.{number_started}

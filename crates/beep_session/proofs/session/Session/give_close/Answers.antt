@@ -1,7 +1,7 @@
 -- There is room for a close, which starts no channel.
 use Rattle.std.proofs.Common.{◌≡◌, ℕ, ◌+◌, ◌≤◌, ◌==◌, not, List, false, Some, sym, subst, arith}
 use Rattle.std.specs.Prelude.{OnOk}
-use Rattle.beep_decide.specs.declared.limits.TheConstants.{MAX_CHANNELS}
+use Rattle.beep_turns.specs.declared.turns.TheConstants.{MAX_CHANNELS}
 use Rattle.beep_mgmt.specs.Form.{Form}
 use Rattle.beep_peer.specs.Asking.{MayAsk}
 use Rattle.beep_peer.specs.Peering.{is_over, zero_waits}
