@@ -300,7 +300,7 @@ fn what_is_left(ends: &Ends) -> Left {
     }
 }
 
-fn told(alloc: Global, story: &Story) -> Result<Left, NoMemory> {
+fn left_after(alloc: Global, story: &Story) -> Result<Left, NoMemory> {
     let mut ends = Ends {
         received: Waiting::new(alloc)?,
         sent: Waiting::new(alloc)?,
@@ -318,7 +318,7 @@ fn told(alloc: Global, story: &Story) -> Result<Left, NoMemory> {
 fn each_story_leaves_its_requests(rt: HostRuntime) -> Result<(), Fail> {
     for story in &STORIES {
         let name = story.name;
-        assert_eq!(rt; told(rt.alloc(), story)?, story.left, "at {name}");
+        assert_eq!(rt; left_after(rt.alloc(), story)?, story.left, "at {name}");
     }
     Ok(())
 }

@@ -4,25 +4,25 @@ use Rattle.std.specs.Option.{option_to_list}
 use Rattle.std.proofs.lemmas.List.{length-append}
 use Rattle.std.proofs.lemmas.Option.{slice_get-map, slice_get_read}
 use Rattle.std.proofs.lemmas.Bool.Decides.{nat_tests}
-use Rattle.beep_chars.proofs.BoolLemmas.{left_of, right_of, by_test}
-use Rattle.beep_frame.specs.declared.kind.Kind.{Kind}
-use Rattle.beep_frame.specs.declared.head.TheConstants.{MAX_NUMBER}
-use Rattle.beep_frame.specs.Frame.{is_msg, is_ans, same_kind}
-use Rattle.beep_mgmt.specs.declared.profile.Encoding.{Encoding}
-use Rattle.beep_mgmt.specs.Form.{Form, PlainProfile, greeting, start, chosen, close, okay, fault}
-use Rattle.beep_journal.specs.Zero.{has_form}
-use Rattle.beep_decide.specs.declared.decision.Offer.{Offer}
-use Rattle.beep_decide.specs.declared.decision.Placed.{Placed}
-use Rattle.beep_decide.specs.Plain.{plain_offer}
-use Rattle.beep_turns.specs.declared.turns.TheConstants.{MAX_CHANNELS}
-use Rattle.beep_decide.specs.Numbers.{other_role, may_start, has_parity}
-use Rattle.beep_decide.specs.Decide.{PlainOffer, PlainStanding, Decision, refuse, choose, tune, grant_close, is_among, is_used, used_count, later, offer_of, first_offered, first_row, has_other_encoding, decide_offer, decide_profile, decide_start, decide, uri_at}
-use Rattle.beep_decide.specs.Laws.{IsOfferAt}
-use Rattle.beep_decide.proofs.AnswerLemmas.{start-chosen, chosen-form, closed-form}
-use Rattle.beep_history.specs.Journal.{opening}
-use Rattle.beep_channel.specs.Held.{Live}
-use Rattle.beep_channel.specs.Stands.{Stands}
-use Rattle.beep_asked.specs.Kept.{place_of}
+use Rattle.beep_management.specs.beep_chars.proofs.BoolLemmas.{left_of, right_of, by_test}
+use Rattle.beep_management.specs.beep_frame.specs.declared.kind.Kind.{Kind}
+use Rattle.beep_management.specs.beep_frame.specs.declared.head.TheConstants.{MAX_NUMBER}
+use Rattle.beep_management.specs.beep_frame.specs.Frame.{is_msg, is_ans, same_kind}
+use Rattle.beep_management.specs.beep_mgmt.specs.declared.profile.Encoding.{Encoding}
+use Rattle.beep_management.specs.beep_mgmt.specs.Form.{Form, PlainProfile, greeting, start, chosen, close, okay, fault}
+use Rattle.beep_management.specs.beep_journal.specs.Zero.{has_form}
+use Rattle.beep_management.specs.beep_decide.specs.declared.decision.Offer.{Offer}
+use Rattle.beep_management.specs.beep_decide.specs.declared.decision.Placed.{Placed}
+use Rattle.beep_management.specs.beep_decide.specs.Plain.{plain_offer}
+use Rattle.beep_management.specs.beep_turns.specs.declared.turns.TheConstants.{MAX_CHANNELS}
+use Rattle.beep_management.specs.beep_decide.specs.Numbers.{other_role, may_start, has_parity}
+use Rattle.beep_management.specs.beep_decide.specs.Decide.{PlainOffer, PlainStanding, Decision, refuse, choose, tune, grant_close, is_among, is_used, used_count, later, offer_of, first_offered, first_row, has_other_encoding, decide_offer, decide_profile, decide_start, decide, uri_at}
+use Rattle.beep_management.specs.beep_decide.specs.Laws.{IsOfferAt}
+use Rattle.beep_management.specs.beep_decide.proofs.AnswerLemmas.{start-chosen, chosen-form, closed-form}
+use Rattle.beep_management.specs.beep_history.specs.Journal.{opening}
+use Rattle.beep_management.specs.beep_channel.specs.Held.{Live}
+use Rattle.beep_management.specs.beep_channel.specs.Stands.{Stands}
+use Rattle.beep_management.specs.beep_asked.specs.Kept.{place_of}
 use Rattle.beep_management.specs.declared.wait.Wait.{Wait}
 use Rattle.beep_management.specs.Managed.{number_started}
 use Rattle.beep_management.specs.Manages.{AreFresh}

@@ -7,19 +7,19 @@ use Rattle.std.proofs.lemmas.Fmt.{length-decimal-le}
 use Rattle.std.proofs.lemmas.List.{length-append}
 use Rattle.std.proofs.lemmas.Str.{length-encode, len_utf8_bounds, chars-nil, IsUtf8-from_ascii, is_utf8-from_IsUtf8}
 use Rattle.std.proofs.lemmas.Bool.Decides.{nat_tests}
-use Rattle.beep_chars.specs.Characters.{is_allowed}
-use Rattle.beep_chars.proofs.BoolLemmas.{both, left_of, right_of}
-use Rattle.beep_text.specs.declared.attr.Attr.{Attr}
-use Rattle.beep_text.specs.declared.limits.TheConstants.{MAX_TEXT}
-use Rattle.beep_text.specs.Tree.{Tree, Items, nothing}
-use Rattle.beep_text.specs.Elements.{Written, Pieces, no_pieces, character, alone, around, pieces_text, written_text, attr_text}
-use Rattle.beep_text.specs.Canonical.{written_as, attr_as, tag_as, chars_as, pieces_as, child_as, element_text, is_nothing}
-use Rattle.beep_mime.specs.Split.{mime_header}
-use Rattle.beep_mgmt.specs.declared.profile.Encoding.{Encoding}
-use Rattle.beep_mgmt.specs.Form.{Form, PlainProfile, chosen}
-use Rattle.beep_mgmt.specs.Written.{setting, element, code_digits, run, profile_as, with_element, element_as, is_uri_allowed, comes_back_profile}
-use Rattle.beep_mgmt.specs.Message.{message_text}
-use Rattle.beep_decide.specs.Decide.{PlainOffer, note_of}
+use Rattle.beep_management.specs.beep_chars.specs.Characters.{is_allowed}
+use Rattle.beep_management.specs.beep_chars.proofs.BoolLemmas.{both, left_of, right_of}
+use Rattle.beep_management.specs.beep_text.specs.declared.attr.Attr.{Attr}
+use Rattle.beep_management.specs.beep_text.specs.declared.limits.TheConstants.{MAX_TEXT}
+use Rattle.beep_management.specs.beep_text.specs.Tree.{Tree, Items, nothing}
+use Rattle.beep_management.specs.beep_text.specs.Elements.{Written, Pieces, no_pieces, character, alone, around, pieces_text, written_text, attr_text}
+use Rattle.beep_management.specs.beep_text.specs.Canonical.{written_as, attr_as, tag_as, chars_as, pieces_as, child_as, element_text, is_nothing}
+use Rattle.beep_management.specs.beep_mime.specs.Split.{mime_header}
+use Rattle.beep_management.specs.beep_mgmt.specs.declared.profile.Encoding.{Encoding}
+use Rattle.beep_management.specs.beep_mgmt.specs.Form.{Form, PlainProfile, chosen}
+use Rattle.beep_management.specs.beep_mgmt.specs.Written.{setting, element, code_digits, run, profile_as, with_element, element_as, is_uri_allowed, comes_back_profile}
+use Rattle.beep_management.specs.beep_mgmt.specs.Message.{message_text}
+use Rattle.beep_management.specs.beep_decide.specs.Decide.{PlainOffer, note_of}
 use Rattle.beep_answering.specs.Sent.{is_uri, plain_listed, greeting_of, refusal_of, closing_of}
 use Rattle.beep_answering.specs.declared.offers.TheConstants.{MAX_OFFERS}
 

@@ -1,9 +1,9 @@
 -- What is written of a value is its message.
 use Rattle.std.proofs.Common.{◌≡◌, ◌↔◌, ◌≤◌, ℕ, true, List, length, Some, Result, Ok, Err, IfOk, IsTrue, sym, subst}
-use Rattle.beep_text.specs.declared.limits.TheConstants.{MAX_TEXT}
-use Rattle.beep_mgmt.specs.Form.{Form}
-use Rattle.beep_mgmt.specs.Message.{Says, message_said, message_text}
-use Rattle.beep_mgmt.specs.Written.{comes_back}
+use Rattle.beep_management.specs.beep_text.specs.declared.limits.TheConstants.{MAX_TEXT}
+use Rattle.beep_management.specs.beep_mgmt.specs.Form.{Form}
+use Rattle.beep_management.specs.beep_mgmt.specs.Message.{Says, message_said, message_text}
+use Rattle.beep_management.specs.beep_mgmt.specs.Written.{comes_back}
 use Rattle.beep_answering.specs.Sent.{IsMessage}
 
 -- what a message says, as its reader has it

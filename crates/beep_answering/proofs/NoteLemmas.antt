@@ -2,8 +2,8 @@
 use Rattle.std.proofs.Common.{◌≡◌, ◌≢◌, ◌⊎◌, ⊎_elim, ℕ, suc, zero, nat_lt, true, List, [], ◌∷◌, chars, codes, IsAscii, refl, sym, ap, ◌∙◌, arith, ltb-true, ne_eqb}
 use Rattle.std.specs.List.{list_all}
 use Rattle.std.proofs.lemmas.Str.{chars-IsAscii, chars-nil}
-use Rattle.beep_chars.proofs.BoolLemmas.{left_of, right_of}
-use Rattle.beep_decide.specs.Decide.{note_of}
+use Rattle.beep_management.specs.beep_chars.proofs.BoolLemmas.{left_of, right_of}
+use Rattle.beep_management.specs.beep_decide.specs.Decide.{note_of}
 
 are-ascii : (cs : List ℕ) → list_all (λ c. nat_lt c 128) cs ≡ true → IsAscii cs
 are-ascii [] are i = omega arith

@@ -4,8 +4,8 @@ use Rattle.std.specs.List.{list_any}
 use Rattle.std.proofs.Math.Seq.{split_at}
 use Rattle.std.proofs.lemmas.List.{take_more, get_or-map, length-map, length-take-le}
 use Rattle.std.proofs.lemmas.List.Folds.{list_any-append}
-use Rattle.beep_mgmt.specs.declared.profile.Profile.{Profile}
-use Rattle.beep_mgmt.specs.Form.{PlainProfile, plain_profile}
+use Rattle.beep_management.specs.beep_mgmt.specs.declared.profile.Profile.{Profile}
+use Rattle.beep_management.specs.beep_mgmt.specs.Form.{PlainProfile, plain_profile}
 use Rattle.beep_answering.specs.Decided.{IsFirstOf}
 
 module _ (profiles : List Profile) (uri : List ℕ) (i : ℕ) (listed : Profile) (within : i < length profiles) (read : listed ≡ get_or profiles i listed) where

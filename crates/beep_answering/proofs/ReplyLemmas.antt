@@ -1,9 +1,9 @@
 -- A reply that has the form that its request asks for, of whichever kind.
 use Rattle.std.proofs.Common.{◌≡◌, true, Option, refl}
 use Rattle.std.proofs.Math.Bool.{or-true}
-use Rattle.beep_frame.specs.declared.kind.Kind.{Kind}
-use Rattle.beep_mgmt.specs.Form.{Form}
-use Rattle.beep_asked.specs.Kept.{Kept, fits}
+use Rattle.beep_management.specs.beep_frame.specs.declared.kind.Kind.{Kind}
+use Rattle.beep_management.specs.beep_mgmt.specs.Form.{Form}
+use Rattle.beep_management.specs.beep_asked.specs.Kept.{Kept, fits}
 use Rattle.beep_answering.specs.Decided.{is_reply_to}
 
 pub replies : (kind : Kind) (reply : Option Form) (kept : Kept) → fits kind reply kept ≡ true → is_reply_to kept reply ≡ true

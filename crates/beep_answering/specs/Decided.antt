@@ -4,14 +4,14 @@
 use Rattle.std.specs.Prelude.{◌≡◌, ℕ, ◌-◌, ◌==◌, Bool, true, false, ◌||◌, if◌then◌else◌, List, [], ◌∷◌, ◌++◌, length, min, bytes_eq, Option, None, Some}
 use Rattle.std.specs.List.{list_any}
 use Rattle.std.specs.Option.{option_to_list}
-use Rattle.beep_octets.specs.Numbers.{numbers_32}
-use Rattle.beep_octets.specs.declared.octets.Octets.{Octets}
-use Rattle.beep_frame.specs.declared.kind.Kind.{Kind}
-use Rattle.beep_mgmt.specs.Form.{Form, PlainProfile, greeting, start, chosen, close, okay, fault}
-use Rattle.beep_channel.specs.Held.{Live}
-use Rattle.beep_decide.specs.Decide.{PlainOffer, PlainStanding, Decision, refuse, choose, tune, grant_close, answer_of}
-use Rattle.beep_asked.specs.Kept.{Kept, fits}
-use Rattle.beep_spoken.specs.Spoken.{Spoken}
+use Rattle.beep_management.specs.beep_octets.specs.Numbers.{numbers_32}
+use Rattle.beep_management.specs.beep_octets.specs.declared.octets.Octets.{Octets}
+use Rattle.beep_management.specs.beep_frame.specs.declared.kind.Kind.{Kind}
+use Rattle.beep_management.specs.beep_mgmt.specs.Form.{Form, PlainProfile, greeting, start, chosen, close, okay, fault}
+use Rattle.beep_management.specs.beep_channel.specs.Held.{Live}
+use Rattle.beep_management.specs.beep_decide.specs.Decide.{PlainOffer, PlainStanding, Decision, refuse, choose, tune, grant_close, answer_of}
+use Rattle.beep_management.specs.beep_asked.specs.Kept.{Kept, fits}
+use Rattle.beep_management.specs.beep_spoken.specs.Spoken.{Spoken}
 use Rattle.beep_management.specs.declared.wait.Wait.{Wait}
 use Rattle.beep_management.specs.Managed.{Prepared, numbers_granted}
 use Rattle.beep_management.specs.Manages.{IsPrepared, AreFresh}

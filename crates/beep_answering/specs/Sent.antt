@@ -1,12 +1,12 @@
 -- What this end says on channel zero, and how it is written (RFC 3080, section 2.3.1).
 use Rattle.std.specs.Prelude.{◌≡◌, ℕ, ◌&&◌, nat_lt, nat_le, Bool, true, List, [], length, map, None, Some}
 use Rattle.std.specs.List.{list_all}
-use Rattle.beep_chars.specs.declared.limits.TheConstants.{MAX_URI}
-use Rattle.beep_chars.specs.Characters.{is_allowed}
-use Rattle.beep_mgmt.specs.declared.profile.Encoding.{Encoding}
-use Rattle.beep_mgmt.specs.Form.{Form, PlainProfile, greeting, close, fault}
-use Rattle.beep_mgmt.specs.Message.{message_text, message_said}
-use Rattle.beep_decide.specs.Decide.{PlainOffer, note_of}
+use Rattle.beep_management.specs.beep_chars.specs.declared.limits.TheConstants.{MAX_URI}
+use Rattle.beep_management.specs.beep_chars.specs.Characters.{is_allowed}
+use Rattle.beep_management.specs.beep_mgmt.specs.declared.profile.Encoding.{Encoding}
+use Rattle.beep_management.specs.beep_mgmt.specs.Form.{Form, PlainProfile, greeting, close, fault}
+use Rattle.beep_management.specs.beep_mgmt.specs.Message.{message_text, message_said}
+use Rattle.beep_management.specs.beep_decide.specs.Decide.{PlainOffer, note_of}
 
 -- the URI has 1 to `MAX_URI` characters, all of them allowed
 abbrev pub is_uri : List ℕ → Bool

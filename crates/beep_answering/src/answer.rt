@@ -1,21 +1,21 @@
 //! The messages of channel zero that this end sends (RFC 3080, section 2.3.1).
 ghost use Rattle.std.specs.Prelude.{◌≡◌, ◌≤◌, true, length, map, chars, IsTrue, IfOk};
 ghost use Rattle.std.specs.List.{list_all};
-ghost use Rattle.beep_mgmt.specs.declared.limits.TheConstants.{MAX_CODE};
-ghost use Rattle.beep_text.specs.declared.limits.TheConstants.{MAX_TEXT};
-ghost use Rattle.beep_mgmt.specs.Form.{form_of, plain_profile, chosen, okay};
-ghost use Rattle.beep_mgmt.specs.Written.{is_writable, comes_back};
-ghost use Rattle.beep_mgmt.specs.Message.{message_text};
-ghost use Rattle.beep_decide.specs.Decide.{note_of};
-ghost use Rattle.beep_decide.specs.Plain.{plain_offer};
+ghost use Rattle.beep_management.specs.beep_mgmt.specs.declared.limits.TheConstants.{MAX_CODE};
+ghost use Rattle.beep_management.specs.beep_text.specs.declared.limits.TheConstants.{MAX_TEXT};
+ghost use Rattle.beep_management.specs.beep_mgmt.specs.Form.{form_of, plain_profile, chosen, okay};
+ghost use Rattle.beep_management.specs.beep_mgmt.specs.Written.{is_writable, comes_back};
+ghost use Rattle.beep_management.specs.beep_mgmt.specs.Message.{message_text};
+ghost use Rattle.beep_management.specs.beep_decide.specs.Decide.{note_of};
+ghost use Rattle.beep_management.specs.beep_decide.specs.Plain.{plain_offer};
 ghost use Rattle.beep_answering.specs.Sent.{is_uri, plain_listed, greeting_of, refusal_of, closing_of, IsMessage};
 ghost use Rattle.beep_answering.specs.declared.offers.TheConstants.{MAX_OFFERS};
 
-use beep_chars::Text;
-use beep_decide::Offer;
-use beep_mgmt::laws::the_value_said_is_that_of_the_message;
-use beep_mgmt::{Encoding, Mgmt, Profile, Profiles, write_mgmt};
-use beep_octets::{NoMemory, Octets};
+use beep_management::beep_chars::Text;
+use beep_management::beep_decide::Offer;
+use beep_management::beep_mgmt::laws::the_value_said_is_that_of_the_message;
+use beep_management::beep_mgmt::{Encoding, Mgmt, Profile, Profiles, SUCCESS, write_mgmt};
+use beep_management::beep_octets::{NoMemory, Octets};
 use std::alloc::Global;
 
 /// The greeting of an end with these offers.
@@ -71,7 +71,7 @@ pub fn close_of(alloc: Global, number: u32) -> Mgmt
 {
     Mgmt::Close {
         number,
-        code: 200,
+        code: SUCCESS,
         note: Text::new(alloc),
     }
 }

@@ -2,8 +2,8 @@
 ghost use Rattle.std.specs.Prelude.{◌≡◌, ◌==◌, ◌<◌, ◌≤◌, ◌++◌, ◌∷◌, [], length, map, slice_get, option_copied, OnOk, OnErr};
 ghost use Rattle.beep_answering.specs.declared.offers.TheConstants.{MAX_OFFERS};
 
-use beep_decide::Offer;
-use beep_octets::NoMemory;
+use beep_management::beep_decide::Offer;
+use beep_management::beep_octets::NoMemory;
 use std::alloc::Global;
 use std::marker::Model;
 
@@ -18,7 +18,7 @@ pub struct Offers {
 
 impl Model for Offers {
     ghost use Rattle.std.specs.Prelude.{List, ◌≤◌, length};
-    ghost use Rattle.beep_decide.specs.declared.decision.Offer.{Offer as OfferValue};
+    ghost use Rattle.beep_management.specs.beep_decide.specs.declared.decision.Offer.{Offer as OfferValue};
     ghost use Rattle.beep_answering.specs.declared.offers.TheConstants.{MAX_OFFERS};
 
     ghost Value = { List OfferValue };

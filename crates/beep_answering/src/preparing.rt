@@ -3,14 +3,14 @@
 ghost use Rattle.std.specs.Prelude.{◌≡◌, ℕ, ◌<◌, ◌≤◌, true, length, Option, None, is_some, IfOk};
 ghost use Rattle.std.specs.List.{list_all};
 ghost use Rattle.std.specs.Option.{option_copied};
-ghost use Rattle.beep_frame.specs.declared.head.TheConstants.{MAX_NUMBER};
-ghost use Rattle.beep_mgmt.specs.declared.limits.TheConstants.{MAX_CODE};
-ghost use Rattle.beep_mgmt.specs.Form.{Form};
-ghost use Rattle.beep_journal.specs.Plain.{form_in};
-ghost use Rattle.beep_seq.specs.declared.limits.TheConstants.{MIN_WINDOW, MAX_WINDOW};
-ghost use Rattle.beep_decide.specs.Decide.{PlainStanding, used_count, refuse, choose, grant_close, decide as decided};
-ghost use Rattle.beep_turns.specs.declared.turns.TheConstants.{MAX_CHANNELS};
-ghost use Rattle.beep_decide.specs.Plain.{plain_standing};
+ghost use Rattle.beep_management.specs.beep_frame.specs.declared.head.TheConstants.{MAX_NUMBER};
+ghost use Rattle.beep_management.specs.beep_mgmt.specs.declared.limits.TheConstants.{MAX_CODE};
+ghost use Rattle.beep_management.specs.beep_mgmt.specs.Form.{Form};
+ghost use Rattle.beep_management.specs.beep_journal.specs.Plain.{form_in};
+ghost use Rattle.beep_management.specs.beep_seq.specs.declared.limits.TheConstants.{MIN_WINDOW, MAX_WINDOW};
+ghost use Rattle.beep_management.specs.beep_decide.specs.Decide.{PlainStanding, used_count, refuse, choose, grant_close, decide as decided};
+ghost use Rattle.beep_management.specs.beep_turns.specs.declared.turns.TheConstants.{MAX_CHANNELS};
+ghost use Rattle.beep_management.specs.beep_decide.specs.Plain.{plain_standing};
 ghost use Rattle.beep_management.specs.Values.{prepared_of};
 ghost use Rattle.beep_answering.specs.Sent.{is_uri};
 ghost use Rattle.beep_answering.specs.Decided.{NoneTunes, number_in, code_in, SettledBy, IsAnswer, kind_of, SaysAnswer};
@@ -18,12 +18,12 @@ ghost use Rattle.beep_answering.specs.declared.offers.TheConstants.{MAX_OFFERS};
 
 use crate::answer::{choice_text, okay_text, refusal_text};
 use crate::settled::Settled;
-use beep_channel::Channel;
-use beep_decide::{Answer as Decision, Standing, decide};
-use beep_frame::Kind;
+use beep_management::beep_channel::Channel;
+use beep_management::beep_decide::{Answer as Decision, Standing, decide};
+use beep_management::beep_frame::Kind;
+use beep_management::beep_mgmt::Mgmt;
+use beep_management::beep_octets::NoMemory;
 use beep_management::{Answer, Wait};
-use beep_mgmt::Mgmt;
-use beep_octets::NoMemory;
 use std::alloc::Global;
 
 /// What is prepared for a request: its answer, the channel that is to be granted, and what the

@@ -1,6 +1,6 @@
 //! What a message of channel zero was settled as.
 
-use beep_octets::Octets;
+use beep_management::beep_octets::Octets;
 
 /// What the message that waited says, once it is settled (RFC 3080, section 2.3.1).
 #[derive(Debug, Drop)]

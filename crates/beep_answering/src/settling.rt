@@ -1,14 +1,14 @@
 //! What the reply to an own request of channel zero is settled as (RFC 3080, section 2.3.1).
 ghost use Rattle.std.specs.Prelude.{◌≡◌, true, Some, map, option_map, bytes_eq};
 ghost use Rattle.std.specs.List.{list_any};
-ghost use Rattle.beep_mgmt.specs.Form.{form_of, plain_profile, chosen, okay};
-ghost use Rattle.beep_asked.specs.Request.{kept_of};
+ghost use Rattle.beep_management.specs.beep_mgmt.specs.Form.{form_of, plain_profile, chosen, okay};
+ghost use Rattle.beep_management.specs.beep_asked.specs.Request.{kept_of};
 ghost use Rattle.beep_answering.specs.Decided.{is_reply_to, IsFirstOf, IsBegunBy, IsClosedBy, refused_as, IsSettledAs};
 
 use crate::settled::Settled;
-use beep_asked::Request;
-use beep_chars::Text;
-use beep_mgmt::{Mgmt, Profile, Profiles};
+use beep_management::beep_asked::Request;
+use beep_management::beep_chars::Text;
+use beep_management::beep_mgmt::{Mgmt, Profile, Profiles};
 
 /// What the reply to an own request is settled as, which has the form that it asks for.
 pub fn settled_as(request: &Request, said: Option<Mgmt>) -> Settled

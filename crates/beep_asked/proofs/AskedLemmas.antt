@@ -1,10 +1,10 @@
 -- The lives that requests name, over the moments of channel zero.
 use Rattle.std.proofs.Common.{◌≡◌, ℕ, ◌<◌, ◌≤◌, ◌==◌, nat_lt, Bool, true, false, not, ◌&&◌, List, [], ◌∷◌, length, Option, Some, None, refl, sym, ap, ◌∙◌, arith, subst}
 use Rattle.std.proofs.lemmas.Bool.Decides.{nat_tests}
-use Rattle.beep_history.specs.declared.journal.Side.{Side}
-use Rattle.beep_mgmt.specs.Form.{Form, greeting, start, chosen, close, okay, fault}
-use Rattle.beep_journal.specs.Lives.{Event, start_granted, close_granted, lives, is_live, life_named}
-use Rattle.beep_journal.proofs.MomentLemmas.{equal-number, apart-less, and-false, named-within, other-start, other-start-lives, again-lives, again-live, start-lives, other-close, close-live, stale-live}
+use Rattle.beep_standing.specs.beep_history.specs.declared.journal.Side.{Side}
+use Rattle.beep_standing.specs.beep_mgmt.specs.Form.{Form, greeting, start, chosen, close, okay, fault}
+use Rattle.beep_standing.specs.beep_journal.specs.Lives.{Event, start_granted, close_granted, lives, is_live, life_named}
+use Rattle.beep_standing.specs.beep_journal.proofs.MomentLemmas.{equal-number, apart-less, and-false, named-within, other-start, other-start-lives, again-lives, again-live, start-lives, other-close, close-live, stale-live}
 use Rattle.beep_decide.specs.Asks.{is_close_of}
 use Rattle.beep_asked.specs.Kept.{Kept, clear}
 use Rattle.beep_asked.specs.Asked.{names_live, names_life, AreAsked}

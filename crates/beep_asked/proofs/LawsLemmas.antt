@@ -2,20 +2,20 @@
 use Rattle.std.proofs.Common.{◌≡◌, ℕ, ◌+◌, ◌<◌, ◌==◌, nat_lt, Bool, true, false, not, ◌&&◌, ◌||◌, if◌then◌else◌, List, [], ◌∷◌, ◌++◌, length, Option, Some, None, refl, sym, ap, ◌∙◌, arith, subst}
 use Rattle.std.proofs.lemmas.Bool.Decides.{nat_tests}
 use Rattle.std.proofs.lemmas.List.{length-map}
-use Rattle.beep_frame.specs.declared.head.Head.{Head}
-use Rattle.beep_frame.specs.declared.kind.Kind.{Kind}
-use Rattle.beep_frame.specs.declared.seq.Seq.{Seq}
-use Rattle.beep_frame.specs.Frame.{is_msg, is_reply, same_kind}
-use Rattle.beep_text.specs.Said.{element_said}
-use Rattle.beep_mgmt.specs.Form.{Form, greeting, start, chosen, close, okay, fault}
-use Rattle.beep_mgmt.specs.Message.{message_said}
-use Rattle.beep_history.specs.declared.journal.Side.{Side}
-use Rattle.beep_history.specs.Journal.{Item, began, passed, told, same_side, other, opening}
-use Rattle.beep_history.specs.Marks.{ends_reply, position_of}
-use Rattle.beep_history.proofs.SoundLemmas.{IsDue, Sound}
-use Rattle.beep_journal.specs.Lives.{Event, lives, is_live, life_named, has_release}
-use Rattle.beep_journal.specs.Zero.{zero_events, coming, granting, gathered, asked, said_to, has_form, completes_form}
-use Rattle.beep_journal.proofs.MomentLemmas.{same-number, apart-more, and-false, above-zero}
+use Rattle.beep_standing.specs.beep_frame.specs.declared.head.Head.{Head}
+use Rattle.beep_standing.specs.beep_frame.specs.declared.kind.Kind.{Kind}
+use Rattle.beep_standing.specs.beep_frame.specs.declared.seq.Seq.{Seq}
+use Rattle.beep_standing.specs.beep_frame.specs.Frame.{is_msg, is_reply, same_kind}
+use Rattle.beep_standing.specs.beep_text.specs.Said.{element_said}
+use Rattle.beep_standing.specs.beep_mgmt.specs.Form.{Form, greeting, start, chosen, close, okay, fault}
+use Rattle.beep_standing.specs.beep_mgmt.specs.Message.{message_said}
+use Rattle.beep_standing.specs.beep_history.specs.declared.journal.Side.{Side}
+use Rattle.beep_standing.specs.beep_history.specs.Journal.{Item, began, passed, told, same_side, other, opening}
+use Rattle.beep_standing.specs.beep_history.specs.Marks.{ends_reply, position_of}
+use Rattle.beep_standing.specs.beep_history.proofs.SoundLemmas.{IsDue, Sound}
+use Rattle.beep_standing.specs.beep_journal.specs.Lives.{Event, lives, is_live, life_named, has_release}
+use Rattle.beep_standing.specs.beep_journal.specs.Zero.{zero_events, coming, granting, gathered, asked, said_to, has_form, completes_form}
+use Rattle.beep_standing.specs.beep_journal.proofs.MomentLemmas.{same-number, apart-more, and-false, above-zero}
 use Rattle.beep_standing.specs.Moving.{MovesNone}
 use Rattle.beep_decide.specs.Asks.{is_close_of}
 use Rattle.beep_asked.specs.Kept.{Kept, implied_request, names_one, new_kept, place_of, fits, grants, clear_one, cleared_by, after_grant}

@@ -1,16 +1,16 @@
 -- What a whole message of channel zero makes of lives and of the requests kept, by its moment.
 use Rattle.std.proofs.Common.{◌≡◌, ℕ, ◌==◌, nat_lt, Bool, true, false, not, ◌&&◌, ◌||◌, if◌then◌else◌, List, [], ◌∷◌, ◌++◌, length, Option, Some, None, refl, sym, ◌∙◌, arith, subst}
 use Rattle.std.proofs.lemmas.Bool.Decides.{nat_tests}
-use Rattle.beep_frame.specs.declared.kind.Kind.{Kind}
-use Rattle.beep_frame.specs.Frame.{is_msg, same_kind}
-use Rattle.beep_history.specs.declared.journal.Side.{Side}
-use Rattle.beep_history.specs.Journal.{Item, began, passed, told, same_side, other}
-use Rattle.beep_history.specs.Marks.{position_of}
-use Rattle.beep_mgmt.specs.Form.{Form, greeting, start, chosen, close, okay, fault}
-use Rattle.beep_mgmt.specs.Message.{message_said}
-use Rattle.beep_journal.specs.Lives.{Event, start_granted, close_granted, lives, is_live, life_named, has_release}
-use Rattle.beep_journal.specs.Zero.{zero_events, coming, granting, gathered, asked, said_to, completes_form}
-use Rattle.beep_journal.proofs.MomentLemmas.{equal-number, above-zero, again-lives, again-live, stale-live}
+use Rattle.beep_standing.specs.beep_frame.specs.declared.kind.Kind.{Kind}
+use Rattle.beep_standing.specs.beep_frame.specs.Frame.{is_msg, same_kind}
+use Rattle.beep_standing.specs.beep_history.specs.declared.journal.Side.{Side}
+use Rattle.beep_standing.specs.beep_history.specs.Journal.{Item, began, passed, told, same_side, other}
+use Rattle.beep_standing.specs.beep_history.specs.Marks.{position_of}
+use Rattle.beep_standing.specs.beep_mgmt.specs.Form.{Form, greeting, start, chosen, close, okay, fault}
+use Rattle.beep_standing.specs.beep_mgmt.specs.Message.{message_said}
+use Rattle.beep_standing.specs.beep_journal.specs.Lives.{Event, start_granted, close_granted, lives, is_live, life_named, has_release}
+use Rattle.beep_standing.specs.beep_journal.specs.Zero.{zero_events, coming, granting, gathered, asked, said_to, completes_form}
+use Rattle.beep_standing.specs.beep_journal.proofs.MomentLemmas.{equal-number, above-zero, again-lives, again-live, stale-live}
 use Rattle.beep_standing.specs.Moving.{MovesNone, BeginsWhere, EndsWhere}
 use Rattle.beep_decide.specs.Asks.{is_close_of}
 use Rattle.beep_asked.specs.Kept.{Kept, clear, cleared_by}

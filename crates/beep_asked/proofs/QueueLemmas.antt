@@ -4,21 +4,21 @@ use Rattle.std.specs.List.{list_any}
 use Rattle.std.specs.Option.{option_map_or}
 use Rattle.std.proofs.lemmas.Bool.{ltb-true}
 use Rattle.std.proofs.lemmas.Bool.Decides.{nat_tests}
-use Rattle.beep_frame.specs.declared.head.Head.{Head}
-use Rattle.beep_frame.specs.Frame.{is_msg, is_reply}
-use Rattle.beep_mgmt.specs.Form.{Form}
-use Rattle.beep_mgmt.specs.Message.{message_said}
-use Rattle.beep_history.specs.declared.journal.Side.{Side}
-use Rattle.beep_history.specs.Journal.{Item, passed, other}
-use Rattle.beep_history.specs.Marks.{requests, latest, previous, is_whole, reply, ends_reply, named, position_of}
-use Rattle.beep_history.specs.Broken.{under_way, KeepsExchangeRules}
-use Rattle.beep_history.proofs.StepsLemmas.{whole-passed-mine, reply-passed-mine}
-use Rattle.beep_history.proofs.SoundLemmas.{IsDue, Sound, is_open}
-use Rattle.beep_history.proofs.PassedLemmas.{sound, answered-ended}
-use Rattle.beep_exchange.proofs.TagLemmas.{asked-of}
-use Rattle.beep_journal.specs.Lives.{Event}
-use Rattle.beep_journal.specs.Zero.{zero_events, gathered, asked, said_at, said_to}
-use Rattle.beep_journal.proofs.MomentLemmas.{same-number, apart-more}
+use Rattle.beep_standing.specs.beep_frame.specs.declared.head.Head.{Head}
+use Rattle.beep_standing.specs.beep_frame.specs.Frame.{is_msg, is_reply}
+use Rattle.beep_standing.specs.beep_mgmt.specs.Form.{Form}
+use Rattle.beep_standing.specs.beep_mgmt.specs.Message.{message_said}
+use Rattle.beep_standing.specs.beep_history.specs.declared.journal.Side.{Side}
+use Rattle.beep_standing.specs.beep_history.specs.Journal.{Item, passed, other}
+use Rattle.beep_standing.specs.beep_history.specs.Marks.{requests, latest, previous, is_whole, reply, ends_reply, named, position_of}
+use Rattle.beep_standing.specs.beep_history.specs.Broken.{under_way, KeepsExchangeRules}
+use Rattle.beep_standing.specs.beep_history.proofs.StepsLemmas.{whole-passed-mine, reply-passed-mine}
+use Rattle.beep_standing.specs.beep_history.proofs.SoundLemmas.{IsDue, Sound, is_open}
+use Rattle.beep_standing.specs.beep_history.proofs.PassedLemmas.{sound, answered-ended}
+use Rattle.beep_standing.specs.beep_exchange.proofs.TagLemmas.{asked-of}
+use Rattle.beep_standing.specs.beep_journal.specs.Lives.{Event}
+use Rattle.beep_standing.specs.beep_journal.specs.Zero.{zero_events, gathered, asked, said_at, said_to}
+use Rattle.beep_standing.specs.beep_journal.proofs.MomentLemmas.{same-number, apart-more}
 use Rattle.beep_asked.specs.Kept.{Kept}
 use Rattle.beep_asked.specs.Asked.{IsAsked, AreAsked, AreWaiting}
 

@@ -3,15 +3,15 @@
 -- The code keeps a queue for each side; here what it keeps of each request is what its message says
 -- and what the moments say of the life that it names.
 use Rattle.std.specs.Prelude.{◌≡◌, ℕ, ◌+◌, ◌<◌, ◌≤◌, ◌==◌, nat_lt, Bool, true, false, ◌&&◌, List, [], ◌∷◌, length, Option, None, Some}
-use Rattle.beep_frame.specs.declared.head.Head.{Head}
-use Rattle.beep_frame.specs.Frame.{is_msg, is_ans, is_reply}
-use Rattle.beep_mgmt.specs.Form.{Form, greeting, start, chosen, close, okay, fault}
-use Rattle.beep_history.specs.declared.journal.Side.{Side}
-use Rattle.beep_history.specs.Journal.{Item}
-use Rattle.beep_history.specs.Marks.{is_whole, is_answered}
-use Rattle.beep_history.specs.Broken.{under_way, KeepsExchangeRules}
-use Rattle.beep_journal.specs.Lives.{Event, lives, is_live, life_named}
-use Rattle.beep_journal.specs.Zero.{zero_events, asked}
+use Rattle.beep_standing.specs.beep_frame.specs.declared.head.Head.{Head}
+use Rattle.beep_standing.specs.beep_frame.specs.Frame.{is_msg, is_ans, is_reply}
+use Rattle.beep_standing.specs.beep_mgmt.specs.Form.{Form, greeting, start, chosen, close, okay, fault}
+use Rattle.beep_standing.specs.beep_history.specs.declared.journal.Side.{Side}
+use Rattle.beep_standing.specs.beep_history.specs.Journal.{Item}
+use Rattle.beep_standing.specs.beep_history.specs.Marks.{is_whole, is_answered}
+use Rattle.beep_standing.specs.beep_history.specs.Broken.{under_way, KeepsExchangeRules}
+use Rattle.beep_standing.specs.beep_journal.specs.Lives.{Event, lives, is_live, life_named}
+use Rattle.beep_standing.specs.beep_journal.specs.Zero.{zero_events, asked}
 use Rattle.beep_asked.specs.Kept.{Kept}
 
 -- ---- the life that a request names

@@ -2,8 +2,8 @@
 -- the numbers that are live (RFC 3080, sections 2.3.1.2 and 2.3.1.3).
 -- The code asks the numbers that are live, and keeps no moment.
 use Rattle.std.specs.Prelude.{ℕ, nat_lt, Bool, not, ◌&&◌, List, Option, None, Some}
-use Rattle.beep_mgmt.specs.Form.{Form, greeting, start, chosen, close, okay, fault}
-use Rattle.beep_journal.specs.Lives.{Event}
+use Rattle.beep_standing.specs.beep_mgmt.specs.Form.{Form, greeting, start, chosen, close, okay, fault}
+use Rattle.beep_standing.specs.beep_journal.specs.Lives.{Event}
 use Rattle.beep_standing.specs.Moving.{MovesNone, BeginsWhere, EndsWhere}
 use Rattle.beep_asked.specs.Kept.{Kept}
 

@@ -3,10 +3,10 @@
 -- The code keeps texts and lists of profiles; here what a request says is its form.
 use Rattle.std.specs.Prelude.{ℕ, ◌-◌, ◌==◌, nat_lt, Bool, true, false, not, ◌&&◌, ◌||◌, if◌then◌else◌, List, length, map, take, slice_get, Option, None, Some}
 use Rattle.std.specs.List.{list_any}
-use Rattle.beep_frame.specs.declared.kind.Kind.{Kind}
-use Rattle.beep_frame.specs.Frame.{same_kind}
-use Rattle.beep_mgmt.specs.Form.{Form, greeting, start, chosen, close, okay, fault}
-use Rattle.beep_journal.specs.Zero.{has_form}
+use Rattle.beep_standing.specs.beep_frame.specs.declared.kind.Kind.{Kind}
+use Rattle.beep_standing.specs.beep_frame.specs.Frame.{same_kind}
+use Rattle.beep_standing.specs.beep_mgmt.specs.Form.{Form, greeting, start, chosen, close, okay, fault}
+use Rattle.beep_standing.specs.beep_journal.specs.Zero.{has_form}
 use Rattle.beep_decide.specs.Asks.{is_start_of, is_close_of}
 
 -- what the request says, whether it is the implied one, and of a close above 0 whether the life

@@ -1,6 +1,6 @@
 -- What a request in code stands for.
 use Rattle.std.specs.Prelude.{List, map, option_map}
-use Rattle.beep_mgmt.specs.Form.{form_of}
+use Rattle.beep_standing.specs.beep_mgmt.specs.Form.{form_of}
 use Rattle.beep_asked.specs.declared.request.Request.{Request}
 use Rattle.beep_asked.specs.Kept.{Kept}
 

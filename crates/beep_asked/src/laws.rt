@@ -1,14 +1,14 @@
 //! What each item of channel zero leaves of the requests that wait for their reply, and what a
 //! whole message makes of lives: each function does nothing, and its contract is the fact.
 ghost use Rattle.std.specs.Prelude.{◌≡◌, ℕ, ◌<◌, ◌==◌, ◌||◌, ◌∷◌, ◌++◌, [], List, length, Bool, true, false};
-ghost use Rattle.beep_frame.specs.declared.head.Head.{Head};
-ghost use Rattle.beep_frame.specs.declared.seq.Seq.{Seq};
-ghost use Rattle.beep_mgmt.specs.Message.{message_said};
-ghost use Rattle.beep_history.specs.declared.journal.Side.{Side};
-ghost use Rattle.beep_history.specs.Journal.{Item, began, passed, told, other, opening};
-ghost use Rattle.beep_history.specs.Marks.{position_of};
-ghost use Rattle.beep_journal.specs.Lives.{has_release};
-ghost use Rattle.beep_journal.specs.Zero.{zero_events, gathered, said_to, completes_form};
+ghost use Rattle.beep_standing.specs.beep_frame.specs.declared.head.Head.{Head};
+ghost use Rattle.beep_standing.specs.beep_frame.specs.declared.seq.Seq.{Seq};
+ghost use Rattle.beep_standing.specs.beep_mgmt.specs.Message.{message_said};
+ghost use Rattle.beep_standing.specs.beep_history.specs.declared.journal.Side.{Side};
+ghost use Rattle.beep_standing.specs.beep_history.specs.Journal.{Item, began, passed, told, other, opening};
+ghost use Rattle.beep_standing.specs.beep_history.specs.Marks.{position_of};
+ghost use Rattle.beep_standing.specs.beep_journal.specs.Lives.{has_release};
+ghost use Rattle.beep_standing.specs.beep_journal.specs.Zero.{zero_events, gathered, said_to, completes_form};
 ghost use Rattle.beep_standing.specs.Moving.{MovesNone};
 ghost use Rattle.beep_decide.specs.Asks.{is_close_of};
 ghost use Rattle.beep_asked.specs.Kept.{Kept, implied_request, new_kept, fits, grants, after_grant};

@@ -12,3 +12,10 @@ mod waiting;
 
 pub use request::Request;
 pub use waiting::Waiting;
+
+// Crates below, which are named through this one.
+pub use beep_decide;
+pub use beep_standing::{
+    beep_channel, beep_chars, beep_frame, beep_history, beep_inbox, beep_journal, beep_lives,
+    beep_mgmt, beep_octets, beep_outbox, beep_seq, beep_text, beep_turns,
+};

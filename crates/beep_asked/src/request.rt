@@ -1,10 +1,10 @@
 //! A request of channel zero that waits for its reply (RFC 3080, section 2.3.1).
 ghost use Rattle.std.specs.Prelude.{◌≡◌, None, true, false, option_map};
-ghost use Rattle.beep_mgmt.specs.Form.{form_of};
+ghost use Rattle.beep_standing.specs.beep_mgmt.specs.Form.{form_of};
 
-use beep_frame::Kind;
-use beep_journal::has_form;
-use beep_mgmt::Mgmt;
+use beep_standing::beep_frame::Kind;
+use beep_standing::beep_journal::has_form;
+use beep_standing::beep_mgmt::Mgmt;
 
 /// A whole request: what it says, where it could be read; whether it is the implied one; and
 /// whether it is a close of a number above 0 whose life is live.

@@ -4,16 +4,16 @@ ghost use Rattle.std.specs.Prelude.{◌≡◌, ◌∷◌, ◌++◌, ◌+◌, ◌
 ghost use Rattle.std.specs.List.{list_any};
 ghost use Rattle.std.specs.Option.{option_copied, option_to_list, option_map_or};
 ghost use Rattle.std.specs.VecDeque.{deque_len, deque_capacity};
-ghost use Rattle.beep_mgmt.specs.Form.{form_of};
+ghost use Rattle.beep_standing.specs.beep_mgmt.specs.Form.{form_of};
 ghost use Rattle.beep_decide.specs.Asks.{is_close_of};
 ghost use Rattle.beep_asked.specs.Kept.{implied_request, oldest, others, fits, after_grant, closes_one, closes, is_leaving, asks_otherwise};
 ghost use Rattle.beep_asked.specs.Kept.{clear as cleared};
 ghost use Rattle.beep_asked.specs.Request.{kept_of, all_kept};
 
 use crate::request::Request;
-use beep_frame::Kind;
-use beep_mgmt::Mgmt;
-use beep_octets::NoMemory;
+use beep_standing::beep_frame::Kind;
+use beep_standing::beep_mgmt::Mgmt;
+use beep_standing::beep_octets::NoMemory;
 use std::alloc::Global;
 use std::collections::VecDeque;
 use std::marker::Model;

@@ -1,10 +1,10 @@
 -- The words are one command, or none.
 use Rattle.std.proofs.Common.{◌≡◌, ◌↔◌, ◌⊎◌, ℕ, List, Option, Some, None, inl, inr, sym, ◌∙◌}
-use Rattle.beep_words.specs.declared.command.ShowSettings.{ShowSettings as Settings}
-use Rattle.beep_words.specs.declared.command.PairSettings.{PairSettings}
-use Rattle.beep_settings.specs.declared.settings.Settings.{Settings as EndSettings}
-use Rattle.beep_words.specs.declared.command.Command.{Command}
-use Rattle.beep_words.specs.CommandSet.{IsShow, IsReplay, IsSend, IsListen, IsPair, IsCommand, IsNoCommand, IsOfEnd}
+use Rattle.beep_show.specs.beep_words.specs.declared.command.ShowSettings.{ShowSettings as Settings}
+use Rattle.beep_show.specs.beep_words.specs.declared.command.PairSettings.{PairSettings}
+use Rattle.beep_runs.specs.beep_settings.specs.declared.settings.Settings.{Settings as EndSettings}
+use Rattle.beep_show.specs.beep_words.specs.declared.command.Command.{Command}
+use Rattle.beep_show.specs.beep_words.specs.CommandSet.{IsShow, IsReplay, IsSend, IsListen, IsPair, IsCommand, IsNoCommand, IsOfEnd}
 
 module _ (words : List (List ℕ)) (result : Option Command) (reads : (command : Command) → ((result ≡ Some command) ↔ IsCommand command words)) where
   -- the words say one command

@@ -3,18 +3,18 @@ use Rattle.std.proofs.Common.{◌≡◌, ℕ, ◌<◌, ◌⊎◌, List, [], ◌�
 use Rattle.std.specs.List.{flat_map, AllByRecursion}
 use Rattle.std.proofs.lemmas.List.{length-replicate}
 use Rattle.std.specs.Io.KnownBytes.{Consumes, IsAtEnd}
-use Rattle.beep_frame.specs.declared.head.Head.{Head}
-use Rattle.beep_frame.specs.declared.rule.Rule.{Rule}
-use Rattle.beep_frame.specs.declared.limits.TheConstants.{MAX_PAYLOAD}
-use Rattle.beep_frame.specs.Frame.{Frame, framed, seq_frame, IsFrame, IsHead}
-use Rattle.beep_frame.specs.Spelling.{spelling, header, header_line, seq_line, line_end, trailer}
-use Rattle.beep_frame.specs.Stream.{Stream, IsAlive, IsWithin, BreaksBy}
-use Rattle.beep_frame.specs.Line.{at_head, at_seq}
-use Rattle.beep_frame.proofs.StreamLemmas.{same_frame, same_line, parted, tail_of}
-use Rattle.beep_frame.proofs.LawLemmas.{stays_alive, is_one_reading}
-use Rattle.beep_wires.specs.Counts.{Rose}
-use Rattle.beep_wires.specs.States.{SourceState}
-use Rattle.beep_words.specs.declared.command.ShowSettings.{ShowSettings as Settings}
+use Rattle.beep_runs.specs.beep_frame.specs.declared.head.Head.{Head}
+use Rattle.beep_runs.specs.beep_frame.specs.declared.rule.Rule.{Rule}
+use Rattle.beep_runs.specs.beep_frame.specs.declared.limits.TheConstants.{MAX_PAYLOAD}
+use Rattle.beep_runs.specs.beep_frame.specs.Frame.{Frame, framed, seq_frame, IsFrame, IsHead}
+use Rattle.beep_runs.specs.beep_frame.specs.Spelling.{spelling, header, header_line, seq_line, line_end, trailer}
+use Rattle.beep_runs.specs.beep_frame.specs.Stream.{Stream, IsAlive, IsWithin, BreaksBy}
+use Rattle.beep_runs.specs.beep_frame.specs.Line.{at_head, at_seq}
+use Rattle.beep_runs.specs.beep_frame.proofs.StreamLemmas.{same_frame, same_line, parted, tail_of}
+use Rattle.beep_runs.specs.beep_frame.proofs.LawLemmas.{stays_alive, is_one_reading}
+use Rattle.beep_runs.specs.beep_wires.specs.Counts.{Rose}
+use Rattle.beep_runs.specs.beep_wires.specs.States.{SourceState}
+use Rattle.beep_show.specs.beep_words.specs.declared.command.ShowSettings.{ShowSettings as Settings}
 use Rattle.beep_show.specs.Show.{IsRead, IsPlain, NoFault, IsReport, whole, broken, read_fault, cut, spent, Run, Shown, report, write_fault, no_memory}
 
 -- ---- no header of whole frames has a size above their limit

@@ -1,14 +1,14 @@
 -- Runs that the clauses of `beep_run` exclude.
 use Rattle.std.proofs.Common.{◌≡◌, ℕ, ◌<◌, ◌≤◌, Bool, false, List, [], ◌∷◌, ◌++◌, drop, length, codes, ap, sym, ◌∙◌, arith, append_assoc}
 use Rattle.std.specs.List.{flat_map}
-use Rattle.beep_frame.specs.declared.kind.Kind.{Kind}
-use Rattle.beep_frame.specs.declared.head.Head.{Head}
-use Rattle.beep_frame.specs.declared.limits.TheConstants.{MAX_PAYLOAD}
-use Rattle.beep_frame.specs.Frame.{Frame, framed, seq_frame, IsHead, head_of}
-use Rattle.beep_frame.specs.Spelling.{header, header_line, seq_line, keyword, spelling}
-use Rattle.beep_wires.specs.Counts.{Rose}
-use Rattle.beep_wires.specs.States.{SourceState}
-use Rattle.beep_words.specs.declared.command.ShowSettings.{ShowSettings as Settings}
+use Rattle.beep_runs.specs.beep_frame.specs.declared.kind.Kind.{Kind}
+use Rattle.beep_runs.specs.beep_frame.specs.declared.head.Head.{Head}
+use Rattle.beep_runs.specs.beep_frame.specs.declared.limits.TheConstants.{MAX_PAYLOAD}
+use Rattle.beep_runs.specs.beep_frame.specs.Frame.{Frame, framed, seq_frame, IsHead, head_of}
+use Rattle.beep_runs.specs.beep_frame.specs.Spelling.{header, header_line, seq_line, keyword, spelling}
+use Rattle.beep_runs.specs.beep_wires.specs.Counts.{Rose}
+use Rattle.beep_runs.specs.beep_wires.specs.States.{SourceState}
+use Rattle.beep_show.specs.beep_words.specs.declared.command.ShowSettings.{ShowSettings as Settings}
 use Rattle.beep_show.specs.Texts.{frame_line, IsEntry, alone, with_element, AreLines, totals, totals_line, read_fault_line, broken_line, cut_line, spent_line}
 use Rattle.beep_show.specs.Show.{IsRead, IsText, IsWhole, IsCut, IsSpent, IsFault, IsReport, whole, broken, read_fault, cut, spent, BeginsLines, IsShort, in_lines, in_report}
 use Rattle.beep_cmd.proofs.CompleteLemmas.{first_size}

@@ -4,21 +4,21 @@ use Rattle.std.specs.declared.result.Result.{Result}
 use Rattle.std.specs.declared.result.Result.TheVariants.{Ok, Err}
 use Rattle.std.specs.Result.{IfOk, OnOk}
 use Rattle.std.specs.Io.KnownBytes.{Consumes}
-use Rattle.beep_history.specs.declared.journal.Side.{Side}
-use Rattle.beep_frame.specs.Modulo.{modulo_2_64}
-use Rattle.beep_journal.specs.declared.role.Role.{Role}
-use Rattle.beep_journal.specs.Log.{Entry, flat}
-use Rattle.beep_journal.specs.Broken.{none_tunes}
-use Rattle.beep_journal.specs.Journal.{Past, Fault, Shows}
-use Rattle.beep_journal.specs.Texts.{report}
-use Rattle.beep_journal.proofs.ShownLemmas.{one-shown}
-use Rattle.beep_record.specs.declared.verdict.Verdict.{Verdict}
-use Rattle.beep_record.specs.Verdicts.{verdict_of, verdict_on, Replays, ReplaysText}
-use Rattle.beep_record.specs.Record.{Says}
-use Rattle.beep_record.proofs.LawLemmas.{one_log, no_place}
-use Rattle.beep_wires.specs.Counts.{Rose}
-use Rattle.beep_wires.specs.States.{SourceState}
-use Rattle.beep_input.specs.declared.whole.TheConstants.{MAX_INPUT}
+use Rattle.beep_runs.specs.beep_history.specs.declared.journal.Side.{Side}
+use Rattle.beep_runs.specs.beep_frame.specs.Modulo.{modulo_2_64}
+use Rattle.beep_runs.specs.beep_journal.specs.declared.role.Role.{Role}
+use Rattle.beep_runs.specs.beep_journal.specs.Log.{Entry, flat}
+use Rattle.beep_runs.specs.beep_journal.specs.Broken.{none_tunes}
+use Rattle.beep_runs.specs.beep_journal.specs.Journal.{Past, Fault, Shows}
+use Rattle.beep_runs.specs.beep_journal.specs.Texts.{report}
+use Rattle.beep_runs.specs.beep_journal.proofs.ShownLemmas.{one-shown}
+use Rattle.beep_runs.specs.beep_record.specs.declared.verdict.Verdict.{Verdict}
+use Rattle.beep_runs.specs.beep_record.specs.Verdicts.{verdict_of, verdict_on, Replays, ReplaysText}
+use Rattle.beep_runs.specs.beep_record.specs.Record.{Says}
+use Rattle.beep_runs.specs.beep_record.proofs.LawLemmas.{one_log, no_place}
+use Rattle.beep_runs.specs.beep_wires.specs.Counts.{Rose}
+use Rattle.beep_runs.specs.beep_wires.specs.States.{SourceState}
+use Rattle.beep_show.specs.beep_input.specs.declared.whole.TheConstants.{MAX_INPUT}
 use Rattle.beep_show.specs.Show.{NoFault, Run}
 use Rattle.beep_cmd.specs.Replay.{IsSession, IsJudgement, fine, peer_fault, own_fault, bad, IsReplayReport, judged, long, unread, Replayed, reported, cut_short, starved, IsLawful}
 use Rattle.beep_cmd.specs.Judging.{verdict_status, verdict_line}
@@ -54,14 +54,14 @@ module _ (octets : List ℕ) (role : Role) (log : List Entry) (within : length o
     by_fault None e v = no_fault_judged e v
     by_fault (Some fault) e v = fault_judged fault fault.side refl e v
 
-  log_judged : (verdict : Verdict) (status : ℕ) (told text : List ℕ) → Replays log verdict [] told → status ≡ verdict_status verdict → text ≡ told ++ verdict_line verdict → IsJudgement octets text status
-  log_judged verdict status told text r status_is text_is =
+  log_judged : (verdict : Verdict) (status : ℕ) (replayed text : List ℕ) → Replays log verdict [] replayed → status ≡ verdict_status verdict → text ≡ replayed ++ verdict_line verdict → IsJudgement octets text status
+  log_judged verdict status replayed text r status_is text_is =
       by_fault r.past r.shows verdict status text status_is (text_is ∙ ap (λ x. x ++ verdict_line verdict) r.text_is) r.past.fault refl r.verdict_is
 
-pub text_reported : {E : Type 0} (result : Result ℕ E) (octets told text : List ℕ) (verdict : Verdict) → ReplaysText octets verdict told → IfOk result (λ status. status ≡ verdict_status verdict)
-    → OnOk result (text ≡ told ++ verdict_line verdict) → IfOk result (λ status. length octets ≤ MAX_INPUT → IsJudgement octets text status)
-text_reported (Ok status) octets told text verdict t status_is text_is = λ within. log_judged octets t.role t.log within t.says verdict status told text t.replays status_is text_is
-text_reported (Err e) octets told text verdict t status_is text_is = tt
+pub text_reported : {E : Type 0} (result : Result ℕ E) (octets replayed text : List ℕ) (verdict : Verdict) → ReplaysText octets verdict replayed → IfOk result (λ status. status ≡ verdict_status verdict)
+    → OnOk result (text ≡ replayed ++ verdict_line verdict) → IfOk result (λ status. length octets ≤ MAX_INPUT → IsJudgement octets text status)
+text_reported (Ok status) octets replayed text verdict t status_is text_is = λ within. log_judged octets t.role t.log within t.says verdict status replayed text t.replays status_is text_is
+text_reported (Err e) octets replayed text verdict t status_is text_is = tt
 
 -- ---- when all went well
 

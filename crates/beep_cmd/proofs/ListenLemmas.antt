@@ -2,31 +2,31 @@
 use Rattle.std.proofs.Common.{◌≡◌, ◌⊎◌, inl, inr, ℕ, ◌+◌, ◌≤◌, Bool, true, false, if◌then◌else◌, List, [], ◌∷◌, Option, Some, refl, sym, ap, ◌∙◌, subst, arith}
 use Rattle.std.specs.Io.KnownBytes.{Appends}
 use Rattle.std.proofs.KnownBytes.{Appends-nil, Appends-trans}
-use Rattle.beep_wires.specs.Counts.{Rose}
-use Rattle.beep_wires.specs.Log.{Entry}
-use Rattle.beep_wires.specs.Links.{Link}
-use Rattle.beep_wires.specs.States.{SinkState}
-use Rattle.beep_journal.specs.declared.role.Role.{Role}
-use Rattle.beep_settings.specs.declared.settings.Settings.{Settings}
-use Rattle.beep_link.specs.declared.ended.Ended.{Ended}
-use Rattle.beep_link.specs.Causes.{Seen, WhereKnown, WithText}
-use Rattle.beep_steps.specs.Refusing.{GoesUnrefused}
-use Rattle.beep_steps.specs.EachEnd.{EachEndOn}
-use Rattle.beep_steps.specs.Logs.{moments, Shows, terms_by}
-use Rattle.beep_listener.specs.Listening.{is_whole, listener_plan, AreLinesOf}
+use Rattle.beep_runs.specs.beep_wires.specs.Counts.{Rose}
+use Rattle.beep_runs.specs.beep_wires.specs.Log.{Entry}
+use Rattle.beep_runs.specs.beep_wires.specs.Links.{Link}
+use Rattle.beep_runs.specs.beep_wires.specs.States.{SinkState}
+use Rattle.beep_runs.specs.beep_journal.specs.declared.role.Role.{Role}
+use Rattle.beep_runs.specs.beep_settings.specs.declared.settings.Settings.{Settings}
+use Rattle.beep_runs.specs.beep_link.specs.declared.ended.Ended.{Ended}
+use Rattle.beep_runs.specs.beep_link.specs.Causes.{Seen, WhereKnown, WithText}
+use Rattle.beep_runs.specs.beep_steps.specs.Refusing.{GoesUnrefused, ReadsOnlyGoing}
+use Rattle.beep_runs.specs.beep_steps.specs.EachEnd.{EachEndOn}
+use Rattle.beep_runs.specs.beep_steps.specs.Logs.{moments, Shows, terms_by}
+use Rattle.beep_runs.specs.beep_listener.specs.Listening.{is_whole, listener_plan, AreLinesOf}
 use Rattle.beep_cmd.specs.Ends.{ended_line, ended_status, ends_run, Tells, whole_line}
-use Rattle.beep_cmd.specs.Listening.{AreTold, EndsBy, first_of, run_cause, Session, SessionsOver, text_of, WritesLines, WritesOf}
+use Rattle.beep_cmd.specs.Listening.{AreKnown, EndsBy, first_of, run_cause, Session, SessionsOver, text_of, WritesLines, WritesOf}
 use Rattle.beep_cmd.specs.Serving.{GoesOn, WritesSession, WritesSessions}
 
 -- ---- which logs are known
 
-pub told_before : (before mid after : Seen) → GoesOn mid after → AreTold before after → AreTold before mid
-told_before before mid after g told link least less =
-    let it = told link least (omega (arith, less, g.given)) in
+pub known_before : (before mid after : Seen) → GoesOn mid after → AreKnown before after → AreKnown before mid
+known_before before mid after g known link least less =
+    let it = known link least (omega (arith, less, g.given)) in
     (it.0, ap (λ (l : Link). l.log) (sym (g.same link less)) ∙ it.1)
 
-pub told_after : (before mid after : Seen) → before.counts.given ≤ mid.counts.given → AreTold before after → AreTold mid after
-told_after before mid after more told link least less = told link (omega (arith, more, least)) less
+pub known_after : (before mid after : Seen) → before.counts.given ≤ mid.counts.given → AreKnown before after → AreKnown mid after
+known_after before mid after more known link least less = known link (omega (arith, more, least)) less
 
 -- ---- one session
 
@@ -37,24 +37,27 @@ module _ (settings : Settings) (cause : Ended) (before used after : Seen) (link 
 
   session_by : (log : List Entry) → (after.state before.counts.given).log ≡ Some log → Shows (terms_by Role.Listener settings) cause log
       → WithText old new (AreLinesOf (listener_plan settings) (is_whole cause) (moments log))
-      → GoesUnrefused (terms_by Role.Listener settings) cause log → EachEndOn (listener_plan settings) cause log → WritesSession settings cause before after old new
-  session_by log told shows text unrefused each = record {
+      → GoesUnrefused (terms_by Role.Listener settings) cause log → ReadsOnlyGoing (terms_by Role.Listener settings) log → EachEndOn (listener_plan settings) cause log
+      → WritesSession settings cause before after old new
+  session_by log known shows text unrefused waits each = record {
     text = text.0;
     lines = text.1;
-    writes = subst (WhereKnown (WritesOf settings (record { cause = cause; text = text.0 }))) (sym told) (record { shows = shows; lines = text.2; unrefused = unrefused; each = each });
+    writes = subst (WhereKnown (WritesOf settings (record { cause = cause; text = text.0 }))) (sym known) (record { shows = shows; lines = text.2; unrefused = unrefused; waits = waits; each = each });
   }
 
   pub session_lines : WhereKnown (Shows (terms_by Role.Listener settings) cause) (used.state link).log
       → WhereKnown (λ log. WithText old new (AreLinesOf (listener_plan settings) (is_whole cause) (moments log))) (used.state link).log
       → WhereKnown (GoesUnrefused (terms_by Role.Listener settings) cause) (used.state link).log
+      → WhereKnown (ReadsOnlyGoing (terms_by Role.Listener settings)) (used.state link).log
       → WhereKnown (EachEndOn (listener_plan settings) cause) (used.state link).log
-      → AreTold before after → WritesSession settings cause before after old new
-  session_lines shows text unrefused each told =
-      let it = told before.counts.given (omega arith) (omega (arith, one)) in
+      → AreKnown before after → WritesSession settings cause before after old new
+  session_lines shows text unrefused waits each known =
+      let it = known before.counts.given (omega arith) (omega (arith, one)) in
       let of : (used.state link).log ≡ Some it.0 = sym at_it ∙ it.1 in
       session_by it.0 it.1 (subst (WhereKnown (Shows (terms_by Role.Listener settings) cause)) of shows)
       (subst (WhereKnown (λ log. WithText old new (AreLinesOf (listener_plan settings) (is_whole cause) (moments log)))) of text)
       (subst (WhereKnown (GoesUnrefused (terms_by Role.Listener settings) cause)) of unrefused)
+      (subst (WhereKnown (ReadsOnlyGoing (terms_by Role.Listener settings))) of waits)
       (subst (WhereKnown (EachEndOn (listener_plan settings) cause)) of each)
 
 -- ---- session after session

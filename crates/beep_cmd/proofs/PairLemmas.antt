@@ -2,19 +2,19 @@
 use Rattle.std.proofs.Common.{◌≡◌, ℕ, ◌⊎◌, List, [], ◌++◌, length, take, ◌<◌, Some, None, inl, inr, refl, ap, sym, ◌∙◌, arith, subst, append-nil, length-append}
 use Rattle.std.specs.Io.KnownBytes.{Consumes}
 use Rattle.std.proofs.KnownBytes.{Consumes-nil}
-use Rattle.beep_wires.specs.Counts.{Rose}
-use Rattle.beep_wires.specs.States.{SourceState}
-use Rattle.beep_session.specs.Session.{AreLimits}
-use Rattle.beep_input.specs.declared.whole.TheConstants.{MAX_INPUT}
-use Rattle.beep_input.specs.Whole.{IsGathered}
-use Rattle.beep_input.specs.Lines.{line_after}
-use Rattle.beep_words.specs.declared.command.PairSettings.{PairSettings}
-use Rattle.beep_words.specs.Usable.{IsPairUsable}
+use Rattle.beep_runs.specs.beep_wires.specs.Counts.{Rose}
+use Rattle.beep_runs.specs.beep_wires.specs.States.{SourceState}
+use Rattle.beep_runs.specs.beep_session.specs.Session.{AreLimits}
+use Rattle.beep_show.specs.beep_input.specs.declared.whole.TheConstants.{MAX_INPUT}
+use Rattle.beep_show.specs.beep_input.specs.Whole.{IsGathered}
+use Rattle.beep_show.specs.beep_input.specs.Lines.{line_after}
+use Rattle.beep_show.specs.beep_words.specs.declared.command.PairSettings.{PairSettings}
+use Rattle.beep_show.specs.beep_words.specs.Usable.{IsPairUsable}
 use Rattle.beep_show.specs.Show.{NoFault, Run}
 use Rattle.beep_show.specs.Texts.{bad_line}
 use Rattle.beep_pair.specs.Command.{Sums}
 use Rattle.beep_cmd.specs.Pairing.{TellsPair, TellsSchedule}
-use Rattle.beep_cmd.specs.Pair.{limits_of, IsPairing, runs, bad_schedule, ReadsSchedule, whole, long, unread, IsPairReport, read, made, Paired, told, cut_short, starved, IsSchedule, IsRunnable, by_seed, by_input}
+use Rattle.beep_cmd.specs.Pair.{limits_of, IsPairing, runs, bad_schedule, ReadsSchedule, whole, long, unread, IsPairReport, read, made, Paired, reported, cut_short, starved, IsSchedule, IsRunnable, by_seed, by_input}
 use Rattle.beep_cmd.proofs.CompleteLemmas.{read_first, at_end}
 
 -- settings in their ranges are limits of a session
@@ -27,8 +27,8 @@ usable_limits settings u = record {
 }
 
 -- an input that is too long is bad at the line in which the octet past the limit stands
-pub long_told : (settings : PairSettings) (octets slice text : List ℕ) (number : ℕ) (from to : SourceState) → IsGathered octets from to → MAX_INPUT < length octets → slice ≡ octets → number ≡ line_after (take MAX_INPUT slice) → text ≡ bad_line number → TellsSchedule settings 2 text from to
-long_told settings octets slice text number from to g more e n t = record {
+pub long_said : (settings : PairSettings) (octets slice text : List ℕ) (number : ℕ) (from to : SourceState) → IsGathered octets from to → MAX_INPUT < length octets → slice ≡ octets → number ≡ line_after (take MAX_INPUT slice) → text ≡ bad_line number → TellsSchedule settings 2 text from to
+long_said settings octets slice text number from to g more e n t = record {
   octets = octets;
   consumed = g.consumed;
   reads = long refl (record {
@@ -64,7 +64,7 @@ runnable_report settings got text from to status runnable n c (made seed e s non
 
 -- a schedule that is read or made ends with 0, or out of memory
 pub runnable_complete : (settings : PairSettings) (run : Run) (status : ℕ) → IsRunnable settings run.source.left → NoFault run → Paired settings status run → (status ≡ 0) ⊎ (status ≡ 7)
-runnable_complete settings run status w n (told sees) =
+runnable_complete settings run status w n (reported sees) =
     inl (runnable_report settings sees.octets sees.text run.source run.source_after status w n.read sees.consumed sees.holds)
 runnable_complete settings run status w n (cut_short s rose sees) = absurd (n.write rose)
 runnable_complete settings run status w n (starved s sees) = inr s

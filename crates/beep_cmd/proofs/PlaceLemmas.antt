@@ -1,18 +1,18 @@
 -- No place of a fault is beyond the octets of the record that tells it, so that a word of 64 bits holds it.
 use Rattle.std.proofs.Common.{◌≡◌, ℕ, ◌+◌, ◌≤◌, Bool, true, false, List, [], ◌∷◌, ◌++◌, length, Option, Some, None, inl, inr, ap, sym, arith, subst, length-append}
-use Rattle.beep_frame.specs.declared.head.Head.{Head}
-use Rattle.beep_frame.specs.declared.seq.Seq.{Seq}
-use Rattle.beep_frame.specs.declared.rule.Rule.{Rule}
-use Rattle.beep_frame.specs.Frame.{framed, seq_frame}
-use Rattle.beep_frame.specs.Spelling.{spelling}
-use Rattle.beep_history.specs.declared.journal.Side.{Side}
-use Rattle.beep_history.specs.Journal.{Item, began, passed, told}
-use Rattle.beep_journal.specs.declared.role.Role.{Role}
-use Rattle.beep_journal.specs.Log.{Moment, got, put, none, over, Entry, flat}
-use Rattle.beep_journal.specs.Broken.{Tuning, none_tunes, broken_head, broken_seq, broken_content}
-use Rattle.beep_journal.specs.Journal.{spelled, Fault, Past, no_past, with_rest, fault_at, fault_of, begins, seq_ends, TakesOctet, TakesWhere, Takes, Shows}
-use Rattle.beep_record.specs.Record.{Says}
-use Rattle.beep_record.proofs.SizeLemmas.{said_le}
+use Rattle.beep_runs.specs.beep_frame.specs.declared.head.Head.{Head}
+use Rattle.beep_runs.specs.beep_frame.specs.declared.seq.Seq.{Seq}
+use Rattle.beep_runs.specs.beep_frame.specs.declared.rule.Rule.{Rule}
+use Rattle.beep_runs.specs.beep_frame.specs.Frame.{framed, seq_frame}
+use Rattle.beep_runs.specs.beep_frame.specs.Spelling.{spelling}
+use Rattle.beep_runs.specs.beep_history.specs.declared.journal.Side.{Side}
+use Rattle.beep_runs.specs.beep_history.specs.Journal.{Item, began, passed, told}
+use Rattle.beep_runs.specs.beep_journal.specs.declared.role.Role.{Role}
+use Rattle.beep_runs.specs.beep_journal.specs.Log.{Moment, got, put, none, over, Entry, flat}
+use Rattle.beep_runs.specs.beep_journal.specs.Broken.{Tuning, none_tunes, broken_head, broken_seq, broken_content}
+use Rattle.beep_runs.specs.beep_journal.specs.Journal.{spelled, Fault, Past, no_past, with_rest, fault_at, fault_of, begins, seq_ends, TakesOctet, TakesWhere, Takes, Shows}
+use Rattle.beep_runs.specs.beep_record.specs.Record.{Says}
+use Rattle.beep_runs.specs.beep_record.proofs.SizeLemmas.{said_le}
 
 -- ---- places within the octets of a side
 

@@ -3,29 +3,29 @@ use Rattle.std.proofs.Common.{◌≡◌, ◌≢◌, inl, inr, ℕ, ◌+◌, ◌�
 use Rattle.std.proofs.lemmas.List.{append-nil}
 use Rattle.std.specs.Fmt.{decimal}
 use Rattle.std.specs.Io.KnownBytes.{Appends, Consumes}
-use Rattle.beep_journal.specs.declared.role.Role.{Role}
-use Rattle.beep_record.specs.Record.{first_line, log_text}
-use Rattle.beep_record.specs.declared.limits.TheConstants.{MAX_STATUS}
-use Rattle.beep_wires.specs.Counts.{Rose}
-use Rattle.beep_wires.specs.States.{SourceState, SinkState}
-use Rattle.beep_wires.specs.Links.{Link, dial, accept}
-use Rattle.beep_settings.specs.declared.settings.Settings.{Settings}
-use Rattle.beep_link.specs.declared.ended.Ended.{Ended}
-use Rattle.beep_link.specs.Causes.{Seen, WhereKnown}
-use Rattle.beep_steps.specs.EachEnd.{EachEndOn}
-use Rattle.beep_steps.specs.Logs.{IsLawfulOn, terms_by}
-use Rattle.beep_steps.specs.Refusing.{GoesUnrefused}
-use Rattle.beep_steps.specs.Resting.{AreShort}
-use Rattle.beep_steps.specs.Sending.{sender_plan, SendsAll}
-use Rattle.beep_listener.specs.Listening.{listener_plan}
-use Rattle.beep_recorder.specs.Kept.{RecordsLink}
+use Rattle.beep_runs.specs.beep_journal.specs.declared.role.Role.{Role}
+use Rattle.beep_runs.specs.beep_record.specs.Record.{first_line, log_text}
+use Rattle.beep_runs.specs.beep_record.specs.declared.limits.TheConstants.{MAX_STATUS}
+use Rattle.beep_runs.specs.beep_wires.specs.Counts.{Rose}
+use Rattle.beep_runs.specs.beep_wires.specs.States.{SourceState, SinkState}
+use Rattle.beep_runs.specs.beep_wires.specs.Links.{Link, dial, accept}
+use Rattle.beep_runs.specs.beep_settings.specs.declared.settings.Settings.{Settings}
+use Rattle.beep_runs.specs.beep_link.specs.declared.ended.Ended.{Ended}
+use Rattle.beep_runs.specs.beep_link.specs.Causes.{Seen, WhereKnown}
+use Rattle.beep_runs.specs.beep_steps.specs.EachEnd.{EachEndOn}
+use Rattle.beep_runs.specs.beep_steps.specs.Logs.{IsLawfulOn, terms_by}
+use Rattle.beep_runs.specs.beep_steps.specs.Refusing.{GoesUnrefused, ReadsOnlyGoing}
+use Rattle.beep_runs.specs.beep_steps.specs.Resting.{AreShort}
+use Rattle.beep_runs.specs.beep_steps.specs.Sending.{sender_plan, SendsAll}
+use Rattle.beep_runs.specs.beep_listener.specs.Listening.{listener_plan}
+use Rattle.beep_runs.specs.beep_recorder.specs.Kept.{RecordsLink}
 use Rattle.beep_runs.specs.Runs.{AsksThis, HasListened, IsRecorded, NotGiven, Ran, SentAll}
-use Rattle.beep_input.specs.Whole.{HasEnded}
-use Rattle.beep_input.specs.Lines.{AreLines}
+use Rattle.beep_show.specs.beep_input.specs.Whole.{HasEnded}
+use Rattle.beep_show.specs.beep_input.specs.Lines.{AreLines}
 use Rattle.beep_show.specs.Show.{Run, run_of}
 use Rattle.beep_cmd.specs.Recorded.{IsEnding, lined, recorded}
-use Rattle.beep_cmd.specs.Recording.{EndsRecorded, KeepsListening, ListenRecorded, SendRecorded, record_told, record_starved, TellsRecord, TellsWhole, whole_record, no_record}
-use Rattle.beep_cmd.specs.Ends.{AcceptsAtMost, AsksOnly, DialsOnce, ended_line, ended_status, IsAcceptOf, IsDialOf, ListenCause, Listened, listen_starved, listen_told, listen_unwritten, over, SendCause, SendsLines, Sent, send_starved, session, SessionCause, Tells, whole_line, line_begun, WritesLawfully}
+use Rattle.beep_cmd.specs.Recording.{EndsRecorded, KeepsListening, ListenRecorded, SendRecorded, record_written, record_starved, TellsRecord, TellsWhole, whole_record, no_record}
+use Rattle.beep_cmd.specs.Ends.{AcceptsAtMost, AsksOnly, DialsOnce, ended_line, ended_status, IsAcceptOf, IsDialOf, ListenCause, Listened, listen_starved, listen_written, listen_unwritten, over, SendCause, SendsLines, Sent, send_starved, session, SessionCause, Tells, whole_line, line_begun, WritesLawfully}
 use Rattle.beep_cmd.proofs.EndsLemmas.{sent}
 use Rattle.beep_cmd.proofs.ServingLemmas.{asks_once, each_none, each_of_it, each_one, session_cause}
 
@@ -41,7 +41,7 @@ record_tells role link status result front text old new within r is tells =
     let whole : front ≡ body = r.writes.text_is ∙ append-nil body in
     whole_record text (record {
       log = r.log;
-      told = r.told;
+      logged = r.logged;
       lines = r.writes.lines;
       is_record = record { log = r.writes.is_record.log; status = within };
       flat_is = r.writes.flat_is;
@@ -76,7 +76,7 @@ tells_record role link (Ended.Spent octets) result old new some t = t
 
 module _ (role : Role) (settings : Settings) (cause : Ended) (before after : Seen) (r : Ran role settings cause before after) where
   pub cause_of : SessionCause cause role settings before after
-  cause_of = session_cause role settings before after before.counts.given refl r.given r.fresh r.last r.is_fresh r.shut before.counts.quiets (omega arith) cause r.caused r.told
+  cause_of = session_cause role settings before after before.counts.given refl r.given r.fresh r.last r.is_fresh r.shut before.counts.quiets (omega arith) cause r.caused r.shown
 
   pub lawful_of : WritesLawfully role settings before after
   lawful_of = each_of_it role settings before after before.counts.given refl r.given r.fresh r.last r.is_fresh r.shut before.counts.quiets (omega arith) (λ link. WhereKnown (IsLawfulOn (terms_by role settings)) link.log) r.lawful
@@ -99,7 +99,7 @@ seven_five n a b = absurd (omega (arith, a, b))
 module _ (Cause : Ended → Type 0) (role : Role) (before after : Seen) (result : ℕ) (old new : SinkState) where
   whole_of : (cause : Ended) → cause ≢ Ended.WriteFault → cause ≢ Ended.NoMemory → Cause cause → after.counts.given ≡ before.counts.given + 1
       → TellsWhole role (after.state before.counts.given) (ended_status cause) result old new → EndsRecorded Cause role before after result old new
-  whole_of cause n m c one (whole_record text is tells) = record_told cause n m c text (recorded refl one is) tells
+  whole_of cause n m c one (whole_record text is tells) = record_written cause n m c text (recorded refl one is) tells
   whole_of cause n m c one (no_record is none) = record_starved cause c is none
 
   -- a link was given
@@ -115,19 +115,19 @@ module _ (Cause : Ended → Type 0) (role : Role) (before after : Seen) (result 
   ends_recorded (Ended.Idle reads) n c one t = whole_of (Ended.Idle reads) n (λ e. cc) c one t
   ends_recorded (Ended.Spent octets) n c one t = whole_of (Ended.Spent octets) n (λ e. cc) c one t
 
-  untold : result ≡ 7 → Tells 7 [] result old new → Appends old.written new.written []
-  untold is (whole_line e appended) = appended
-  untold is (line_begun e rose prefix) = absurd (seven_five result is e)
+  unsaid : result ≡ 7 → Tells 7 [] result old new → Appends old.written new.written []
+  unsaid is (whole_line e appended) = appended
+  unsaid is (line_begun e rose prefix) = absurd (seven_five result is e)
 
   -- no link was given
   pub ends_unlinked : (cause : Ended) (a b : ℕ) → NotGiven cause a b before after → (Rose a b → Cause Ended.WireFault) → Cause Ended.NoMemory → Tells (ended_status cause) (ended_line cause) result old new
       → (ended_line cause ≡ [] → (result ≡ ended_status cause) × (new.faults ≡ old.faults)) → EndsRecorded Cause role before after result old new
   ends_unlinked cause a b g asked starved tells none = elim g.why as (λ _. EndsRecorded Cause role before after result old new) [
-    | inl wire ↦ record_told Ended.WireFault (λ e. cc) (λ e. cc) (asked wire.1) (ended_line Ended.WireFault) (lined (inr g.given) refl)
+    | inl wire ↦ record_written Ended.WireFault (λ e. cc) (λ e. cc) (asked wire.1) (ended_line Ended.WireFault) (lined (inr g.given) refl)
         (subst (λ (c : Ended). Tells (ended_status c) (ended_line c) result old new) wire.0 tells)
     | inr short ↦
         let is : result ≡ 7 = (subst (λ (c : Ended). ended_line c ≡ [] → (result ≡ ended_status c) × (new.faults ≡ old.faults)) short none refl).0 in
-        record_starved Ended.NoMemory starved is (untold is (subst (λ (c : Ended). Tells (ended_status c) (ended_line c) result old new) short tells))
+        record_starved Ended.NoMemory starved is (unsaid is (subst (λ (c : Ended). Tells (ended_status c) (ended_line c) result old new) short tells))
   ]
 
 -- the record of a run, whose octets began with none
@@ -140,7 +140,7 @@ record_is role cause before after old new empty r some = subst (λ (x : List ℕ
 pub sent_recorded : (settings : Settings) (before after : Seen) (result : ℕ) (run : Run) (octets : List ℕ) → Consumes run.source.left run.source_after.left octets → settings.recording ≡ true
     → HasEnded run.source_after → (lines : List (List ℕ)) → AreLines lines octets
     → SendRecorded settings lines before after result run.sink run.sink_after → Sent settings before after result run
-sent_recorded settings before after result run octets consumed recording ended lines are (record_told cause n m c text ending tells) =
+sent_recorded settings before after result run octets consumed recording ended lines are (record_written cause n m c text ending tells) =
     sent settings before after run octets consumed (ended_status cause) text result
     (over ended lines are cause n c.0 c.1 refl (subst (λ b. IsEnding b Role.Initiator before after (ended_status cause) (ended_line cause) text) (sym recording) ending)) tells
 sent_recorded settings before after result run octets consumed recording ended lines are (record_starved cause c is none) =
@@ -148,8 +148,8 @@ sent_recorded settings before after result run octets consumed recording ended l
 
 pub listened_recorded : (settings : Settings) (before after : Seen) (result : ℕ) (source : SourceState) (sink sink_after : SinkState) → ListenRecorded settings before after result sink sink_after
     → Listened settings before after result (run_of source source sink sink_after)
-listened_recorded settings before after result source sink sink_after (record_told cause n m c text ending (whole_line is appended)) = listen_told cause n m c.0 is
-listened_recorded settings before after result source sink sink_after (record_told cause n m c text ending (line_begun is rose prefix)) = listen_unwritten is rose
+listened_recorded settings before after result source sink sink_after (record_written cause n m c text ending (whole_line is appended)) = listen_written cause n m c.0 is
+listened_recorded settings before after result source sink sink_after (record_written cause n m c text ending (line_begun is rose prefix)) = listen_unwritten is rose
 listened_recorded settings before after result source sink sink_after (record_starved cause c is none) = listen_starved is
 
 -- the causes of a run over one link
@@ -161,6 +161,7 @@ pub send_sends : (settings : Settings) (lines : List (List ℕ)) (cause : Ended)
 send_sends settings lines cause before after one short sent = record {
   all = λ released. each_one (λ link. WhereKnown (SendsAll (sender_plan settings lines)) link.log) before after before.counts.given refl one (sent.all released);
   unrefused = each_one (λ link. WhereKnown (GoesUnrefused (terms_by Role.Initiator settings) cause) link.log) before after before.counts.given refl one sent.unrefused;
+  waits = each_one (λ link. WhereKnown (ReadsOnlyGoing (terms_by Role.Initiator settings)) link.log) before after before.counts.given refl one sent.waits;
   each = each_one (λ link. WhereKnown (EachEndOn (sender_plan settings lines) cause) link.log) before after before.counts.given refl one (sent.each short);
 }
 
@@ -169,6 +170,7 @@ pub unlinked_sends : (settings : Settings) (lines : List (List ℕ)) (cause : En
 unlinked_sends settings lines cause other before after same = record {
   all = λ e. absurd (other e);
   unrefused = each_none (λ link. WhereKnown (GoesUnrefused (terms_by Role.Initiator settings) cause) link.log) before after same;
+  waits = each_none (λ link. WhereKnown (ReadsOnlyGoing (terms_by Role.Initiator settings)) link.log) before after same;
   each = each_none (λ link. WhereKnown (EachEndOn (sender_plan settings lines) cause) link.log) before after same;
 }
 
@@ -180,11 +182,13 @@ listen_caused settings cause before after one r =
 pub listen_keeps : (settings : Settings) (cause : Ended) (before after : Seen) → after.counts.given ≡ before.counts.given + 1 → HasListened settings cause before after → KeepsListening cause settings before after
 listen_keeps settings cause before after one kept = record {
   unrefused = each_one (λ link. WhereKnown (GoesUnrefused (terms_by Role.Listener settings) cause) link.log) before after before.counts.given refl one kept.unrefused;
+  waits = each_one (λ link. WhereKnown (ReadsOnlyGoing (terms_by Role.Listener settings)) link.log) before after before.counts.given refl one kept.waits;
   each = each_one (λ link. WhereKnown (EachEndOn (listener_plan settings) cause) link.log) before after before.counts.given refl one kept.each;
 }
 
 pub unlinked_keeps : (settings : Settings) (cause : Ended) (before after : Seen) → after.counts.given ≡ before.counts.given → KeepsListening cause settings before after
 unlinked_keeps settings cause before after same = record {
   unrefused = each_none (λ link. WhereKnown (GoesUnrefused (terms_by Role.Listener settings) cause) link.log) before after same;
+  waits = each_none (λ link. WhereKnown (ReadsOnlyGoing (terms_by Role.Listener settings)) link.log) before after same;
   each = each_none (λ link. WhereKnown (EachEndOn (listener_plan settings) cause) link.log) before after same;
 }

@@ -4,14 +4,14 @@ use Rattle.std.specs.List.{AllByRecursion}
 use Rattle.std.proofs.lemmas.Bool.Decides.{nat_tests}
 use Rattle.std.specs.declared.result.Result.{Result}
 use Rattle.std.specs.declared.result.Result.TheVariants.{Ok, Err}
-use Rattle.beep_wires.specs.declared.links.WireError.{WireError}
-use Rattle.beep_wires.specs.Counts.{Rose}
-use Rattle.beep_wires.specs.Links.{Link, Ask, Asked, IsFresh, Asks, asked_by}
-use Rattle.beep_link.specs.declared.ended.Ended.{Ended}
-use Rattle.beep_link.specs.Causes.{HasRead, IsCaused, IsQuiet, IsUnused, Seen, WhereKnown}
-use Rattle.beep_journal.specs.declared.role.Role.{Role}
-use Rattle.beep_steps.specs.Logs.{Shows, terms_by}
-use Rattle.beep_settings.specs.declared.settings.Settings.{Settings}
+use Rattle.beep_runs.specs.beep_wires.specs.declared.links.WireError.{WireError}
+use Rattle.beep_runs.specs.beep_wires.specs.Counts.{Rose}
+use Rattle.beep_runs.specs.beep_wires.specs.Links.{Link, Ask, Asked, IsFresh, Asks, asked_by}
+use Rattle.beep_runs.specs.beep_link.specs.declared.ended.Ended.{Ended}
+use Rattle.beep_runs.specs.beep_link.specs.Causes.{HasRead, IsCaused, IsQuiet, IsUnused, Seen, WhereKnown}
+use Rattle.beep_runs.specs.beep_journal.specs.declared.role.Role.{Role}
+use Rattle.beep_runs.specs.beep_steps.specs.Logs.{Shows, terms_by}
+use Rattle.beep_runs.specs.beep_settings.specs.declared.settings.Settings.{Settings}
 use Rattle.beep_cmd.specs.Ends.{HasRisen, OneOf, EachOf, ShowsIn, SessionCause, AsksOnly, ends_run}
 use Rattle.beep_cmd.specs.Listening.{first_of}
 use Rattle.beep_cmd.specs.Serving.{GoesOn}

@@ -3,10 +3,10 @@ use Rattle.std.proofs.Common.{◌≡◌, ◌∙◌, refl, sym, ap, subst, arith,
 use Rattle.std.specs.Prelude.{slice_get}
 use Rattle.std.specs.List.{filter}
 use Rattle.std.proofs.lemmas.Bool.Decides.{nat_tests}
-use Rattle.prof_raw.specs.declared.line.TheConstants.{ENTRY_MAX}
-use Rattle.prof_raw.specs.Entries.{has_some}
-use Rattle.beep_input.specs.Lines.{AreLines, first_long, lines_of, pieces_at_lf, without_cr}
-use Rattle.beep_steps.specs.Resting.{AreShort}
+use Rattle.beep_runs.specs.prof_raw.specs.declared.line.TheConstants.{ENTRY_MAX}
+use Rattle.beep_runs.specs.prof_raw.specs.Entries.{has_some}
+use Rattle.beep_show.specs.beep_input.specs.Lines.{AreLines, first_long, lines_of, pieces_at_lf, without_cr}
+use Rattle.beep_runs.specs.beep_steps.specs.Resting.{AreShort}
 
 -- a test that isn't so
 at-most : (most n : ℕ) → nat_lt most n ≡ false → n ≤ most

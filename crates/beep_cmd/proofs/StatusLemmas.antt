@@ -1,11 +1,11 @@
 -- No command that was read ends with status 1.
 use Rattle.std.proofs.Common.{◌≡◌, ℕ, List, arith}
-use Rattle.beep_link.specs.declared.ended.Ended.{Ended}
-use Rattle.beep_link.specs.Causes.{Seen}
-use Rattle.beep_wires.specs.States.{SourceState}
-use Rattle.beep_words.specs.declared.command.ShowSettings.{ShowSettings}
-use Rattle.beep_words.specs.declared.command.PairSettings.{PairSettings}
-use Rattle.beep_settings.specs.declared.settings.Settings.{Settings}
+use Rattle.beep_runs.specs.beep_link.specs.declared.ended.Ended.{Ended}
+use Rattle.beep_runs.specs.beep_link.specs.Causes.{Seen}
+use Rattle.beep_runs.specs.beep_wires.specs.States.{SourceState}
+use Rattle.beep_show.specs.beep_words.specs.declared.command.ShowSettings.{ShowSettings}
+use Rattle.beep_show.specs.beep_words.specs.declared.command.PairSettings.{PairSettings}
+use Rattle.beep_runs.specs.beep_settings.specs.declared.settings.Settings.{Settings}
 use Rattle.beep_show.specs.Show as show
 use Rattle.beep_show.specs.Show.{Run, Shown, IsReport}
 use Rattle.beep_cmd.specs.Replay as replay
@@ -60,12 +60,12 @@ send_report_not settings old new before after octets text status (ends.bad_input
 send_report_not settings old new before after octets text status (ends.unread_input r e t w) f = absurd (omega (arith, e, f))
 
 pub sent_not : (settings : Settings) (before after : Seen) (status : ℕ) (run : Run) → Sent settings before after status run → status ≡ 1 → ⊥
-sent_not settings before after status run (ends.send_told s) f = send_report_not settings run.source run.source_after before after s.octets s.text status s.holds f
+sent_not settings before after status run (ends.send_written s) f = send_report_not settings run.source run.source_after before after s.octets s.text status s.holds f
 sent_not settings before after status run (ends.send_begun e r s) f = absurd (omega (arith, e, f))
 sent_not settings before after status run (ends.send_starved e s) f = absurd (omega (arith, e, f))
 
 pub listened_not : (settings : Settings) (before after : Seen) (status : ℕ) (run : Run) → Listened settings before after status run → status ≡ 1 → ⊥
-listened_not settings before after status run (ends.listen_told cause n m c e) f = ended_not cause (omega (arith, e, f))
+listened_not settings before after status run (ends.listen_written cause n m c e) f = ended_not cause (omega (arith, e, f))
 listened_not settings before after status run (ends.listen_unwritten e r) f = absurd (omega (arith, e, f))
 listened_not settings before after status run (ends.listen_starved e) f = absurd (omega (arith, e, f))
 
@@ -84,6 +84,6 @@ pair_not settings old new octets text status (pair.read e r) f = schedule_not se
 pair_not settings old new octets text status (pair.made seed e s n m) f = absurd (omega (arith, s, f))
 
 pub paired_not : (settings : PairSettings) (status : ℕ) (run : Run) → Paired settings status run → status ≡ 1 → ⊥
-paired_not settings status run (pair.told s) f = pair_not settings run.source run.source_after s.octets s.text status s.holds f
+paired_not settings status run (pair.reported s) f = pair_not settings run.source run.source_after s.octets s.text status s.holds f
 paired_not settings status run (pair.cut_short e r s) f = absurd (omega (arith, e, f))
 paired_not settings status run (pair.starved e s) f = absurd (omega (arith, e, f))

@@ -2,22 +2,22 @@
 -- Each cause is read off the links after the run; the code hands on what ended a session.
 use Rattle.std.specs.Prelude.{◌≡◌, ◌≢◌, ℕ, Bool, ◌+◌, ◌<◌, ◌≤◌, ◌⊎◌, true, false, Option, Some, None, List, [], ◌++◌, length, chars}
 use Rattle.std.specs.List.{AllByRecursion}
-use Rattle.beep_wires.specs.declared.count.TheConstants.{COUNT_MAX}
-use Rattle.beep_wires.specs.Counts.{Rose}
-use Rattle.beep_wires.specs.States.{SourceState, SinkState}
-use Rattle.beep_wires.specs.Transfer.{AppendsPrefix}
+use Rattle.beep_runs.specs.beep_wires.specs.declared.count.TheConstants.{COUNT_MAX}
+use Rattle.beep_runs.specs.beep_wires.specs.Counts.{Rose}
+use Rattle.beep_runs.specs.beep_wires.specs.States.{SourceState, SinkState}
+use Rattle.beep_runs.specs.beep_wires.specs.Transfer.{AppendsPrefix}
 use Rattle.std.specs.Io.KnownBytes.{Appends}
-use Rattle.beep_wires.specs.Links.{Link, Ask, accept, dial, Asked}
-use Rattle.beep_link.specs.declared.ended.Ended.{Ended}
-use Rattle.beep_link.specs.Causes.{HasRead, IsQuiet, Seen, WhereKnown}
-use Rattle.beep_journal.specs.declared.role.Role.{Role}
-use Rattle.beep_steps.specs.EachEnd.{EachEndOn}
-use Rattle.beep_steps.specs.Logs.{IsLawfulOn, Shows, terms_by}
-use Rattle.beep_steps.specs.Refusing.{GoesUnrefused}
-use Rattle.beep_steps.specs.Sending.{sender_plan, SendsAll}
-use Rattle.beep_settings.specs.declared.settings.Settings.{Settings}
-use Rattle.beep_input.specs.Whole.{HasEnded}
-use Rattle.beep_input.specs.Lines.{AreLines, IsBad}
+use Rattle.beep_runs.specs.beep_wires.specs.Links.{Link, Ask, accept, dial, Asked}
+use Rattle.beep_runs.specs.beep_link.specs.declared.ended.Ended.{Ended}
+use Rattle.beep_runs.specs.beep_link.specs.Causes.{HasRead, IsQuiet, Seen, WhereKnown}
+use Rattle.beep_runs.specs.beep_journal.specs.declared.role.Role.{Role}
+use Rattle.beep_runs.specs.beep_steps.specs.EachEnd.{EachEndOn}
+use Rattle.beep_runs.specs.beep_steps.specs.Logs.{IsLawfulOn, Shows, terms_by}
+use Rattle.beep_runs.specs.beep_steps.specs.Refusing.{GoesUnrefused, ReadsOnlyGoing}
+use Rattle.beep_runs.specs.beep_steps.specs.Sending.{sender_plan, SendsAll}
+use Rattle.beep_runs.specs.beep_settings.specs.declared.settings.Settings.{Settings}
+use Rattle.beep_show.specs.beep_input.specs.Whole.{HasEnded}
+use Rattle.beep_show.specs.beep_input.specs.Lines.{AreLines, IsBad}
 use Rattle.beep_show.specs.Texts.{bad_line, broken_line, cut_line, idle_line, read_fault_line, refused_line, spent_line, wire_fault_line}
 use Rattle.beep_show.specs.Show.{Run, Saw}
 use Rattle.beep_cmd.specs.Recorded.{IsEnding}
@@ -126,13 +126,15 @@ SendCause cause settings before after =
 
 -- a run of `send` that ended with a release sent all of these lines: the log of its link shows
 -- each, once and in order, where it is known; whatever ended it, the sender of these lines kept its
--- whole part there; and the peer refused nothing where that didn't end it
+-- whole part there; and the peer refused nothing where that didn't end it, nor wherever was read
 pub record SendsLines (cause : Ended) (settings : Settings) (lines : List (List ℕ))
     (before after : Seen) : Type 0 where
   pub all : cause ≡ Ended.Released
       → EachOf before after (λ link. WhereKnown (SendsAll (sender_plan settings lines)) link.log)
   pub unrefused : EachOf before after
       (λ link. WhereKnown (GoesUnrefused (terms_by Role.Initiator settings) cause) link.log)
+  pub waits : EachOf before after
+      (λ link. WhereKnown (ReadsOnlyGoing (terms_by Role.Initiator settings)) link.log)
   pub each : EachOf before after
       (λ link. WhereKnown (EachEndOn (sender_plan settings lines) cause) link.log)
 
@@ -202,7 +204,7 @@ KeepsInput settings before after octets = (after ≡ before)
 -- what a run of `send` that ended so reports: a status with its report; 5, where a write failed; 7,
 -- where it was out of memory, and still sent nothing but its lines
 pub data Sent (settings : Settings) (before after : Seen) (status : ℕ) (run : Run) : Type 0 where
-  send_told : Saw (λ octets text.
+  send_written : Saw (λ octets text.
       IsSendReport settings run.source run.source_after before after octets text status) run
       → Sent settings before after status run
   send_begun : status ≡ 5 → Rose run.sink.faults run.sink_after.faults
@@ -218,7 +220,7 @@ pub data Sent (settings : Settings) (before after : Seen) (status : ℕ) (run : 
 -- memory; else what ended its first session that wasn't released, or the last accept
 pub data Listened (settings : Settings) (before after : Seen) (status : ℕ) (run : Run)
     : Type 0 where
-  listen_told : (cause : Ended) → cause ≢ Ended.WriteFault → cause ≢ Ended.NoMemory
+  listen_written : (cause : Ended) → cause ≢ Ended.WriteFault → cause ≢ Ended.NoMemory
       → ListenCause cause settings before after → status ≡ ended_status cause
       → Listened settings before after status run
   listen_unwritten : status ≡ 5 → Rose run.sink.faults run.sink_after.faults

@@ -2,8 +2,8 @@
 -- No contract of a public call cites it.
 use Rattle.std.specs.Prelude.{ℕ, List, []}
 use Rattle.std.specs.Io.KnownBytes.{Consumes}
-use Rattle.beep_record.specs.declared.verdict.Verdict.{Verdict}
-use Rattle.beep_wires.specs.States.{SourceState}
+use Rattle.beep_runs.specs.beep_record.specs.declared.verdict.Verdict.{Verdict}
+use Rattle.beep_runs.specs.beep_wires.specs.States.{SourceState}
 use Rattle.beep_show.specs.Texts.{broken_line, written_line}
 use Rattle.beep_cmd.specs.Replay.{IsReplayReport}
 

@@ -4,18 +4,18 @@
 -- shut.
 use Rattle.std.specs.Prelude.{◌≡◌, ◌⊎◌, ℕ, ◌+◌, ◌≤◌, false, if◌then◌else◌, Some, List, [], ◌∷◌, ◌++◌}
 use Rattle.std.specs.Io.KnownBytes.{Appends}
-use Rattle.beep_wires.specs.Counts.{Rose}
-use Rattle.beep_wires.specs.Log.{Entry}
-use Rattle.beep_wires.specs.Links.{Link}
-use Rattle.beep_wires.specs.States.{SinkState}
-use Rattle.beep_journal.specs.declared.role.Role.{Role}
-use Rattle.beep_settings.specs.declared.settings.Settings.{Settings}
-use Rattle.beep_link.specs.declared.ended.Ended.{Ended}
-use Rattle.beep_link.specs.Causes.{Seen, WhereKnown}
-use Rattle.beep_steps.specs.Refusing.{GoesUnrefused}
-use Rattle.beep_steps.specs.EachEnd.{EachEndOn}
-use Rattle.beep_steps.specs.Logs.{moments, Shows, terms_by}
-use Rattle.beep_listener.specs.Listening.{is_whole, listener_plan, AreLinesOf}
+use Rattle.beep_runs.specs.beep_wires.specs.Counts.{Rose}
+use Rattle.beep_runs.specs.beep_wires.specs.Log.{Entry}
+use Rattle.beep_runs.specs.beep_wires.specs.Links.{Link}
+use Rattle.beep_runs.specs.beep_wires.specs.States.{SinkState}
+use Rattle.beep_runs.specs.beep_journal.specs.declared.role.Role.{Role}
+use Rattle.beep_runs.specs.beep_settings.specs.declared.settings.Settings.{Settings}
+use Rattle.beep_runs.specs.beep_link.specs.declared.ended.Ended.{Ended}
+use Rattle.beep_runs.specs.beep_link.specs.Causes.{Seen, WhereKnown}
+use Rattle.beep_runs.specs.beep_steps.specs.Refusing.{GoesUnrefused, ReadsOnlyGoing}
+use Rattle.beep_runs.specs.beep_steps.specs.EachEnd.{EachEndOn}
+use Rattle.beep_runs.specs.beep_steps.specs.Logs.{moments, Shows, terms_by}
+use Rattle.beep_runs.specs.beep_listener.specs.Listening.{is_whole, listener_plan, AreLinesOf}
 use Rattle.beep_cmd.specs.Ends.{ended_line, ended_status, ends_run, EachOf, Tells}
 
 -- ---- what ends a run
@@ -47,19 +47,20 @@ run_cause (session ∷ earlier) =
 -- ---- what is written
 
 -- the log of each link that was given in the run is known
-abbrev pub AreTold : Seen → Seen → Type 0
-AreTold before after =
+abbrev pub AreKnown : Seen → Seen → Type 0
+AreKnown before after =
     EachOf before after (λ link. (log : List Entry) × (link.log ≡ Some log))
 
 -- what was written of a session is the lines that its log shows, or a beginning of them where it
 -- ended out of memory, by a refusal or by a fault of the output; what was sent in each life,
 -- channel zero among them, is the beginning of its script; the peer refused nothing where that
--- didn't end it; and wherever was read the session went on
+-- didn't end it; and wherever was read the session went on, and the peer had refused nothing
 pub record WritesOf (settings : Settings) (session : Session) (log : List Entry) : Type 0 where
   pub shows : Shows (terms_by Role.Listener settings) session.cause log
   pub lines : AreLinesOf (listener_plan settings) (is_whole session.cause) (moments log)
       session.text
   pub unrefused : GoesUnrefused (terms_by Role.Listener settings) session.cause log
+  pub waits : ReadsOnlyGoing (terms_by Role.Listener settings) log
   pub each : EachEndOn (listener_plan settings) session.cause log
 
 -- the sessions over the links from this number on up to another, the latest first

@@ -3,17 +3,17 @@
 -- of the schedule that the number makes.
 -- What holds of the world that a run leads to is part of its report (`Reported` of beep_pair).
 use Rattle.std.specs.Prelude.{◌≡◌, ℕ, ◌≤◌, List, [], ◌++◌, length, Option, None, Some}
-use Rattle.beep_wires.specs.Counts.{Rose}
-use Rattle.beep_wires.specs.States.{SourceState}
-use Rattle.beep_input.specs.Whole.{HasEnded}
-use Rattle.beep_input.specs.Lines.{IsPastAt}
-use Rattle.beep_input.specs.declared.whole.TheConstants.{MAX_INPUT}
-use Rattle.beep_session.specs.declared.limits.Limits.{Limits}
+use Rattle.beep_runs.specs.beep_wires.specs.Counts.{Rose}
+use Rattle.beep_runs.specs.beep_wires.specs.States.{SourceState}
+use Rattle.beep_show.specs.beep_input.specs.Whole.{HasEnded}
+use Rattle.beep_show.specs.beep_input.specs.Lines.{IsPastAt}
+use Rattle.beep_show.specs.beep_input.specs.declared.whole.TheConstants.{MAX_INPUT}
+use Rattle.beep_runs.specs.beep_session.specs.declared.limits.Limits.{Limits}
 use Rattle.beep_schedule.specs.declared.event.PairEvent.{PairEvent}
 use Rattle.beep_schedule.specs.Schedule.{Says}
 use Rattle.beep_schedule.specs.Refused.{IsBadAt}
 use Rattle.beep_pair.specs.Command.{Reports, Sums}
-use Rattle.beep_words.specs.declared.command.PairSettings.{PairSettings}
+use Rattle.beep_show.specs.beep_words.specs.declared.command.PairSettings.{PairSettings}
 use Rattle.beep_show.specs.Texts.{bad_line, read_fault_line}
 use Rattle.beep_show.specs.Show.{Run, Saw}
 
@@ -71,19 +71,20 @@ pub record BeginsPairReport (settings : PairSettings) (old new : SourceState)
   pub report : IsPairReport settings old new octets (text ++ after) status
 
 -- some of the input was read, and nothing is said of it
-pub record IsUntold (octets text : List ℕ) : Type 0 where
+pub record IsUnsaid (octets text : List ℕ) : Type 0 where
   pub within : length octets ≤ MAX_INPUT
   pub none : text ≡ []
 
 -- what a run of `pair` that ended so reports: a status with its report; 5, where a write failed; 7,
 -- where it was out of memory
 pub data Paired (settings : PairSettings) (status : ℕ) (run : Run) : Type 0 where
-  told : Saw (λ octets text. IsPairReport settings run.source run.source_after octets text status)
-      run → Paired settings status run
+  reported : Saw (λ octets text.
+      IsPairReport settings run.source run.source_after octets text status) run
+      → Paired settings status run
   cut_short : status ≡ 5 → Rose run.sink.faults run.sink_after.faults
       → Saw (BeginsPairReport settings run.source run.source_after) run
       → Paired settings status run
-  starved : status ≡ 7 → Saw IsUntold run → Paired settings status run
+  starved : status ≡ 7 → Saw IsUnsaid run → Paired settings status run
 
 -- ---- when all went well
 

@@ -2,8 +2,8 @@
 -- No contract of a public call cites it.
 use Rattle.std.specs.Prelude.{ℕ, List}
 use Rattle.std.specs.Io.KnownBytes.{Consumes}
-use Rattle.beep_wires.specs.States.{SourceState}
-use Rattle.beep_words.specs.declared.command.PairSettings.{PairSettings}
+use Rattle.beep_runs.specs.beep_wires.specs.States.{SourceState}
+use Rattle.beep_show.specs.beep_words.specs.declared.command.PairSettings.{PairSettings}
 use Rattle.beep_cmd.specs.Pair.{IsPairReport, ReadsSchedule}
 
 -- the text is a report of what was read, with this status

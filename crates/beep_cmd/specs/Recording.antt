@@ -2,16 +2,16 @@
 -- The code makes the whole record before it writes any of it.
 use Rattle.std.specs.Prelude.{◌≡◌, ◌≢◌, ℕ, true, List, []}
 use Rattle.std.specs.Io.KnownBytes.{Appends}
-use Rattle.beep_journal.specs.declared.role.Role.{Role}
-use Rattle.beep_wires.specs.States.{SinkState}
-use Rattle.beep_link.specs.declared.ended.Ended.{Ended}
-use Rattle.beep_link.specs.Causes.{Seen, WhereKnown}
-use Rattle.beep_steps.specs.EachEnd.{EachEndOn}
-use Rattle.beep_steps.specs.Logs.{terms_by}
-use Rattle.beep_steps.specs.Refusing.{GoesUnrefused}
-use Rattle.beep_listener.specs.Listening.{listener_plan}
-use Rattle.beep_settings.specs.declared.settings.Settings.{Settings}
-use Rattle.beep_wires.specs.Links.{Link}
+use Rattle.beep_runs.specs.beep_journal.specs.declared.role.Role.{Role}
+use Rattle.beep_runs.specs.beep_wires.specs.States.{SinkState}
+use Rattle.beep_runs.specs.beep_link.specs.declared.ended.Ended.{Ended}
+use Rattle.beep_runs.specs.beep_link.specs.Causes.{Seen, WhereKnown}
+use Rattle.beep_runs.specs.beep_steps.specs.EachEnd.{EachEndOn}
+use Rattle.beep_runs.specs.beep_steps.specs.Logs.{terms_by}
+use Rattle.beep_runs.specs.beep_steps.specs.Refusing.{GoesUnrefused, ReadsOnlyGoing}
+use Rattle.beep_runs.specs.beep_listener.specs.Listening.{listener_plan}
+use Rattle.beep_runs.specs.beep_settings.specs.declared.settings.Settings.{Settings}
+use Rattle.beep_runs.specs.beep_wires.specs.Links.{Link}
 use Rattle.beep_cmd.specs.Recorded.{IsEnding, IsRecordOf}
 use Rattle.beep_cmd.specs.Ends.{ended_line, ended_status, EachOf, ListenCause, SendCause, SendsLines, Tells}
 
@@ -19,7 +19,7 @@ use Rattle.beep_cmd.specs.Ends.{ended_line, ended_status, EachOf, ListenCause, S
 -- or begun where the write failed; or it was out of memory, and wrote nothing, whatever ended it
 pub data EndsRecorded (Cause : Ended → Type 0) (role : Role) (before after : Seen) (status : ℕ)
     (old new : SinkState) : Type 0 where
-  record_told : (cause : Ended) → cause ≢ Ended.WriteFault → cause ≢ Ended.NoMemory → Cause cause
+  record_written : (cause : Ended) → cause ≢ Ended.WriteFault → cause ≢ Ended.NoMemory → Cause cause
       → (text : List ℕ)
       → IsEnding true role before after (ended_status cause) (ended_line cause) text
       → Tells (ended_status cause) text status old new
@@ -59,10 +59,12 @@ SendRecorded settings lines before after status old new =
 
 -- the log of each link shows, where it is known, that a listener kept its script, channel zero
 -- among its channels, that the peer refused nothing where that didn't end the session, and that
--- wherever was read the session went on
+-- wherever was read the session went on, and the peer had refused nothing
 pub record KeepsListening (cause : Ended) (settings : Settings) (before after : Seen) : Type 0 where
   pub unrefused : EachOf before after
       (λ link. WhereKnown (GoesUnrefused (terms_by Role.Listener settings) cause) link.log)
+  pub waits : EachOf before after
+      (λ link. WhereKnown (ReadsOnlyGoing (terms_by Role.Listener settings)) link.log)
   pub each : EachOf before after
       (λ link. WhereKnown (EachEndOn (listener_plan settings) cause) link.log)
 

@@ -1,19 +1,19 @@
 -- What `replay` says of the octets that it read, status by status (RFC 3080, section 2.2.1).
 -- Each report is over the whole input, the record of one session; the code judges octet by octet.
 use Rattle.std.specs.Prelude.{◌≡◌, ℕ, ◌+◌, ◌≤◌, List, [], ◌++◌, length, None, Some}
-use Rattle.beep_history.specs.declared.journal.Side.{Side}
-use Rattle.beep_journal.specs.declared.role.Role.{Role}
-use Rattle.beep_journal.specs.Log.{Entry, flat}
-use Rattle.beep_journal.specs.Broken.{none_tunes}
-use Rattle.beep_journal.specs.Journal.{Past, Fault, Shows}
-use Rattle.beep_journal.specs.Texts.{report}
-use Rattle.beep_record.specs.Record.{Says, Stops}
-use Rattle.beep_wires.specs.Counts.{Rose}
-use Rattle.beep_wires.specs.States.{SourceState}
-use Rattle.beep_input.specs.declared.whole.TheConstants.{MAX_INPUT}
+use Rattle.beep_runs.specs.beep_history.specs.declared.journal.Side.{Side}
+use Rattle.beep_runs.specs.beep_journal.specs.declared.role.Role.{Role}
+use Rattle.beep_runs.specs.beep_journal.specs.Log.{Entry, flat}
+use Rattle.beep_runs.specs.beep_journal.specs.Broken.{none_tunes}
+use Rattle.beep_runs.specs.beep_journal.specs.Journal.{Past, Fault, Shows}
+use Rattle.beep_runs.specs.beep_journal.specs.Texts.{report}
+use Rattle.beep_runs.specs.beep_record.specs.Record.{Says, Stops}
+use Rattle.beep_runs.specs.beep_wires.specs.Counts.{Rose}
+use Rattle.beep_runs.specs.beep_wires.specs.States.{SourceState}
+use Rattle.beep_show.specs.beep_input.specs.declared.whole.TheConstants.{MAX_INPUT}
 use Rattle.beep_show.specs.Texts.{bad_line, broken_line, written_line, read_fault_line}
 use Rattle.beep_show.specs.Show.{Run, Saw}
-use Rattle.beep_input.specs.Whole.{HasEnded}
+use Rattle.beep_show.specs.beep_input.specs.Whole.{HasEnded}
 
 -- the octets are a record within the limit, whose log shows this session; no start is tuning
 pub record IsSession (octets : List ℕ) (past : Past) : Type 0 where

@@ -2,12 +2,12 @@
 -- No contract of a public call cites it.
 use Rattle.std.specs.Prelude.{◌≡◌, ℕ, ◌+◌, ◌<◌, ◌≤◌, ◌⊎◌, Option, List, []}
 use Rattle.std.specs.Io.KnownBytes.{Appends}
-use Rattle.beep_wires.specs.Counts.{Rose}
-use Rattle.beep_link.specs.declared.ended.Ended.{Ended}
-use Rattle.beep_link.specs.Causes.{Seen, WhereKnown}
-use Rattle.beep_settings.specs.declared.settings.Settings.{Settings}
-use Rattle.beep_input.specs.declared.lines.Unlisted.{Unlisted}
-use Rattle.beep_journal.specs.declared.role.Role.{Role}
+use Rattle.beep_runs.specs.beep_wires.specs.Counts.{Rose}
+use Rattle.beep_runs.specs.beep_link.specs.declared.ended.Ended.{Ended}
+use Rattle.beep_runs.specs.beep_link.specs.Causes.{Seen, WhereKnown}
+use Rattle.beep_runs.specs.beep_settings.specs.declared.settings.Settings.{Settings}
+use Rattle.beep_show.specs.beep_input.specs.declared.lines.Unlisted.{Unlisted}
+use Rattle.beep_runs.specs.beep_journal.specs.declared.role.Role.{Role}
 use Rattle.beep_show.specs.Texts.{bad_line, read_fault_line}
 use Rattle.beep_cmd.specs.Ends.{AsksOnly, IsAcceptOf, SessionCause}
 use Rattle.beep_cmd.specs.Listening.{Session, SessionsOver, text_of, WritesOf}

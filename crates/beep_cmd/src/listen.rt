@@ -1,22 +1,22 @@
 //! The command `listen`: a collector of syslog over BEEP.
 ghost use Rattle.std.specs.Prelude.{◌≡◌, ◌≤◌, ℕ, true, false, IfOk, IfErr, OnErr};
-ghost use Rattle.beep_journal.specs.declared.role.Role.{Role as RoleValue};
-ghost use Rattle.beep_steps.specs.Ends.{AreFit};
-ghost use Rattle.beep_link.specs.Causes.{IsWritten};
-ghost use Rattle.beep_wires.specs.States.{SourceState};
+ghost use Rattle.beep_runs.specs.beep_journal.specs.declared.role.Role.{Role as RoleValue};
+ghost use Rattle.beep_runs.specs.beep_steps.specs.Ends.{AreFit};
+ghost use Rattle.beep_runs.specs.beep_link.specs.Causes.{IsWritten};
+ghost use Rattle.beep_runs.specs.beep_wires.specs.States.{SourceState};
 ghost use Rattle.beep_cmd.specs.Ends.{AcceptsAtMost, ends_run, ListenCause, Listened, seen_of, WritesLawfully};
-ghost use Rattle.beep_cmd.specs.Listening.{AreTold, EndsBy, first_of, WritesLines};
+ghost use Rattle.beep_cmd.specs.Listening.{AreKnown, EndsBy, first_of, WritesLines};
 ghost use Rattle.beep_cmd.specs.Serving.{NotAccepted, Served, WritesSession, WritesSessions};
 ghost use Rattle.beep_cmd.specs.Recording.{ListenRecorded};
 ghost use Rattle.beep_show.specs.Show.{run_of};
 
 use crate::closing::finish;
 use crate::recorded::record_listen;
-use beep_listener::{Ended, listen_end};
-use beep_octets::Octets;
-use beep_settings::Settings;
+use beep_runs::beep_listener::{Ended, listen_end};
+use beep_runs::beep_octets::Octets;
+use beep_runs::beep_settings::Settings;
+use beep_runs::beep_wires::{Sink, WireError, Wires};
 use beep_show::LAST_ROOM;
-use beep_wires::{Sink, WireError, Wires};
 use std::alloc::Global;
 
 /// Runs `listen`: it accepts links one after another, as many as the settings say.
@@ -34,7 +34,7 @@ pub(crate) fn listen<O: Sink, W: Wires>(
         (seen_of (W.state wires.new) (W.counts wires.new)
         (W.asked wires.new) (W.lent wires.new))
         result (run_of source source (O.state output.old) (O.state output.new)) }
-    ensures lines { settings.now.recording ≡ false → AreTold
+    ensures lines { settings.now.recording ≡ false → AreKnown
         (seen_of (W.state wires.old) (W.counts wires.old)
         (W.asked wires.old) (W.lent wires.old))
         (seen_of (W.state wires.new) (W.counts wires.new)
@@ -86,7 +86,7 @@ fn listen_all<O: Sink, W: Wires>(
         (W.asked wires.old) (W.lent wires.old))
         (seen_of (W.state wires.new) (W.counts wires.new)
         (W.asked wires.new) (W.lent wires.new)) }
-    ensures lines { AreTold
+    ensures lines { AreKnown
         (seen_of (W.state wires.old) (W.counts wires.old)
         (W.asked wires.old) (W.lent wires.old))
         (seen_of (W.state wires.new) (W.counts wires.new)
@@ -148,7 +148,7 @@ fn listen_once<O: Sink, W: Wires>(
         (W.asked wires.old) (W.lent wires.old))
         (seen_of (W.state wires.new) (W.counts wires.new)
         (W.asked wires.new) (W.lent wires.new))) }
-    ensures lines { IfOk result (λ ended. AreTold
+    ensures lines { IfOk result (λ ended. AreKnown
         (seen_of (W.state wires.old) (W.counts wires.old)
         (W.asked wires.old) (W.lent wires.old))
         (seen_of (W.state wires.new) (W.counts wires.new)

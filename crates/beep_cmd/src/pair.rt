@@ -1,22 +1,22 @@
 //! The command `pair`: a schedule, run between two ends in memory.
 ghost use Rattle.std.specs.Prelude.{◌≡◌, ◌⊎◌, ◌+◌, ◌≤◌, None, false, [], length, IfOk, OnOk, OnErr};
-ghost use Rattle.beep_wires.specs.States.{SourceState};
-ghost use Rattle.beep_input.specs.Whole.{ReadsFew};
-ghost use Rattle.beep_input.specs.declared.whole.TheConstants.{MAX_INPUT};
-ghost use Rattle.beep_session.specs.Session.{AreLimits};
-ghost use Rattle.beep_words.specs.declared.command.PairSettings.{PairSettings as settings_type};
+ghost use Rattle.beep_runs.specs.beep_wires.specs.States.{SourceState};
+ghost use Rattle.beep_show.specs.beep_input.specs.Whole.{ReadsFew};
+ghost use Rattle.beep_show.specs.beep_input.specs.declared.whole.TheConstants.{MAX_INPUT};
+ghost use Rattle.beep_runs.specs.beep_session.specs.Session.{AreLimits};
+ghost use Rattle.beep_show.specs.beep_words.specs.declared.command.PairSettings.{PairSettings as settings_type};
 ghost use Rattle.beep_pair.specs.Command.{Sums};
 ghost use Rattle.beep_cmd.specs.Pair.{limits_of, Paired, IsPairing};
 ghost use Rattle.beep_cmd.specs.Pairing.{TellsPair, TellsSchedule};
 ghost use Rattle.beep_show.specs.Show.{run_of};
 
-use beep_input::{MAX_INPUT, Unread, line_past, read_input};
-use beep_octets::{NoMemory, Octets};
 use beep_pair::{Limits, Outcome, report, summary};
+use beep_runs::beep_octets::{NoMemory, Octets};
+use beep_runs::beep_wires::{Failed, Sink, Source, write_all};
 use beep_schedule::laws::a_schedule_has_no_bad_line;
+use beep_show::beep_input::{MAX_INPUT, Unread, line_past, read_input};
+use beep_show::beep_words::PairSettings;
 use beep_show::{LAST_ROOM, append_numbered};
-use beep_wires::{Failed, Sink, Source, write_all};
-use beep_words::PairSettings;
 use std::alloc::Global;
 
 /// Runs `pair`. It writes nothing before the whole report is made.

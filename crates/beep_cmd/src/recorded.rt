@@ -1,23 +1,23 @@
 //! Runs of `send` and `listen` whose link is recorded (docs/FORMATS.md, "Records").
 ghost use Rattle.std.specs.Prelude.{◌≡◌, ◌≢◌, ◌≤◌, []};
-ghost use Rattle.beep_journal.specs.declared.role.Role.{Role as RoleValue};
-ghost use Rattle.beep_steps.specs.Ends.{AreFit};
-ghost use Rattle.beep_link.specs.declared.ended.Ended.{Ended as EndedValue};
-ghost use Rattle.beep_wires.specs.Links.{Link};
-ghost use Rattle.beep_record.specs.declared.limits.TheConstants.{MAX_STATUS};
-ghost use Rattle.beep_recorder.specs.Kept.{RecordsLink};
-ghost use Rattle.beep_steps.specs.Resting.{AreShort};
+ghost use Rattle.beep_runs.specs.beep_journal.specs.declared.role.Role.{Role as RoleValue};
+ghost use Rattle.beep_runs.specs.beep_steps.specs.Ends.{AreFit};
+ghost use Rattle.beep_runs.specs.beep_link.specs.declared.ended.Ended.{Ended as EndedValue};
+ghost use Rattle.beep_runs.specs.beep_wires.specs.Links.{Link};
+ghost use Rattle.beep_runs.specs.beep_record.specs.declared.limits.TheConstants.{MAX_STATUS};
+ghost use Rattle.beep_runs.specs.beep_recorder.specs.Kept.{RecordsLink};
+ghost use Rattle.beep_runs.specs.beep_steps.specs.Resting.{AreShort};
 ghost use Rattle.beep_cmd.specs.Ends.{AcceptsAtMost, DialsOnce, ended_status, ListenCause, seen_of, WritesLawfully};
 ghost use Rattle.beep_cmd.specs.Recording.{ListenRecorded, SendRecorded, TellsRecord, TellsWhole};
 
 use crate::closing::{finish, tell};
-use beep_listener::Ended;
-use beep_octets::Octets;
+use beep_runs::beep_listener::Ended;
+use beep_runs::beep_octets::Octets;
+use beep_runs::beep_settings::Settings;
+use beep_runs::beep_wires::{Sink, Wires};
+use beep_runs::prof_raw::Entries;
 use beep_runs::{listen_recorded, send_recorded};
-use beep_settings::Settings;
 use beep_show::{LAST_ROOM, append_numbered};
-use beep_wires::{Sink, Wires};
-use prof_raw::Entries;
 use std::alloc::Global;
 
 /// Dials, sends lines over a link that is recorded, and writes its record.
@@ -32,7 +32,7 @@ pub(crate) fn record_send<O: Sink, W: Wires>(
     requires fit { AreFit settings.now }
     requires empty { last.old.octets ≡ [] }
     requires room { LAST_ROOM ≤ last.old.spare }
-    ensures told { AreShort lines.now → SendRecorded settings.now lines.now
+    ensures recorded { AreShort lines.now → SendRecorded settings.now lines.now
         (seen_of (W.state wires.old) (W.counts wires.old)
         (W.asked wires.old) (W.lent wires.old))
         (seen_of (W.state wires.new) (W.counts wires.new)
@@ -68,7 +68,7 @@ pub(crate) fn record_listen<O: Sink, W: Wires>(
     requires one { settings.now.sessions ≡ 1 }
     requires empty { last.old.octets ≡ [] }
     requires room { LAST_ROOM ≤ last.old.spare }
-    ensures told { ListenRecorded settings.now
+    ensures recorded { ListenRecorded settings.now
         (seen_of (W.state wires.old) (W.counts wires.old)
         (W.asked wires.old) (W.lent wires.old))
         (seen_of (W.state wires.new) (W.counts wires.new)

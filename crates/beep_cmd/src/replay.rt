@@ -1,17 +1,17 @@
 //! The command `replay`: a recorded session, judged by the rules of both of its directions.
 ghost use Rattle.std.specs.Prelude.{◌≡◌, ◌+◌, ◌≤◌, ◌++◌, false, [], length, IfOk, OnOk, OnErr};
-ghost use Rattle.beep_wires.specs.States.{SourceState, SinkState};
-ghost use Rattle.beep_input.specs.Whole.{ReadsFew};
-ghost use Rattle.beep_input.specs.declared.whole.TheConstants.{MAX_INPUT};
+ghost use Rattle.beep_runs.specs.beep_wires.specs.States.{SourceState, SinkState};
+ghost use Rattle.beep_show.specs.beep_input.specs.Whole.{ReadsFew};
+ghost use Rattle.beep_show.specs.beep_input.specs.declared.whole.TheConstants.{MAX_INPUT};
 ghost use Rattle.beep_cmd.specs.Judging.{ReportsInput, verdict_status, verdict_line};
 ghost use Rattle.beep_cmd.specs.Replay.{Replayed, IsJudgement};
 ghost use Rattle.beep_show.specs.Show.{run_of};
 
-use beep_input::{MAX_INPUT, Unread, read_input};
-use beep_octets::{NoMemory, Octets};
-use beep_record::{RecordError, Verdict, replay_text};
+use beep_runs::beep_octets::{NoMemory, Octets};
+use beep_runs::beep_record::{RecordError, Verdict, replay_text};
+use beep_runs::beep_wires::{Failed, Sink, Source, write_all};
+use beep_show::beep_input::{MAX_INPUT, Unread, read_input};
 use beep_show::{LAST_ROOM, append_broken, append_numbered, append_written};
-use beep_wires::{Failed, Sink, Source, write_all};
 use std::alloc::Global;
 
 /// Runs `replay`. It writes nothing before the whole input is judged.

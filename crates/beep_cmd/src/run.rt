@@ -1,27 +1,27 @@
 //! The one call of the program.
 ghost use Rattle.std.specs.Prelude.{◌≡◌, ◌⊎◌, ◌+◌, ◌≤◌, ℕ, List, Some, None, true, false, map, string_bytes};
-ghost use Rattle.beep_words.specs.CommandSet.{IsShow, IsReplay, IsSend, IsListen, IsPair, IsNoCommand};
-ghost use Rattle.beep_words.specs.declared.command.ShowSettings.{ShowSettings as settings_type};
-ghost use Rattle.beep_words.specs.declared.command.PairSettings.{PairSettings as pair_settings};
-ghost use Rattle.beep_settings.specs.declared.settings.Settings.{Settings as end_settings};
-ghost use Rattle.beep_input.specs.declared.whole.TheConstants.{MAX_INPUT};
-ghost use Rattle.beep_journal.specs.declared.role.Role.{Role as RoleValue};
-ghost use Rattle.beep_wires.specs.States.{SourceState};
+ghost use Rattle.beep_show.specs.beep_words.specs.CommandSet.{IsShow, IsReplay, IsSend, IsListen, IsPair, IsNoCommand};
+ghost use Rattle.beep_show.specs.beep_words.specs.declared.command.ShowSettings.{ShowSettings as settings_type};
+ghost use Rattle.beep_show.specs.beep_words.specs.declared.command.PairSettings.{PairSettings as pair_settings};
+ghost use Rattle.beep_runs.specs.beep_settings.specs.declared.settings.Settings.{Settings as end_settings};
+ghost use Rattle.beep_show.specs.beep_input.specs.declared.whole.TheConstants.{MAX_INPUT};
+ghost use Rattle.beep_runs.specs.beep_journal.specs.declared.role.Role.{Role as RoleValue};
+ghost use Rattle.beep_runs.specs.beep_wires.specs.States.{SourceState};
 ghost use Rattle.beep_show.specs.Show.{Shown, Refused, IsPlain, NoFault, run_of};
 ghost use Rattle.beep_cmd.specs.Replay.{Replayed, IsLawful};
 ghost use Rattle.beep_cmd.specs.Pair.{Paired, IsRunnable};
 ghost use Rattle.beep_cmd.specs.Ends.{AcceptsAtMost, DialsOnce, Listened, seen_of, Sent, WritesLawfully};
-ghost use Rattle.beep_cmd.specs.Listening.{AreTold, WritesLines};
+ghost use Rattle.beep_cmd.specs.Listening.{AreKnown, WritesLines};
 ghost use Rattle.beep_cmd.specs.Recording.{ListenRecorded};
 
 use crate::listen::listen;
 use crate::pair::pair;
 use crate::replay::replay;
 use crate::send::send;
-use beep_octets::NoMemory;
+use beep_runs::beep_octets::NoMemory;
+use beep_runs::beep_wires::{Failed, Sink, Source, Wires, write_all};
+use beep_show::beep_words::{Command, command_of};
 use beep_show::show;
-use beep_wires::{Failed, Sink, Source, Wires, write_all};
-use beep_words::{Command, command_of};
 use std::alloc::Global;
 
 /// Runs the command that `words` name, the words after the program's name, and answers the exit
@@ -71,7 +71,7 @@ pub fn beep_run<I: Source, O: Sink, W: Wires>(
         (W.asked wires.new) (W.lent wires.new)) result (O.state output.old) (O.state output.new) }
     ensures listen_lines { (settings : end_settings)
         → IsListen settings (map string_bytes words.now) → settings.recording ≡ false
-        → AreTold (seen_of (W.state wires.old) (W.counts wires.old)
+        → AreKnown (seen_of (W.state wires.old) (W.counts wires.old)
         (W.asked wires.old) (W.lent wires.old)) (seen_of (W.state wires.new) (W.counts wires.new)
         (W.asked wires.new) (W.lent wires.new))
         → WritesLines settings (seen_of (W.state wires.old) (W.counts wires.old)
@@ -159,6 +159,3 @@ fn refuse<O: Sink>(output: &mut O) -> u8
         Err(Failed) => 5,
     }
 }
-
-#[cfg(test)]
-mod tests;

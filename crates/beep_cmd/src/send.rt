@@ -1,22 +1,22 @@
 //! The command `send`: the lines of an input go to a collector.
 ghost use Rattle.std.specs.Prelude.{◌≡◌, ◌≢◌, ◌+◌, ◌≤◌, ℕ, false, [], IfErr};
-ghost use Rattle.beep_journal.specs.declared.role.Role.{Role as RoleValue};
-ghost use Rattle.beep_steps.specs.Ends.{AreFit};
-ghost use Rattle.beep_input.specs.declared.whole.TheConstants.{MAX_INPUT};
-ghost use Rattle.beep_link.specs.declared.ended.Ended.{Ended as EndedValue};
-ghost use Rattle.beep_steps.specs.Resting.{AreShort};
+ghost use Rattle.beep_runs.specs.beep_journal.specs.declared.role.Role.{Role as RoleValue};
+ghost use Rattle.beep_runs.specs.beep_steps.specs.Ends.{AreFit};
+ghost use Rattle.beep_show.specs.beep_input.specs.declared.whole.TheConstants.{MAX_INPUT};
+ghost use Rattle.beep_runs.specs.beep_link.specs.declared.ended.Ended.{Ended as EndedValue};
+ghost use Rattle.beep_runs.specs.beep_steps.specs.Resting.{AreShort};
 ghost use Rattle.beep_cmd.specs.Ends.{DialsOnce, seen_of, SendCause, SendsLines, Sent, WritesLawfully};
 ghost use Rattle.beep_show.specs.Show.{run_of};
 
 use crate::closing::{finish, finish_unlisted};
 use crate::recorded::record_send;
-use beep_input::read_lines;
-use beep_octets::Octets;
-use beep_sender::{Ended, send_end};
-use beep_settings::Settings;
+use beep_runs::beep_octets::Octets;
+use beep_runs::beep_sender::{Ended, send_end};
+use beep_runs::beep_settings::Settings;
+use beep_runs::beep_wires::{Sink, Source, WireError, Wires};
+use beep_runs::prof_raw::Entries;
 use beep_show::LAST_ROOM;
-use beep_wires::{Sink, Source, WireError, Wires};
-use prof_raw::Entries;
+use beep_show::beep_input::read_lines;
 use std::alloc::Global;
 
 /// Runs `send`. It reads the whole input before it dials.

@@ -10,23 +10,12 @@ ghost use Rattle.beep_decide.specs.Plain.{plain_offer, plain_standing, decision_
 
 use crate::decision::{Answer, Offer, Placed, Standing};
 use crate::numbers::{may_start, other_role};
-use beep_mgmt::{Encoding, Mgmt, Profile};
+use beep_mgmt::{
+    BAD_PARAMETERS, BAD_SYNTAX, BUSY, Encoding, INVALID, Mgmt, NOT_IMPLEMENTED, NOT_TAKEN, Profile,
+};
 use beep_octets::{NoMemory, Octets};
 use beep_turns::MAX_CHANNELS;
 use std::alloc::Global;
-
-// The reply codes of the table (RFC 3080, section 8).
-const BUSY: u16 = 450;
-
-const BAD_SYNTAX: u16 = 500;
-
-const BAD_PARAMETERS: u16 = 501;
-
-const NOT_IMPLEMENTED: u16 = 504;
-
-const NOT_TAKEN: u16 = 550;
-
-const INVALID: u16 = 553;
 
 /// Whether a number is one of these.
 fn is_among(number: u32, numbers: &[u32]) -> bool

@@ -1,11 +1,11 @@
 -- What stands alike is decided alike.
 use Rattle.std.proofs.Common.{◌≡◌, ◌∙◌, refl, ap, ℕ, Bool, not, ◌||◌, List, [], ◌∷◌, Option, None, Some}
 use Rattle.std.specs.Prelude.{nat_lt, nat_le}
-use Rattle.beep_mgmt.specs.Form.{Form, PlainProfile, greeting, start, chosen, close, okay, fault}
-use Rattle.beep_decide.specs.declared.decision.Placed.{Placed}
-use Rattle.beep_turns.specs.declared.turns.TheConstants.{MAX_CHANNELS}
-use Rattle.beep_decide.specs.Numbers.{other_role, may_start}
-use Rattle.beep_decide.specs.Decide.{PlainStanding, Decision, refuse, choose, tune, grant_close, is_among, is_used, used_count, offer_of, first_offered, first_row, has_other_encoding, decide_offer, decide_profile, decide_start, decide_close, decide, answer_of}
+use Rattle.beep_peer.specs.beep_mgmt.specs.Form.{Form, PlainProfile, greeting, start, chosen, close, okay, fault}
+use Rattle.beep_peer.specs.beep_decide.specs.declared.decision.Placed.{Placed}
+use Rattle.beep_peer.specs.beep_turns.specs.declared.turns.TheConstants.{MAX_CHANNELS}
+use Rattle.beep_peer.specs.beep_decide.specs.Numbers.{other_role, may_start}
+use Rattle.beep_peer.specs.beep_decide.specs.Decide.{PlainStanding, Decision, refuse, choose, tune, grant_close, is_among, is_used, used_count, offer_of, first_offered, first_row, has_other_encoding, decide_offer, decide_profile, decide_start, decide_close, decide, answer_of}
 use Rattle.beep_desk.specs.Alike.{StandsAlike}
 
 module _ (one other : PlainStanding) (s : StandsAlike one other) where

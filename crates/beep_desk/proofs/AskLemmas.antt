@@ -1,20 +1,20 @@
 -- What an item has a sender ask, and how many requests are listed.
 use Rattle.std.proofs.Common.{◌≡◌, ◌∙◌, refl, sym, ap, ℕ, suc, ◌==◌, Bool, true, false, not, ◌&&◌, if◌then◌else◌, List, [], ◌∷◌, ◌++◌, length, map, filter, None, append-nil}
-use Rattle.beep_frame.specs.declared.head.Head.{Head}
-use Rattle.beep_frame.specs.declared.kind.Kind.{Kind}
-use Rattle.beep_frame.specs.Frame.{is_msg, same_kind}
-use Rattle.beep_history.specs.declared.journal.Side.{Side}
-use Rattle.beep_history.specs.Journal.{Item, passed}
-use Rattle.beep_history.specs.Marks.{Mark, position_of}
-use Rattle.beep_mgmt.specs.Form.{close, start}
-use Rattle.beep_journal.specs.Laws.{pieces_from}
-use Rattle.beep_journal.specs.Zero.{completes_form, zero_history}
-use Rattle.beep_journal.proofs.MomentLemmas.{equal-number}
-use Rattle.beep_spoken.specs.Spoken.{AreSpoken, Spoken, text_of}
-use Rattle.beep_management.specs.Managed.{requests_among}
-use Rattle.beep_talk.specs.declared.plan.Command.{Command}
-use Rattle.beep_talk.specs.AtZero.{ZeroMessage, profile_of, zero_message}
-use Rattle.beep_talk.specs.Plan.{PlainPlan}
+use Rattle.beep_peer.specs.beep_frame.specs.declared.head.Head.{Head}
+use Rattle.beep_peer.specs.beep_frame.specs.declared.kind.Kind.{Kind}
+use Rattle.beep_peer.specs.beep_frame.specs.Frame.{is_msg, same_kind}
+use Rattle.beep_peer.specs.beep_history.specs.declared.journal.Side.{Side}
+use Rattle.beep_peer.specs.beep_history.specs.Journal.{Item, passed}
+use Rattle.beep_peer.specs.beep_history.specs.Marks.{Mark, position_of}
+use Rattle.beep_peer.specs.beep_mgmt.specs.Form.{close, start}
+use Rattle.beep_peer.specs.beep_journal.specs.Laws.{pieces_from}
+use Rattle.beep_peer.specs.beep_journal.specs.Zero.{completes_form, zero_history}
+use Rattle.beep_peer.specs.beep_journal.proofs.MomentLemmas.{equal-number}
+use Rattle.beep_peer.specs.beep_spoken.specs.Spoken.{AreSpoken, Spoken, text_of}
+use Rattle.beep_peer.specs.beep_management.specs.Managed.{requests_among}
+use Rattle.beep_script.specs.beep_talk.specs.declared.plan.Command.{Command}
+use Rattle.beep_script.specs.beep_talk.specs.AtZero.{ZeroMessage, profile_of, zero_message}
+use Rattle.beep_script.specs.beep_talk.specs.Plan.{PlainPlan}
 use Rattle.beep_script.specs.Desk.{asks, asks_where, ends_lines, grants_own}
 use Rattle.beep_script.specs.Requested.{requests_from}
 use Rattle.beep_desk.specs.Listed.{asked_positions, spoken_of}

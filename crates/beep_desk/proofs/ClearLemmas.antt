@@ -3,30 +3,30 @@ use Rattle.std.proofs.Common.{◌≡◌, ◌∙◌, refl, sym, ap, subst, ℕ, z
 use Rattle.std.specs.Prelude.{nat_lt, is_some}
 use Rattle.std.specs.List.{list_all, list_any}
 use Rattle.std.proofs.lemmas.Bool.Decides.{nat_tests}
-use Rattle.beep_history.specs.declared.journal.Side.{Side}
-use Rattle.beep_history.specs.Journal.{Item}
-use Rattle.beep_history.specs.Marks.{is_answered}
-use Rattle.beep_history.specs.Broken.{KeepsExchangeRules}
-use Rattle.beep_mgmt.specs.Form.{Form}
-use Rattle.beep_journal.specs.Life.{life, life_now}
-use Rattle.beep_lawful.specs.Closing.{is_drained}
-use Rattle.beep_journal.specs.Lives.{Event, has_ended, is_live, life_named, lives}
-use Rattle.beep_journal.specs.Zero.{asked, events, zero_history}
-use Rattle.beep_journal.proofs.LivesLemmas.{ended-before}
-use Rattle.beep_journal.proofs.MomentLemmas.{equal-number, named-within}
-use Rattle.beep_standing.specs.Standing.{Marks, AreLiveBy}
-use Rattle.beep_standing.proofs.ZeroLemmas.{none-of-zero}
-use Rattle.beep_spoken.specs.Spoken.{Spoken}
-use Rattle.beep_asked.specs.Asked.{names_live}
-use Rattle.beep_asked.specs.Kept.{Kept, asks_otherwise}
-use Rattle.beep_management.specs.declared.wait.Wait.{Wait}
-use Rattle.beep_management.specs.Managed.{Prepared, requests_among}
-use Rattle.beep_management.specs.Manages.{IsManaged}
-use Rattle.beep_decide.specs.Asks.{is_close_of}
+use Rattle.beep_peer.specs.beep_history.specs.declared.journal.Side.{Side}
+use Rattle.beep_peer.specs.beep_history.specs.Journal.{Item}
+use Rattle.beep_peer.specs.beep_history.specs.Marks.{is_answered}
+use Rattle.beep_peer.specs.beep_history.specs.Broken.{KeepsExchangeRules}
+use Rattle.beep_peer.specs.beep_mgmt.specs.Form.{Form}
+use Rattle.beep_peer.specs.beep_journal.specs.Life.{life, life_now}
+use Rattle.beep_peer.specs.beep_lawful.specs.Closing.{is_drained}
+use Rattle.beep_peer.specs.beep_journal.specs.Lives.{Event, has_ended, is_live, life_named, lives}
+use Rattle.beep_peer.specs.beep_journal.specs.Zero.{asked, events, zero_history}
+use Rattle.beep_peer.specs.beep_journal.proofs.LivesLemmas.{ended-before}
+use Rattle.beep_peer.specs.beep_journal.proofs.MomentLemmas.{equal-number, named-within}
+use Rattle.beep_peer.specs.beep_standing.specs.Standing.{Marks, AreLiveBy}
+use Rattle.beep_peer.specs.beep_standing.proofs.ZeroLemmas.{none-of-zero}
+use Rattle.beep_peer.specs.beep_spoken.specs.Spoken.{Spoken}
+use Rattle.beep_peer.specs.beep_asked.specs.Asked.{names_live}
+use Rattle.beep_peer.specs.beep_asked.specs.Kept.{Kept, asks_otherwise}
+use Rattle.beep_peer.specs.beep_management.specs.declared.wait.Wait.{Wait}
+use Rattle.beep_peer.specs.beep_management.specs.Managed.{Prepared, requests_among}
+use Rattle.beep_peer.specs.beep_management.specs.Manages.{IsManaged}
+use Rattle.beep_peer.specs.beep_decide.specs.Asks.{is_close_of}
 use Rattle.beep_peer.specs.Waiting.{HasCome, IsDrainedAt}
 use Rattle.beep_peer.specs.declared.peer.Peer.{Peer}
-use Rattle.beep_talk.specs.AtZero.{ZeroMessage}
-use Rattle.beep_talk.specs.Plan.{PlainPlan}
+use Rattle.beep_script.specs.beep_talk.specs.AtZero.{ZeroMessage}
+use Rattle.beep_script.specs.beep_talk.specs.Plan.{PlainPlan}
 use Rattle.beep_script.specs.Desk.{are_free, has_listed, is_clear_of, is_free, is_said, live_numbers}
 use Rattle.beep_desk.specs.Listed.{ArePlacedFrom, asked_positions, spoken_of}
 use Rattle.beep_desk.specs.Waiting.{AllTaken, IsDone, SaysAll, WaitsFor}

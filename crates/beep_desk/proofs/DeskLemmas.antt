@@ -1,29 +1,29 @@
 -- What the answers of a session wait for is what those that its script owes wait for.
 use Rattle.std.proofs.Common.{◌≡◌, ◌∙◌, refl, sym, ap, subst, ℕ, zero, suc, ◌+◌, ◌-◌, ◌≤◌, Bool, true, false, not, if◌then◌else◌, List, [], ◌∷◌, ◌++◌, length, map, take, drop, reverse, Option, arith, length-append}
 use Rattle.std.proofs.Math.Seq.{drop-append_seam}
-use Rattle.beep_frame.specs.declared.kind.Kind.{Kind}
-use Rattle.beep_frame.specs.Frame.{is_msg}
-use Rattle.beep_history.specs.declared.journal.Side.{Side}
-use Rattle.beep_history.specs.Journal.{Item}
-use Rattle.beep_history.specs.Broken.{KeepsExchangeRules}
-use Rattle.beep_history.specs.Marks.{marks}
-use Rattle.beep_mgmt.specs.Form.{Form}
-use Rattle.beep_journal.specs.Laws.{contents}
-use Rattle.beep_journal.proofs.PiecesLemmas.{are-cut}
-use Rattle.beep_journal.specs.Lives.{Event}
-use Rattle.beep_journal.specs.Zero.{asked, events, zero_history}
-use Rattle.beep_lawful.specs.declared.terms.Terms.{Terms}
-use Rattle.beep_standing.specs.Standing.{Marks, AreLiveBy}
-use Rattle.beep_spoken.specs.Spoken.{Spoken, kinds_of}
-use Rattle.beep_asked.specs.Kept.{Kept}
-use Rattle.beep_management.specs.Managed.{Prepared, replies_among}
-use Rattle.beep_management.specs.Manages.{ArePrepared, IsManaged, unsent}
-use Rattle.beep_upright.specs.Turns.{kinds_at, reply_kinds}
-use Rattle.beep_upright.specs.Upright.{AreAnswered, IsUpright, all_asked, asked_at}
+use Rattle.beep_peer.specs.beep_frame.specs.declared.kind.Kind.{Kind}
+use Rattle.beep_peer.specs.beep_frame.specs.Frame.{is_msg}
+use Rattle.beep_peer.specs.beep_history.specs.declared.journal.Side.{Side}
+use Rattle.beep_peer.specs.beep_history.specs.Journal.{Item}
+use Rattle.beep_peer.specs.beep_history.specs.Broken.{KeepsExchangeRules}
+use Rattle.beep_peer.specs.beep_history.specs.Marks.{marks}
+use Rattle.beep_peer.specs.beep_mgmt.specs.Form.{Form}
+use Rattle.beep_peer.specs.beep_journal.specs.Laws.{contents}
+use Rattle.beep_peer.specs.beep_journal.proofs.PiecesLemmas.{are-cut}
+use Rattle.beep_peer.specs.beep_journal.specs.Lives.{Event}
+use Rattle.beep_peer.specs.beep_journal.specs.Zero.{asked, events, zero_history}
+use Rattle.beep_peer.specs.beep_lawful.specs.declared.terms.Terms.{Terms}
+use Rattle.beep_peer.specs.beep_standing.specs.Standing.{Marks, AreLiveBy}
+use Rattle.beep_peer.specs.beep_spoken.specs.Spoken.{Spoken, kinds_of}
+use Rattle.beep_peer.specs.beep_asked.specs.Kept.{Kept}
+use Rattle.beep_peer.specs.beep_management.specs.Managed.{Prepared, replies_among}
+use Rattle.beep_peer.specs.beep_management.specs.Manages.{ArePrepared, IsManaged, unsent}
+use Rattle.beep_peer.specs.beep_upright.specs.Turns.{kinds_at, reply_kinds}
+use Rattle.beep_peer.specs.beep_upright.specs.Upright.{AreAnswered, IsUpright, all_asked, asked_at}
 use Rattle.beep_peer.specs.declared.peer.Peer.{Peer}
 use Rattle.beep_peer.proofs.KindsLemmas.{kinds-by}
-use Rattle.beep_talk.specs.AtZero.{Answer}
-use Rattle.beep_talk.specs.Plan.{PlainPlan}
+use Rattle.beep_script.specs.beep_talk.specs.AtZero.{Answer}
+use Rattle.beep_script.specs.beep_talk.specs.Plan.{PlainPlan}
 use Rattle.beep_script.specs.Desk.{desk}
 use Rattle.beep_script.specs.Laws.{replied_positions}
 use Rattle.beep_desk.specs.Listed.{ArePlacedFrom, AreInTurn, IsListed}

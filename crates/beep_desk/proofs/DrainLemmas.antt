@@ -2,30 +2,30 @@
 use Rattle.std.proofs.Common.{◌≡◌, ◌∙◌, refl, sym, ap, ℕ, ◌==◌, Bool, true, false, not, ◌&&◌, ◌||◌, if◌then◌else◌, List, [], ◌∷◌, ◌++◌, length, Option, None, Some, arith}
 use Rattle.std.specs.Prelude.{nat_lt, is_some}
 use Rattle.std.proofs.lemmas.Bool.Decides.{nat_tests}
-use Rattle.beep_frame.specs.declared.head.Head.{Head}
-use Rattle.beep_frame.specs.Frame.{is_msg}
-use Rattle.beep_history.specs.declared.journal.Side.{Side}
-use Rattle.beep_history.specs.Journal.{Item}
-use Rattle.beep_history.specs.Marks.{waiting}
-use Rattle.beep_history.specs.Broken.{under_way}
-use Rattle.beep_history.proofs.PassedLemmas.{sound}
-use Rattle.beep_exchange.specs.Kept.{Kept, is_open}
-use Rattle.beep_exchange.proofs.AskerLemmas.{count-waiting}
-use Rattle.beep_journal.specs.Life.{history, is_there, life, life_now}
-use Rattle.beep_journal.specs.Lives.{has_ended, is_live, lives}
-use Rattle.beep_journal.specs.Zero.{events, zero_history}
-use Rattle.beep_channel.specs.Held.{Live, is_held_drained}
-use Rattle.beep_channel.specs.Stands.{HeldStands, Stands}
-use Rattle.beep_channel.proofs.DrainedLemmas.{held-drained, is-drained}
-use Rattle.beep_inbox.specs.Runs.{marks_of as untaken_marks}
-use Rattle.beep_lives.specs.Lives.{live_at}
-use Rattle.beep_standing.specs.Standing.{Marks, AreLiveBy}
-use Rattle.beep_lawful.specs.Closing.{is_drained}
+use Rattle.beep_peer.specs.beep_frame.specs.declared.head.Head.{Head}
+use Rattle.beep_peer.specs.beep_frame.specs.Frame.{is_msg}
+use Rattle.beep_peer.specs.beep_history.specs.declared.journal.Side.{Side}
+use Rattle.beep_peer.specs.beep_history.specs.Journal.{Item}
+use Rattle.beep_peer.specs.beep_history.specs.Marks.{waiting}
+use Rattle.beep_peer.specs.beep_history.specs.Broken.{under_way}
+use Rattle.beep_peer.specs.beep_history.proofs.PassedLemmas.{sound}
+use Rattle.beep_peer.specs.beep_exchange.specs.Kept.{Kept, is_open}
+use Rattle.beep_peer.specs.beep_exchange.proofs.AskerLemmas.{count-waiting}
+use Rattle.beep_peer.specs.beep_journal.specs.Life.{history, is_there, life, life_now}
+use Rattle.beep_peer.specs.beep_journal.specs.Lives.{has_ended, is_live, lives}
+use Rattle.beep_peer.specs.beep_journal.specs.Zero.{events, zero_history}
+use Rattle.beep_peer.specs.beep_channel.specs.Held.{Live, is_held_drained}
+use Rattle.beep_peer.specs.beep_channel.specs.Stands.{HeldStands, Stands}
+use Rattle.beep_peer.specs.beep_channel.proofs.DrainedLemmas.{held-drained, is-drained}
+use Rattle.beep_peer.specs.beep_inbox.specs.Runs.{marks_of as untaken_marks}
+use Rattle.beep_peer.specs.beep_lives.specs.Lives.{live_at}
+use Rattle.beep_peer.specs.beep_standing.specs.Standing.{Marks, AreLiveBy}
+use Rattle.beep_peer.specs.beep_lawful.specs.Closing.{is_drained}
 use Rattle.beep_peer.specs.Waiting.{IsDrainedAt}
-use Rattle.beep_channel.specs.Fits.{as_number}
-use Rattle.beep_channel.proofs.JudgedLemmas.{equal}
-use Rattle.beep_channel.proofs.PassedLemmas.{no-more}
-use Rattle.beep_talk.specs.Plan.{PlainPlan}
+use Rattle.beep_peer.specs.beep_channel.specs.Fits.{as_number}
+use Rattle.beep_peer.specs.beep_channel.proofs.JudgedLemmas.{equal}
+use Rattle.beep_peer.specs.beep_channel.proofs.PassedLemmas.{no-more}
+use Rattle.beep_script.specs.beep_talk.specs.Plan.{PlainPlan}
 use Rattle.beep_script.specs.Desk.{is_free, is_said}
 use Rattle.beep_desk.specs.Waiting.{AllTaken, IsDone, SaysAll}
 

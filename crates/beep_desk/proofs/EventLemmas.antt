@@ -2,22 +2,22 @@
 use Rattle.std.proofs.Common.{◌≡◌, ◌∙◌, refl, ap, ℕ, ◌+◌, ◌==◌, ◌<◌, Bool, true, false, not, ◌&&◌, ◌||◌, if◌then◌else◌, List, [], ◌∷◌, ◌++◌, length, Option, None, Some, arith, ◌⊎◌, inl, inr}
 use Rattle.std.specs.Prelude.{nat_lt}
 use Rattle.std.specs.List.{list_any}
-use Rattle.beep_frame.specs.declared.head.Head.{Head}
-use Rattle.beep_frame.specs.declared.kind.Kind.{Kind}
-use Rattle.beep_frame.specs.Frame.{is_msg, same_kind}
-use Rattle.beep_history.specs.declared.journal.Side.{Side}
-use Rattle.beep_history.specs.Journal.{Item, began, passed, told, other, same_side}
-use Rattle.beep_history.specs.Marks.{answers, ends_reply, is_answered, position_of, reply}
-use Rattle.beep_mgmt.specs.Form.{Form, greeting, start, chosen, close, okay, fault}
-use Rattle.beep_mgmt.specs.Message.{message_said}
-use Rattle.beep_journal.specs.Lives.{Event, close_came, start_granted, close_granted, has_ended, is_live, life_named, lives}
-use Rattle.beep_journal.specs.Zero.{asked, coming, completes_form, effect, events, gathered, granting, said_to, zero_events, zero_history}
-use Rattle.beep_journal.proofs.JournalLemmas.{above-events, began-events, told-events}
-use Rattle.beep_journal.proofs.MomentLemmas.{and-false, apart-less, apart-more, named-within}
-use Rattle.beep_asked.specs.Asked.{names_live}
-use Rattle.beep_management.specs.declared.wait.Wait.{Wait}
-use Rattle.beep_management.specs.Managed.{Prepared}
-use Rattle.beep_talk.specs.AtZero.{Answer}
+use Rattle.beep_peer.specs.beep_frame.specs.declared.head.Head.{Head}
+use Rattle.beep_peer.specs.beep_frame.specs.declared.kind.Kind.{Kind}
+use Rattle.beep_peer.specs.beep_frame.specs.Frame.{is_msg, same_kind}
+use Rattle.beep_peer.specs.beep_history.specs.declared.journal.Side.{Side}
+use Rattle.beep_peer.specs.beep_history.specs.Journal.{Item, began, passed, told, other, same_side}
+use Rattle.beep_peer.specs.beep_history.specs.Marks.{answers, ends_reply, is_answered, position_of, reply}
+use Rattle.beep_peer.specs.beep_mgmt.specs.Form.{Form, greeting, start, chosen, close, okay, fault}
+use Rattle.beep_peer.specs.beep_mgmt.specs.Message.{message_said}
+use Rattle.beep_peer.specs.beep_journal.specs.Lives.{Event, close_came, start_granted, close_granted, has_ended, is_live, life_named, lives}
+use Rattle.beep_peer.specs.beep_journal.specs.Zero.{asked, coming, completes_form, effect, events, gathered, granting, said_to, zero_events, zero_history}
+use Rattle.beep_peer.specs.beep_journal.proofs.JournalLemmas.{above-events, began-events, told-events}
+use Rattle.beep_peer.specs.beep_journal.proofs.MomentLemmas.{and-false, apart-less, apart-more, named-within}
+use Rattle.beep_peer.specs.beep_asked.specs.Asked.{names_live}
+use Rattle.beep_peer.specs.beep_management.specs.declared.wait.Wait.{Wait}
+use Rattle.beep_peer.specs.beep_management.specs.Managed.{Prepared}
+use Rattle.beep_script.specs.beep_talk.specs.AtZero.{Answer}
 use Rattle.beep_desk.specs.Desks.{AllMayWait, MayWait}
 use Rattle.beep_desk.specs.Waiting.{AllWait, WaitsFor}
 use Rattle.beep_desk.proofs.ClearLemmas.{may-wait}

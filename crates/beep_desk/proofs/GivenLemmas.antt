@@ -1,26 +1,26 @@
 -- What was given says which messages were, and answers that go join them.
 use Rattle.std.proofs.Common.{◌≡◌, ◌∙◌, refl, sym, ap, subst, ℕ, ◌==◌, Bool, true, false, ◌&&◌, if◌then◌else◌, List, [], ◌∷◌, ◌++◌, map, Option, None, Some, append_assoc, append-nil, inl, inr}
-use Rattle.beep_frame.specs.declared.kind.Kind.{Kind}
-use Rattle.beep_history.specs.Marks.{Mark}
-use Rattle.beep_history.specs.declared.journal.Side.{Side}
-use Rattle.beep_mgmt.specs.Form.{Form}
-use Rattle.beep_mgmt.specs.Message.{message_said}
-use Rattle.beep_outbox.specs.Queue.{Message, marks_of, message_marks}
-use Rattle.beep_journal.specs.Lives.{Event, is_live, life_named, lives}
-use Rattle.beep_journal.proofs.MomentLemmas.{equal-number}
-use Rattle.beep_history.specs.Journal.{Item}
-use Rattle.beep_standing.specs.Standing.{Marks}
-use Rattle.beep_spoken.specs.Spoken.{AllSaid, AreSpoken, Spoken, text_of}
-use Rattle.beep_spoken.proofs.SpokenLemmas.{spoken-more}
-use Rattle.beep_management.specs.declared.wait.Wait.{Wait}
-use Rattle.beep_management.specs.Managed.{Prepared, wait_without, without}
-use Rattle.beep_management.specs.Manages.{ArePrepared}
-use Rattle.beep_channel.specs.Held.{Live}
-use Rattle.beep_lives.specs.Lives.{live_at}
+use Rattle.beep_peer.specs.beep_frame.specs.declared.kind.Kind.{Kind}
+use Rattle.beep_peer.specs.beep_history.specs.Marks.{Mark}
+use Rattle.beep_peer.specs.beep_history.specs.declared.journal.Side.{Side}
+use Rattle.beep_peer.specs.beep_mgmt.specs.Form.{Form}
+use Rattle.beep_peer.specs.beep_mgmt.specs.Message.{message_said}
+use Rattle.beep_peer.specs.beep_outbox.specs.Queue.{Message, marks_of, message_marks}
+use Rattle.beep_peer.specs.beep_journal.specs.Lives.{Event, is_live, life_named, lives}
+use Rattle.beep_peer.specs.beep_journal.proofs.MomentLemmas.{equal-number}
+use Rattle.beep_peer.specs.beep_history.specs.Journal.{Item}
+use Rattle.beep_peer.specs.beep_standing.specs.Standing.{Marks}
+use Rattle.beep_peer.specs.beep_spoken.specs.Spoken.{AllSaid, AreSpoken, Spoken, text_of}
+use Rattle.beep_peer.specs.beep_spoken.proofs.SpokenLemmas.{spoken-more}
+use Rattle.beep_peer.specs.beep_management.specs.declared.wait.Wait.{Wait}
+use Rattle.beep_peer.specs.beep_management.specs.Managed.{Prepared, wait_without, without}
+use Rattle.beep_peer.specs.beep_management.specs.Manages.{ArePrepared}
+use Rattle.beep_peer.specs.beep_channel.specs.Held.{Live}
+use Rattle.beep_peer.specs.beep_lives.specs.Lives.{live_at}
 use Rattle.beep_peer.specs.Calls.{AreLeft}
 use Rattle.beep_peer.specs.Waiting.{AreGiven}
-use Rattle.beep_talk.specs.AtZero.{Answer}
-use Rattle.beep_talk.specs.Plan.{PlainPlan}
+use Rattle.beep_script.specs.beep_talk.specs.AtZero.{Answer}
+use Rattle.beep_script.specs.beep_talk.specs.Plan.{PlainPlan}
 use Rattle.beep_desk.specs.Desks.{AllMayWait, AreDoneFor, IsDoneFor, MayWait}
 use Rattle.beep_desk.specs.Listed.{spoken_as}
 use Rattle.beep_desk.specs.Waiting.{OnlyGrantsWait}

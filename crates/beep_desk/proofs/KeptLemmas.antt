@@ -2,23 +2,23 @@
 use Rattle.std.proofs.Common.{◌≡◌, ◌∙◌, refl, sym, ap, ℕ, zero, suc, ◌-◌, true, ◌||◌, List, [], ◌∷◌, ◌++◌, length, map, drop, flat_map, reverse, Option, None, Some, arith}
 use Rattle.std.specs.Prelude.{is_some}
 use Rattle.std.specs.List.{list_any}
-use Rattle.beep_history.specs.declared.journal.Side.{Side}
-use Rattle.beep_history.specs.Journal.{Item}
-use Rattle.beep_history.specs.Broken.{KeepsExchangeRules}
-use Rattle.beep_mgmt.specs.Form.{Form}
-use Rattle.beep_journal.specs.Zero.{zero_history, asked}
-use Rattle.beep_channel.specs.Held.{Live}
-use Rattle.beep_channel.specs.Stands.{Stands}
-use Rattle.beep_outbox.specs.Queue.{marks_of as unsent_marks}
-use Rattle.beep_lives.specs.Lives.{live_at}
-use Rattle.beep_standing.specs.Standing.{Marks, AreLiveBy}
-use Rattle.beep_decide.specs.Asks.{is_close_of}
-use Rattle.beep_spoken.specs.Spoken.{Spoken}
-use Rattle.beep_asked.specs.Kept.{Kept, is_leaving}
-use Rattle.beep_management.specs.Managed.{numbers_of, numbers_started, requests_among}
-use Rattle.beep_management.specs.Manages.{AreFresh, IsManaged}
+use Rattle.beep_peer.specs.beep_history.specs.declared.journal.Side.{Side}
+use Rattle.beep_peer.specs.beep_history.specs.Journal.{Item}
+use Rattle.beep_peer.specs.beep_history.specs.Broken.{KeepsExchangeRules}
+use Rattle.beep_peer.specs.beep_mgmt.specs.Form.{Form}
+use Rattle.beep_peer.specs.beep_journal.specs.Zero.{zero_history, asked}
+use Rattle.beep_peer.specs.beep_channel.specs.Held.{Live}
+use Rattle.beep_peer.specs.beep_channel.specs.Stands.{Stands}
+use Rattle.beep_peer.specs.beep_outbox.specs.Queue.{marks_of as unsent_marks}
+use Rattle.beep_peer.specs.beep_lives.specs.Lives.{live_at}
+use Rattle.beep_peer.specs.beep_standing.specs.Standing.{Marks, AreLiveBy}
+use Rattle.beep_peer.specs.beep_decide.specs.Asks.{is_close_of}
+use Rattle.beep_peer.specs.beep_spoken.specs.Spoken.{Spoken}
+use Rattle.beep_peer.specs.beep_asked.specs.Kept.{Kept, is_leaving}
+use Rattle.beep_peer.specs.beep_management.specs.Managed.{numbers_of, numbers_started, requests_among}
+use Rattle.beep_peer.specs.beep_management.specs.Manages.{AreFresh, IsManaged}
 use Rattle.beep_peer.specs.declared.peer.Peer.{Peer}
-use Rattle.beep_talk.specs.AtZero.{ZeroMessage}
+use Rattle.beep_script.specs.beep_talk.specs.AtZero.{ZeroMessage}
 use Rattle.beep_script.specs.Desk.{own_starting, number_started, has_listed}
 use Rattle.beep_desk.specs.Listed.{ArePlacedFrom, asked_positions, spoken_of}
 use Rattle.beep_desk.proofs.OwnLemmas.{any-append, any-map, any-reverse, form_said, listed-says, listed-waiting, own-waiting, started-said, starting-waiting, waiting_forms}

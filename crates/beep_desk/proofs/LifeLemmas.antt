@@ -3,20 +3,20 @@ use Rattle.std.proofs.Common.{◌≡◌, ◌∙◌, refl, sym, ap, subst, ℕ, z
 use Rattle.std.specs.Prelude.{nat_lt}
 use Rattle.std.specs.List.{list_any}
 use Rattle.std.proofs.lemmas.Bool.Decides.{nat_tests}
-use Rattle.beep_frame.specs.declared.head.Head.{Head}
-use Rattle.beep_frame.specs.declared.kind.Kind.{Kind}
-use Rattle.beep_frame.specs.Frame.{is_msg, same_kind}
-use Rattle.beep_history.specs.declared.journal.Side.{Side}
-use Rattle.beep_history.specs.Journal.{Item, began, passed, told, same_side}
-use Rattle.beep_history.specs.Marks.{answers, ends_reply, is_answered, position_of, reply}
-use Rattle.beep_history.specs.Broken.{KeepsExchangeRules}
-use Rattle.beep_mgmt.specs.Form.{Form, greeting, start, chosen, close, okay, fault}
-use Rattle.beep_mgmt.specs.Message.{message_said}
-use Rattle.beep_journal.specs.Lives.{Event, close_came, start_granted, close_granted, has_ended, is_live, life_named, lives}
-use Rattle.beep_journal.specs.Zero.{asked, coming, completes_form, gathered, granting, has_form, is_grant, said_at, said_to, zero_events}
-use Rattle.beep_journal.proofs.MomentLemmas.{apart-more, close-live, equal-number, same-number}
-use Rattle.beep_decide.specs.Asks.{is_start}
-use Rattle.beep_talk.specs.AtZero.{profile_of}
+use Rattle.beep_peer.specs.beep_frame.specs.declared.head.Head.{Head}
+use Rattle.beep_peer.specs.beep_frame.specs.declared.kind.Kind.{Kind}
+use Rattle.beep_peer.specs.beep_frame.specs.Frame.{is_msg, same_kind}
+use Rattle.beep_peer.specs.beep_history.specs.declared.journal.Side.{Side}
+use Rattle.beep_peer.specs.beep_history.specs.Journal.{Item, began, passed, told, same_side}
+use Rattle.beep_peer.specs.beep_history.specs.Marks.{answers, ends_reply, is_answered, position_of, reply}
+use Rattle.beep_peer.specs.beep_history.specs.Broken.{KeepsExchangeRules}
+use Rattle.beep_peer.specs.beep_mgmt.specs.Form.{Form, greeting, start, chosen, close, okay, fault}
+use Rattle.beep_peer.specs.beep_mgmt.specs.Message.{message_said}
+use Rattle.beep_peer.specs.beep_journal.specs.Lives.{Event, close_came, start_granted, close_granted, has_ended, is_live, life_named, lives}
+use Rattle.beep_peer.specs.beep_journal.specs.Zero.{asked, coming, completes_form, gathered, granting, has_form, is_grant, said_at, said_to, zero_events}
+use Rattle.beep_peer.specs.beep_journal.proofs.MomentLemmas.{apart-more, close-live, equal-number, same-number}
+use Rattle.beep_peer.specs.beep_decide.specs.Asks.{is_start}
+use Rattle.beep_script.specs.beep_talk.specs.AtZero.{profile_of}
 use Rattle.beep_script.proofs.RequestedLemmas.{nth}
 use Rattle.beep_desk.proofs.OnceLemmas.{answered, unanswered}
 

@@ -2,11 +2,11 @@
 use Rattle.std.proofs.Common.{◌≡◌, ◌∙◌, refl, sym, ap, subst, ℕ, ◌==◌, ◌+◌, Bool, true, false, not, ◌&&◌, ◌||◌, if◌then◌else◌, List, [], ◌∷◌, arith}
 use Rattle.std.specs.Prelude.{nat_lt}
 use Rattle.std.proofs.lemmas.Bool.Decides.{nat_tests}
-use Rattle.beep_history.specs.Journal.{Item}
-use Rattle.beep_journal.specs.Lives.{Event, close_came, start_granted, close_granted, lives, has_ended, is_live}
-use Rattle.beep_journal.specs.Zero.{events}
-use Rattle.beep_journal.proofs.MomentLemmas.{equal-number, same-number}
-use Rattle.beep_decide.specs.Decide.{is_among}
+use Rattle.beep_peer.specs.beep_history.specs.Journal.{Item}
+use Rattle.beep_peer.specs.beep_journal.specs.Lives.{Event, close_came, start_granted, close_granted, lives, has_ended, is_live}
+use Rattle.beep_peer.specs.beep_journal.specs.Zero.{events}
+use Rattle.beep_peer.specs.beep_journal.proofs.MomentLemmas.{equal-number, same-number}
+use Rattle.beep_peer.specs.beep_decide.specs.Decide.{is_among}
 use Rattle.beep_script.specs.Desk.{live_among, live_numbers}
 use Rattle.beep_desk.proofs.NumberLemmas.{Distinct}
 

@@ -3,10 +3,10 @@ use Rattle.std.proofs.Common.{◌≡◌, ◌∙◌, refl, sym, ap, subst, ℕ, s
 use Rattle.std.specs.Prelude.{is_some}
 use Rattle.std.specs.List.{list_all}
 use Rattle.std.proofs.lemmas.Bool.Decides.{nat_tests}
-use Rattle.beep_journal.proofs.MomentLemmas.{equal-number, same-number}
-use Rattle.beep_decide.specs.Decide.{is_among}
-use Rattle.beep_channel.specs.Held.{Live}
-use Rattle.beep_lives.specs.Lives.{live_at, numbers, IsAscendingFrom}
+use Rattle.beep_peer.specs.beep_journal.proofs.MomentLemmas.{equal-number, same-number}
+use Rattle.beep_peer.specs.beep_decide.specs.Decide.{is_among}
+use Rattle.beep_peer.specs.beep_channel.specs.Held.{Live}
+use Rattle.beep_peer.specs.beep_lives.specs.Lives.{live_at, numbers, IsAscendingFrom}
 use Rattle.beep_peer.specs.Standing.{rest_of}
 
 -- ---- lists without a number twice

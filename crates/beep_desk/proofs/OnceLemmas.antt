@@ -4,21 +4,21 @@ use Rattle.std.specs.Prelude.{nat_lt}
 use Rattle.std.specs.List.{list_any}
 use Rattle.std.specs.Option.{option_map_or}
 use Rattle.std.proofs.lemmas.Bool.Decides.{nat_tests}
-use Rattle.beep_frame.specs.declared.head.Head.{Head}
-use Rattle.beep_frame.specs.declared.kind.Kind.{Kind}
-use Rattle.beep_frame.specs.Frame.{is_ans, is_msg, is_reply, same_kind}
-use Rattle.beep_history.specs.declared.journal.Side.{Side}
-use Rattle.beep_history.specs.Journal.{Item, began, passed, told}
-use Rattle.beep_history.specs.Marks.{Request, answers, ends_reply, is_answered, latest, position_of, reply, requests}
-use Rattle.beep_history.specs.Broken.{KeepsExchangeRules}
-use Rattle.beep_history.proofs.SoundLemmas.{IsDue, Sound}
-use Rattle.beep_history.proofs.PassedLemmas.{sound}
-use Rattle.beep_mgmt.specs.Form.{close, start}
-use Rattle.beep_journal.specs.Zero.{channel_of, completes_form, zero_history}
-use Rattle.beep_journal.proofs.MomentLemmas.{equal-number, same-number}
-use Rattle.beep_talk.specs.declared.plan.Command.{Command}
-use Rattle.beep_talk.specs.AtZero.{profile_of}
-use Rattle.beep_talk.specs.Plan.{PlainPlan}
+use Rattle.beep_peer.specs.beep_frame.specs.declared.head.Head.{Head}
+use Rattle.beep_peer.specs.beep_frame.specs.declared.kind.Kind.{Kind}
+use Rattle.beep_peer.specs.beep_frame.specs.Frame.{is_ans, is_msg, is_reply, same_kind}
+use Rattle.beep_peer.specs.beep_history.specs.declared.journal.Side.{Side}
+use Rattle.beep_peer.specs.beep_history.specs.Journal.{Item, began, passed, told}
+use Rattle.beep_peer.specs.beep_history.specs.Marks.{Request, answers, ends_reply, is_answered, latest, position_of, reply, requests}
+use Rattle.beep_peer.specs.beep_history.specs.Broken.{KeepsExchangeRules}
+use Rattle.beep_peer.specs.beep_history.proofs.SoundLemmas.{IsDue, Sound}
+use Rattle.beep_peer.specs.beep_history.proofs.PassedLemmas.{sound}
+use Rattle.beep_peer.specs.beep_mgmt.specs.Form.{close, start}
+use Rattle.beep_peer.specs.beep_journal.specs.Zero.{channel_of, completes_form, zero_history}
+use Rattle.beep_peer.specs.beep_journal.proofs.MomentLemmas.{equal-number, same-number}
+use Rattle.beep_script.specs.beep_talk.specs.declared.plan.Command.{Command}
+use Rattle.beep_script.specs.beep_talk.specs.AtZero.{profile_of}
+use Rattle.beep_script.specs.beep_talk.specs.Plan.{PlainPlan}
 use Rattle.beep_script.specs.Desk.{asks, asks_where, desk, ends_lines, grants_own}
 use Rattle.beep_desk.specs.Listed.{ArePlacedFrom, AskInTurn, asked_positions}
 use Rattle.beep_desk.proofs.EventLemmas.{answered-more}

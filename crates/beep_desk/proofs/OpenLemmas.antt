@@ -3,31 +3,31 @@ use Rattle.std.proofs.Common.{◌≡◌, ◌∙◌, refl, sym, ap, subst, ℕ, �
 use Rattle.std.specs.Prelude.{is_some}
 use Rattle.std.specs.Option.{option_to_list}
 use Rattle.std.proofs.lemmas.List.{map-append}
-use Rattle.beep_frame.specs.declared.head.Head.{Head}
-use Rattle.beep_frame.specs.declared.kind.Kind.{Kind}
-use Rattle.beep_frame.specs.Frame.{is_ans, is_msg, same_kind}
-use Rattle.beep_history.specs.declared.journal.Side.{Side}
-use Rattle.beep_history.specs.Journal.{Item, began, passed, told}
-use Rattle.beep_history.specs.Marks.{Mark, is_answered, position_of}
-use Rattle.beep_mgmt.specs.Form.{Form, greeting, start, chosen, close, okay, fault}
-use Rattle.beep_mgmt.specs.Message.{message_said}
-use Rattle.beep_journal.specs.Lives.{Event, close_came, is_live, life_named, lives}
-use Rattle.beep_journal.specs.Zero.{asked, coming, completes_form, events, gathered, granting, said_to, zero_events, zero_history}
-use Rattle.beep_journal.proofs.MomentLemmas.{equal-number, same-number}
-use Rattle.beep_decide.specs.Decide.{Decision, PlainStanding, answer_of, choose, decide, decide_close, grant_close, is_among, note_of, refuse, tune}
-use Rattle.beep_standing.specs.Standing.{Marks}
-use Rattle.beep_spoken.specs.Spoken.{AreSpoken, Spoken}
-use Rattle.beep_asked.specs.Asked.{names_live}
-use Rattle.beep_management.specs.declared.wait.Wait.{Wait}
-use Rattle.beep_management.specs.Managed.{Prepared}
-use Rattle.beep_management.specs.Manages.{ArePrepared, IsPrepared}
-use Rattle.beep_answering.specs.declared.settled.Settled.{Settled}
-use Rattle.beep_answering.specs.Decided.{NoneTunes, SettledBy, kind_of as decision_kind}
+use Rattle.beep_peer.specs.beep_frame.specs.declared.head.Head.{Head}
+use Rattle.beep_peer.specs.beep_frame.specs.declared.kind.Kind.{Kind}
+use Rattle.beep_peer.specs.beep_frame.specs.Frame.{is_ans, is_msg, same_kind}
+use Rattle.beep_peer.specs.beep_history.specs.declared.journal.Side.{Side}
+use Rattle.beep_peer.specs.beep_history.specs.Journal.{Item, began, passed, told}
+use Rattle.beep_peer.specs.beep_history.specs.Marks.{Mark, is_answered, position_of}
+use Rattle.beep_peer.specs.beep_mgmt.specs.Form.{Form, greeting, start, chosen, close, okay, fault}
+use Rattle.beep_peer.specs.beep_mgmt.specs.Message.{message_said}
+use Rattle.beep_peer.specs.beep_journal.specs.Lives.{Event, close_came, is_live, life_named, lives}
+use Rattle.beep_peer.specs.beep_journal.specs.Zero.{asked, coming, completes_form, events, gathered, granting, said_to, zero_events, zero_history}
+use Rattle.beep_peer.specs.beep_journal.proofs.MomentLemmas.{equal-number, same-number}
+use Rattle.beep_peer.specs.beep_decide.specs.Decide.{Decision, PlainStanding, answer_of, choose, decide, decide_close, grant_close, is_among, note_of, refuse, tune}
+use Rattle.beep_peer.specs.beep_standing.specs.Standing.{Marks}
+use Rattle.beep_peer.specs.beep_spoken.specs.Spoken.{AreSpoken, Spoken}
+use Rattle.beep_peer.specs.beep_asked.specs.Asked.{names_live}
+use Rattle.beep_peer.specs.beep_management.specs.declared.wait.Wait.{Wait}
+use Rattle.beep_peer.specs.beep_management.specs.Managed.{Prepared}
+use Rattle.beep_peer.specs.beep_management.specs.Manages.{ArePrepared, IsPrepared}
+use Rattle.beep_peer.specs.beep_answering.specs.declared.settled.Settled.{Settled}
+use Rattle.beep_peer.specs.beep_answering.specs.Decided.{NoneTunes, SettledBy, kind_of as decision_kind}
 use Rattle.beep_peer.specs.declared.peer.Peer.{Peer}
 use Rattle.beep_peer.specs.Standing.{standing_of}
-use Rattle.beep_talk.specs.declared.plan.Command.{Command}
-use Rattle.beep_talk.specs.AtZero.{Answer, kind_of}
-use Rattle.beep_talk.specs.Plan.{PlainPlan}
+use Rattle.beep_script.specs.beep_talk.specs.declared.plan.Command.{Command}
+use Rattle.beep_script.specs.beep_talk.specs.AtZero.{Answer, kind_of}
+use Rattle.beep_script.specs.beep_talk.specs.Plan.{PlainPlan}
 use Rattle.beep_script.specs.Desk.{answered, closes_by, decided, desk, standing}
 use Rattle.beep_desk.specs.Alike.{StandsAlike}
 use Rattle.beep_desk.specs.Desks.{AllMayWait, IsCalledFor, IsDeskOf, IsDeskWithin, IsMet, MayWait, StandsIn, asks_none, queue_at}

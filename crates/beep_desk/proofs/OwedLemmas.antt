@@ -3,16 +3,16 @@ use Rattle.std.proofs.Common.{◌≡◌, ◌∙◌, refl, sym, ap, subst, ℕ, z
 use Rattle.std.specs.List.{prefix_len}
 use Rattle.std.specs.Option.{option_to_list}
 use Rattle.std.proofs.lemmas.Bool.Decides.{nat_tests}
-use Rattle.beep_frame.specs.Frame.{is_msg}
-use Rattle.beep_history.specs.declared.journal.Side.{Side}
-use Rattle.beep_history.specs.Journal.{Item, began, passed, told}
-use Rattle.beep_mgmt.specs.Form.{Form}
-use Rattle.beep_mgmt.specs.Message.{message_said}
-use Rattle.beep_journal.specs.Zero.{asked, gathered, said_at, zero_history}
-use Rattle.beep_journal.proofs.MomentLemmas.{same-number}
-use Rattle.beep_decide.specs.Decide.{PlainStanding, answer_of, decide}
-use Rattle.beep_talk.specs.AtZero.{Answer}
-use Rattle.beep_talk.specs.Plan.{PlainPlan}
+use Rattle.beep_peer.specs.beep_frame.specs.Frame.{is_msg}
+use Rattle.beep_peer.specs.beep_history.specs.declared.journal.Side.{Side}
+use Rattle.beep_peer.specs.beep_history.specs.Journal.{Item, began, passed, told}
+use Rattle.beep_peer.specs.beep_mgmt.specs.Form.{Form}
+use Rattle.beep_peer.specs.beep_mgmt.specs.Message.{message_said}
+use Rattle.beep_peer.specs.beep_journal.specs.Zero.{asked, gathered, said_at, zero_history}
+use Rattle.beep_peer.specs.beep_journal.proofs.MomentLemmas.{same-number}
+use Rattle.beep_peer.specs.beep_decide.specs.Decide.{PlainStanding, answer_of, decide}
+use Rattle.beep_script.specs.beep_talk.specs.AtZero.{Answer}
+use Rattle.beep_script.specs.beep_talk.specs.Plan.{PlainPlan}
 use Rattle.beep_script.specs.Desk.{answered, closes_by, decided, desk, is_clear, standing}
 
 -- it answers what its request says, by a decision

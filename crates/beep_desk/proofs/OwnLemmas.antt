@@ -6,28 +6,28 @@ use Rattle.std.proofs.lemmas.Bool.Decides.{nat_tests}
 use Rattle.std.proofs.lemmas.List.{map-append, length-reverse, reverse-append, take-map, drop-append-le}
 use Rattle.std.proofs.lemmas.List.Elements.{filter-append}
 use Rattle.std.proofs.Math.Seq.{drop-append_seam}
-use Rattle.beep_frame.specs.declared.kind.Kind.{Kind}
-use Rattle.beep_frame.specs.Frame.{is_msg}
-use Rattle.beep_history.specs.declared.journal.Side.{Side}
-use Rattle.beep_history.specs.Journal.{Item}
-use Rattle.beep_history.specs.Marks.{Mark, octet, end, marks, mark_modulo_2_64, is_answered}
-use Rattle.beep_history.specs.Broken.{KeepsExchangeRules}
-use Rattle.beep_mgmt.specs.Form.{Form, greeting, start, chosen, close, okay, fault}
-use Rattle.beep_mgmt.specs.Message.{message_said}
-use Rattle.beep_journal.specs.Lives.{Event}
-use Rattle.beep_journal.specs.Zero.{zero_history, zero_events, asked, said_at}
-use Rattle.beep_journal.specs.Laws.{contents, pieces_from, rest_from}
-use Rattle.beep_journal.proofs.PiecesLemmas.{are-cut}
-use Rattle.beep_spoken.specs.Spoken.{Spoken, text_of, AreSpoken, AllSaid, kinds_of}
-use Rattle.beep_asked.specs.Kept.{Kept}
-use Rattle.beep_asked.specs.Asked.{AreAsked, AreWaiting}
-use Rattle.beep_management.specs.Managed.{requests_among, numbers_started, number_started as number_of}
-use Rattle.beep_management.specs.Manages.{AreActs, unsent}
-use Rattle.beep_talk.specs.AtZero.{ZeroMessage}
+use Rattle.beep_peer.specs.beep_frame.specs.declared.kind.Kind.{Kind}
+use Rattle.beep_peer.specs.beep_frame.specs.Frame.{is_msg}
+use Rattle.beep_peer.specs.beep_history.specs.declared.journal.Side.{Side}
+use Rattle.beep_peer.specs.beep_history.specs.Journal.{Item}
+use Rattle.beep_peer.specs.beep_history.specs.Marks.{Mark, octet, end, marks, mark_modulo_2_64, is_answered}
+use Rattle.beep_peer.specs.beep_history.specs.Broken.{KeepsExchangeRules}
+use Rattle.beep_peer.specs.beep_mgmt.specs.Form.{Form, greeting, start, chosen, close, okay, fault}
+use Rattle.beep_peer.specs.beep_mgmt.specs.Message.{message_said}
+use Rattle.beep_peer.specs.beep_journal.specs.Lives.{Event}
+use Rattle.beep_peer.specs.beep_journal.specs.Zero.{zero_history, zero_events, asked, said_at}
+use Rattle.beep_peer.specs.beep_journal.specs.Laws.{contents, pieces_from, rest_from}
+use Rattle.beep_peer.specs.beep_journal.proofs.PiecesLemmas.{are-cut}
+use Rattle.beep_peer.specs.beep_spoken.specs.Spoken.{Spoken, text_of, AreSpoken, AllSaid, kinds_of}
+use Rattle.beep_peer.specs.beep_asked.specs.Kept.{Kept}
+use Rattle.beep_peer.specs.beep_asked.specs.Asked.{AreAsked, AreWaiting}
+use Rattle.beep_peer.specs.beep_management.specs.Managed.{requests_among, numbers_started, number_started as number_of}
+use Rattle.beep_peer.specs.beep_management.specs.Manages.{AreActs, unsent}
+use Rattle.beep_script.specs.beep_talk.specs.AtZero.{ZeroMessage}
 use Rattle.beep_script.specs.Desk.{waits, has_listed, own_starting, number_started}
 use Rattle.beep_script.specs.Requested.{requests_from}
 use Rattle.beep_script.proofs.RequestedLemmas.{asked-so, own_forms, nth, requests-modulo}
-use Rattle.beep_upright.proofs.NextLemmas.{kinds-append}
+use Rattle.beep_peer.specs.beep_upright.proofs.NextLemmas.{kinds-append}
 use Rattle.beep_desk.specs.Listed.{ArePlacedFrom, asked_positions, spoken_of}
 
 -- ---- lists

@@ -2,27 +2,27 @@
 use Rattle.std.proofs.Common.{◌≡◌, ◌∙◌, refl, sym, ap, ℕ, suc, ◌+◌, ◌==◌, Bool, true, false, not, ◌&&◌, ◌||◌, if◌then◌else◌, List, [], ◌∷◌, ◌++◌, length, map, take, filter, Option, None, Some, arith, append-nil}
 use Rattle.std.specs.Prelude.{nat_lt}
 use Rattle.std.specs.List.{list_any, list_all, prefix_len}
-use Rattle.beep_frame.specs.declared.head.Head.{Head}
-use Rattle.beep_frame.specs.declared.seq.Seq.{Seq}
-use Rattle.beep_frame.specs.Frame.{is_msg, is_ans, is_nul}
-use Rattle.beep_history.specs.declared.journal.Side.{Side}
-use Rattle.beep_history.specs.Journal.{Item, began, passed, told, same_side}
-use Rattle.beep_history.specs.Marks.{Request, answers, begins_request, carries, ends_reply, is_answered, position_of, reply, requests, tag_of, waiting}
-use Rattle.beep_history.specs.Messages.{Message, gathered as gathered_in, messages}
-use Rattle.beep_mgmt.specs.Form.{Form, close, start}
-use Rattle.beep_mgmt.specs.Message.{message_said}
-use Rattle.beep_journal.specs.Lives.{Event, has_ended, life_named, live_life, lives}
-use Rattle.beep_journal.specs.Zero.{asked, events, gathered, zero_history}
-use Rattle.beep_journal.specs.Life.{is_of_life, life, life_now, life_under_way}
-use Rattle.beep_journal.proofs.JournalLemmas.{began-events, told-events}
-use Rattle.beep_journal.proofs.MomentLemmas.{equal-number}
-use Rattle.beep_lawful.specs.Closing.{is_drained}
-use Rattle.beep_decide.specs.Asks.{is_close_of}
-use Rattle.beep_decide.specs.Decide.{decide}
-use Rattle.beep_talk.specs.declared.plan.Command.{Command}
-use Rattle.beep_talk.specs.AtZero.{Answer, Desk, ZeroMessage, answer_message, profile_of}
-use Rattle.beep_talk.specs.Plan.{PlainPlan}
-use Rattle.beep_talk.specs.Talk.{asked_first, begins_with, called_for, chooses, has_profile, replied, reply_of, says_profile, talk}
+use Rattle.beep_peer.specs.beep_frame.specs.declared.head.Head.{Head}
+use Rattle.beep_peer.specs.beep_frame.specs.declared.seq.Seq.{Seq}
+use Rattle.beep_peer.specs.beep_frame.specs.Frame.{is_msg, is_ans, is_nul}
+use Rattle.beep_peer.specs.beep_history.specs.declared.journal.Side.{Side}
+use Rattle.beep_peer.specs.beep_history.specs.Journal.{Item, began, passed, told, same_side}
+use Rattle.beep_peer.specs.beep_history.specs.Marks.{Request, answers, begins_request, carries, ends_reply, is_answered, position_of, reply, requests, tag_of, waiting}
+use Rattle.beep_peer.specs.beep_history.specs.Messages.{Message, gathered as gathered_in, messages}
+use Rattle.beep_peer.specs.beep_mgmt.specs.Form.{Form, close, start}
+use Rattle.beep_peer.specs.beep_mgmt.specs.Message.{message_said}
+use Rattle.beep_peer.specs.beep_journal.specs.Lives.{Event, has_ended, life_named, live_life, lives}
+use Rattle.beep_peer.specs.beep_journal.specs.Zero.{asked, events, gathered, zero_history}
+use Rattle.beep_peer.specs.beep_journal.specs.Life.{is_of_life, life, life_now, life_under_way}
+use Rattle.beep_peer.specs.beep_journal.proofs.JournalLemmas.{began-events, told-events}
+use Rattle.beep_peer.specs.beep_journal.proofs.MomentLemmas.{equal-number}
+use Rattle.beep_peer.specs.beep_lawful.specs.Closing.{is_drained}
+use Rattle.beep_peer.specs.beep_decide.specs.Asks.{is_close_of}
+use Rattle.beep_peer.specs.beep_decide.specs.Decide.{decide}
+use Rattle.beep_script.specs.beep_talk.specs.declared.plan.Command.{Command}
+use Rattle.beep_script.specs.beep_talk.specs.AtZero.{Answer, Desk, ZeroMessage, answer_message, profile_of}
+use Rattle.beep_script.specs.beep_talk.specs.Plan.{PlainPlan}
+use Rattle.beep_script.specs.beep_talk.specs.Talk.{asked_first, begins_with, called_for, chooses, has_profile, replied, reply_of, says_profile, talk}
 use Rattle.beep_script.specs.Desk.{answered, are_free, asks, asks_where, decided, desk, ends_lines, grants_own, has_listed, is_clear, is_clear_of, is_free, is_said, listing, live_among, live_numbers, sender_asks, standing, waits}
 use Rattle.beep_desk.specs.Desks.{is_part}
 use Rattle.beep_desk.proofs.OwnLemmas.{any-append}

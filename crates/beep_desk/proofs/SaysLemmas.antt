@@ -2,33 +2,33 @@
 use Rattle.std.proofs.Common.{◌≡◌, ◌∙◌, refl, sym, ap, subst, ℕ, zero, suc, ◌==◌, Bool, true, false, not, ◌&&◌, ◌||◌, if◌then◌else◌, List, [], ◌∷◌, ◌++◌, length, map, take, drop, Option, None, Some, arith}
 use Rattle.std.specs.Prelude.{nat_le}
 use Rattle.std.specs.List.{list_any, prefix_len}
-use Rattle.beep_frame.specs.declared.head.Head.{Head}
-use Rattle.beep_frame.specs.declared.kind.Kind.{Kind}
-use Rattle.beep_frame.specs.Frame.{is_msg, same_kind}
-use Rattle.beep_history.specs.declared.journal.Side.{Side}
-use Rattle.beep_history.specs.Journal.{Item, began, passed, told, same_side}
-use Rattle.beep_history.specs.Marks.{is_answered}
-use Rattle.beep_mgmt.specs.Form.{Form, PlainProfile, greeting, start, chosen, close, okay, fault}
-use Rattle.beep_mgmt.specs.Message.{message_said}
-use Rattle.beep_text.specs.Said.{element_said}
-use Rattle.beep_journal.specs.Broken.{none_tunes}
-use Rattle.beep_journal.specs.Laws.{completed, contents}
-use Rattle.beep_journal.specs.Zero.{asked, channel_of, gathered, said_at, zero_history}
-use Rattle.beep_asked.specs.Kept.{Kept, fits, place_of}
-use Rattle.beep_decide.specs.Asks.{has_own_start, has_waiting, is_start, is_start_of}
-use Rattle.beep_decide.specs.Decide.{Decision, PlainOffer, PlainStanding, choose, decide, decide_profile, decide_start, first_offered, grant_close, is_among, is_used, refuse, tune, used_count}
-use Rattle.beep_decide.specs.Numbers.{may_start, other_role}
-use Rattle.beep_turns.specs.declared.turns.TheConstants.{MAX_CHANNELS}
-use Rattle.beep_lawful.specs.declared.breach.Breach.{Breach}
-use Rattle.beep_lawful.specs.declared.terms.Terms.{Terms}
-use Rattle.beep_lawful.specs.Lawful.{IsLawful, breaks_after_end, breaks_apart, breaks_close_starting, request_said, unlawful_frame}
-use Rattle.beep_lawful.proofs.LawfulLemmas.{item-lawful, lawful-before}
-use Rattle.beep_management.specs.Managed.{number_started, numbers_granted}
-use Rattle.beep_management.specs.Manages.{AllFit}
-use Rattle.beep_spoken.specs.Spoken.{AllSaid, Spoken, text_of}
-use Rattle.beep_talk.specs.declared.plan.Command.{Command}
-use Rattle.beep_talk.specs.AtZero.{Answer, ZeroMessage, answer_message, profile_of}
-use Rattle.beep_talk.specs.Plan.{PlainPlan}
+use Rattle.beep_peer.specs.beep_frame.specs.declared.head.Head.{Head}
+use Rattle.beep_peer.specs.beep_frame.specs.declared.kind.Kind.{Kind}
+use Rattle.beep_peer.specs.beep_frame.specs.Frame.{is_msg, same_kind}
+use Rattle.beep_peer.specs.beep_history.specs.declared.journal.Side.{Side}
+use Rattle.beep_peer.specs.beep_history.specs.Journal.{Item, began, passed, told, same_side}
+use Rattle.beep_peer.specs.beep_history.specs.Marks.{is_answered}
+use Rattle.beep_peer.specs.beep_mgmt.specs.Form.{Form, PlainProfile, greeting, start, chosen, close, okay, fault}
+use Rattle.beep_peer.specs.beep_mgmt.specs.Message.{message_said}
+use Rattle.beep_peer.specs.beep_text.specs.Said.{element_said}
+use Rattle.beep_peer.specs.beep_journal.specs.Broken.{none_tunes}
+use Rattle.beep_peer.specs.beep_journal.specs.Laws.{completed, contents}
+use Rattle.beep_peer.specs.beep_journal.specs.Zero.{asked, channel_of, gathered, said_at, zero_history}
+use Rattle.beep_peer.specs.beep_asked.specs.Kept.{Kept, fits, place_of}
+use Rattle.beep_peer.specs.beep_decide.specs.Asks.{has_own_start, has_waiting, is_start, is_start_of}
+use Rattle.beep_peer.specs.beep_decide.specs.Decide.{Decision, PlainOffer, PlainStanding, choose, decide, decide_profile, decide_start, first_offered, grant_close, is_among, is_used, refuse, tune, used_count}
+use Rattle.beep_peer.specs.beep_decide.specs.Numbers.{may_start, other_role}
+use Rattle.beep_peer.specs.beep_turns.specs.declared.turns.TheConstants.{MAX_CHANNELS}
+use Rattle.beep_peer.specs.beep_lawful.specs.declared.breach.Breach.{Breach}
+use Rattle.beep_peer.specs.beep_lawful.specs.declared.terms.Terms.{Terms}
+use Rattle.beep_peer.specs.beep_lawful.specs.Lawful.{IsLawful, breaks_after_end, breaks_apart, breaks_close_starting, request_said, unlawful_frame}
+use Rattle.beep_peer.specs.beep_lawful.proofs.LawfulLemmas.{item-lawful, lawful-before}
+use Rattle.beep_peer.specs.beep_management.specs.Managed.{number_started, numbers_granted}
+use Rattle.beep_peer.specs.beep_management.specs.Manages.{AllFit}
+use Rattle.beep_peer.specs.beep_spoken.specs.Spoken.{AllSaid, Spoken, text_of}
+use Rattle.beep_script.specs.beep_talk.specs.declared.plan.Command.{Command}
+use Rattle.beep_script.specs.beep_talk.specs.AtZero.{Answer, ZeroMessage, answer_message, profile_of}
+use Rattle.beep_script.specs.beep_talk.specs.Plan.{PlainPlan}
 use Rattle.beep_script.specs.Desk.{answered, asks, asks_where, decided, desk, ends_lines, grants_own, is_clear, standing}
 use Rattle.beep_desk.specs.Listed.{spoken_as, spoken_of}
 use Rattle.beep_desk.proofs.LifeLemmas.{AllSaySo, OwnSaid, SaysSo, own-where, own_at, rpy-grant, says_chosen, unchosen-grant}

@@ -6,27 +6,27 @@ use Rattle.std.proofs.lemmas.Grind.{flat_map-append}
 use Rattle.std.proofs.lemmas.List.{map-append, length-reverse}
 use Rattle.std.proofs.lemmas.List.Elements.{filter-append}
 use Rattle.std.proofs.Math.Seq.{drop-append_seam}
-use Rattle.beep_frame.specs.Frame.{is_msg}
-use Rattle.beep_history.specs.declared.journal.Side.{Side}
-use Rattle.beep_history.specs.Journal.{Item}
-use Rattle.beep_history.specs.Broken.{KeepsExchangeRules}
-use Rattle.beep_mgmt.specs.Form.{Form}
-use Rattle.beep_journal.specs.Lives.{Event, lives, is_live, live_life, life_named}
-use Rattle.beep_journal.specs.Zero.{zero_history, asked, events}
-use Rattle.beep_journal.specs.Laws.{contents}
-use Rattle.beep_journal.proofs.MomentLemmas.{equal-number, named-within}
-use Rattle.beep_standing.specs.Standing.{Marks, AreLiveBy}
-use Rattle.beep_decide.specs.Decide.{is_among}
-use Rattle.beep_spoken.specs.Spoken.{Spoken}
-use Rattle.beep_asked.specs.Kept.{Kept, closes, is_leaving}
-use Rattle.beep_asked.proofs.MovesLemmas.{none-of-zero as no-lives}
-use Rattle.beep_standing.proofs.ZeroLemmas.{none-of-zero, now-of-zero}
-use Rattle.beep_management.specs.Managed.{numbers_of, numbers_granted, requests_among, replies_among}
-use Rattle.beep_management.specs.Manages.{AllFit, IsManaged, unsent}
+use Rattle.beep_peer.specs.beep_frame.specs.Frame.{is_msg}
+use Rattle.beep_peer.specs.beep_history.specs.declared.journal.Side.{Side}
+use Rattle.beep_peer.specs.beep_history.specs.Journal.{Item}
+use Rattle.beep_peer.specs.beep_history.specs.Broken.{KeepsExchangeRules}
+use Rattle.beep_peer.specs.beep_mgmt.specs.Form.{Form}
+use Rattle.beep_peer.specs.beep_journal.specs.Lives.{Event, lives, is_live, live_life, life_named}
+use Rattle.beep_peer.specs.beep_journal.specs.Zero.{zero_history, asked, events}
+use Rattle.beep_peer.specs.beep_journal.specs.Laws.{contents}
+use Rattle.beep_peer.specs.beep_journal.proofs.MomentLemmas.{equal-number, named-within}
+use Rattle.beep_peer.specs.beep_standing.specs.Standing.{Marks, AreLiveBy}
+use Rattle.beep_peer.specs.beep_decide.specs.Decide.{is_among}
+use Rattle.beep_peer.specs.beep_spoken.specs.Spoken.{Spoken}
+use Rattle.beep_peer.specs.beep_asked.specs.Kept.{Kept, closes, is_leaving}
+use Rattle.beep_peer.specs.beep_asked.proofs.MovesLemmas.{none-of-zero as no-lives}
+use Rattle.beep_peer.specs.beep_standing.proofs.ZeroLemmas.{none-of-zero, now-of-zero}
+use Rattle.beep_peer.specs.beep_management.specs.Managed.{numbers_of, numbers_granted, requests_among, replies_among}
+use Rattle.beep_peer.specs.beep_management.specs.Manages.{AllFit, IsManaged, unsent}
 use Rattle.beep_peer.specs.declared.peer.Peer.{Peer}
 use Rattle.beep_peer.specs.Standing.{standing_of, live_above, closing_in}
-use Rattle.beep_talk.specs.AtZero.{ZeroMessage, Answer, answer_message}
-use Rattle.beep_talk.specs.Plan.{PlainPlan}
+use Rattle.beep_script.specs.beep_talk.specs.AtZero.{ZeroMessage, Answer, answer_message}
+use Rattle.beep_script.specs.beep_talk.specs.Plan.{PlainPlan}
 use Rattle.beep_script.specs.Desk.{desk, standing, live_numbers, own_starting, peer_starting, is_closing}
 use Rattle.beep_script.specs.Laws.{replied_positions, answered_positions}
 use Rattle.beep_desk.specs.Alike.{StandsAlike}

@@ -4,28 +4,28 @@ use Rattle.std.specs.Prelude.{is_some, IfSome}
 use Rattle.std.specs.List.{list_any, prefix_len}
 use Rattle.std.proofs.lemmas.List.{map-append}
 use Rattle.std.proofs.lemmas.List.Elements.{filter-append}
-use Rattle.beep_frame.specs.Frame.{is_msg}
-use Rattle.beep_history.specs.declared.journal.Side.{Side}
-use Rattle.beep_history.specs.Journal.{Item}
-use Rattle.beep_history.specs.Marks.{Mark, is_answered}
-use Rattle.beep_journal.specs.Lives.{is_live}
-use Rattle.beep_journal.specs.Zero.{events, zero_history}
-use Rattle.beep_lives.specs.Lives.{live_at}
-use Rattle.beep_outbox.specs.Queue.{Message, marks_of, message_marks}
-use Rattle.beep_lawful.specs.declared.terms.Terms.{Terms}
-use Rattle.beep_standing.specs.Standing.{Marks}
-use Rattle.beep_spoken.specs.Spoken.{AreSpoken, Spoken}
-use Rattle.beep_spoken.proofs.SpokenLemmas.{spoken-more}
-use Rattle.beep_management.specs.Managed.{Prepared, first_of, requests_among}
-use Rattle.beep_management.specs.Manages.{ArePrepared, IsManaged}
-use Rattle.beep_answering.specs.Decided.{NoneTunes}
-use Rattle.beep_upright.specs.Upright.{IsUpright}
+use Rattle.beep_peer.specs.beep_frame.specs.Frame.{is_msg}
+use Rattle.beep_peer.specs.beep_history.specs.declared.journal.Side.{Side}
+use Rattle.beep_peer.specs.beep_history.specs.Journal.{Item}
+use Rattle.beep_peer.specs.beep_history.specs.Marks.{Mark, is_answered}
+use Rattle.beep_peer.specs.beep_journal.specs.Lives.{is_live}
+use Rattle.beep_peer.specs.beep_journal.specs.Zero.{events, zero_history}
+use Rattle.beep_peer.specs.beep_lives.specs.Lives.{live_at}
+use Rattle.beep_peer.specs.beep_outbox.specs.Queue.{Message, marks_of, message_marks}
+use Rattle.beep_peer.specs.beep_lawful.specs.declared.terms.Terms.{Terms}
+use Rattle.beep_peer.specs.beep_standing.specs.Standing.{Marks}
+use Rattle.beep_peer.specs.beep_spoken.specs.Spoken.{AreSpoken, Spoken}
+use Rattle.beep_peer.specs.beep_spoken.proofs.SpokenLemmas.{spoken-more}
+use Rattle.beep_peer.specs.beep_management.specs.Managed.{Prepared, first_of, requests_among}
+use Rattle.beep_peer.specs.beep_management.specs.Manages.{ArePrepared, IsManaged}
+use Rattle.beep_peer.specs.beep_answering.specs.Decided.{NoneTunes}
+use Rattle.beep_peer.specs.beep_upright.specs.Upright.{IsUpright}
 use Rattle.beep_peer.specs.declared.peer.Peer.{Peer}
 use Rattle.beep_peer.specs.Calls.{GivesFirst}
 use Rattle.beep_peer.specs.Waiting.{AllHaveCome, HasCome, IsStuck}
-use Rattle.beep_talk.specs.declared.plan.Command.{Command}
-use Rattle.beep_talk.specs.AtZero.{Answer, ZeroMessage, answer_message}
-use Rattle.beep_talk.specs.Plan.{PlainPlan}
+use Rattle.beep_script.specs.beep_talk.specs.declared.plan.Command.{Command}
+use Rattle.beep_script.specs.beep_talk.specs.AtZero.{Answer, ZeroMessage, answer_message}
+use Rattle.beep_script.specs.beep_talk.specs.Plan.{PlainPlan}
 use Rattle.beep_script.specs.Desk.{asks, decided, desk, is_clear, listing}
 use Rattle.beep_desk.specs.Desks.{AllMayWait, AreClear, AreDoneFor, AreGivenFor, IsDeskOf, IsDeskWithin, IsDoneFor, IsMet, MayWait, StandsIn, is_part, queue_at}
 use Rattle.beep_desk.specs.Listed.{ArePlacedFrom, AreInTurn, AskInTurn, asked_positions, spoken_as, spoken_of}

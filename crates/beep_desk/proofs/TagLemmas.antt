@@ -4,32 +4,32 @@ use Rattle.std.specs.Prelude.{is_some}
 use Rattle.std.specs.List.{prefix_len}
 use Rattle.std.proofs.lemmas.List.{map-append}
 use Rattle.std.proofs.lemmas.Grind.{flat_map-append}
-use Rattle.beep_frame.specs.declared.kind.Kind.{Kind}
-use Rattle.beep_frame.specs.declared.tag.Tag.{Tag}
-use Rattle.beep_frame.specs.Frame.{is_ans, is_msg}
-use Rattle.beep_frame.specs.Modulo.{modulo_2_64 as count_modulo_2_64}
-use Rattle.beep_history.specs.declared.journal.Side.{Side}
-use Rattle.beep_history.specs.Journal.{Item}
-use Rattle.beep_history.specs.Marks.{Mark, end, mark_modulo_2_64, marks, modulo_2_64, octet}
-use Rattle.beep_mgmt.specs.Form.{Form, greeting, start, chosen, close, okay, fault}
-use Rattle.beep_mgmt.specs.Message.{message_text}
-use Rattle.beep_journal.specs.Laws.{pieces_from}
-use Rattle.beep_journal.specs.Zero.{zero_history}
-use Rattle.beep_exchange.specs.Given.{ends_reply, message_number}
-use Rattle.beep_outbox.specs.Queue.{Message, marks_of, message_marks, marks_of as unsent_marks}
-use Rattle.beep_channel.specs.Held.{Live}
-use Rattle.beep_channel.specs.Stands.{AreNumbered, IsInOrder, Stands, answers_with}
-use Rattle.beep_channel.specs.Fits.{as_number}
-use Rattle.beep_lives.specs.Lives.{live_at}
-use Rattle.beep_lives.proofs.ListLemmas.{live-number}
-use Rattle.beep_standing.specs.Standing.{Marks}
-use Rattle.beep_management.specs.Managed.{Prepared}
-use Rattle.beep_spoken.specs.Spoken.{Spoken, kinds_of, text_of}
-use Rattle.beep_answering.specs.Decided.{NoneTunes}
+use Rattle.beep_peer.specs.beep_frame.specs.declared.kind.Kind.{Kind}
+use Rattle.beep_peer.specs.beep_frame.specs.declared.tag.Tag.{Tag}
+use Rattle.beep_peer.specs.beep_frame.specs.Frame.{is_ans, is_msg}
+use Rattle.beep_peer.specs.beep_frame.specs.Modulo.{modulo_2_64 as count_modulo_2_64}
+use Rattle.beep_peer.specs.beep_history.specs.declared.journal.Side.{Side}
+use Rattle.beep_peer.specs.beep_history.specs.Journal.{Item}
+use Rattle.beep_peer.specs.beep_history.specs.Marks.{Mark, end, mark_modulo_2_64, marks, modulo_2_64, octet}
+use Rattle.beep_peer.specs.beep_mgmt.specs.Form.{Form, greeting, start, chosen, close, okay, fault}
+use Rattle.beep_peer.specs.beep_mgmt.specs.Message.{message_text}
+use Rattle.beep_peer.specs.beep_journal.specs.Laws.{pieces_from}
+use Rattle.beep_peer.specs.beep_journal.specs.Zero.{zero_history}
+use Rattle.beep_peer.specs.beep_exchange.specs.Given.{ends_reply, message_number}
+use Rattle.beep_peer.specs.beep_outbox.specs.Queue.{Message, marks_of, message_marks, marks_of as unsent_marks}
+use Rattle.beep_peer.specs.beep_channel.specs.Held.{Live}
+use Rattle.beep_peer.specs.beep_channel.specs.Stands.{AreNumbered, IsInOrder, Stands, answers_with}
+use Rattle.beep_peer.specs.beep_channel.specs.Fits.{as_number}
+use Rattle.beep_peer.specs.beep_lives.specs.Lives.{live_at}
+use Rattle.beep_peer.specs.beep_lives.proofs.ListLemmas.{live-number}
+use Rattle.beep_peer.specs.beep_standing.specs.Standing.{Marks}
+use Rattle.beep_peer.specs.beep_management.specs.Managed.{Prepared}
+use Rattle.beep_peer.specs.beep_spoken.specs.Spoken.{Spoken, kinds_of, text_of}
+use Rattle.beep_peer.specs.beep_answering.specs.Decided.{NoneTunes}
 use Rattle.beep_peer.specs.declared.peer.Peer.{Peer}
-use Rattle.beep_talk.specs.declared.plan.Command.{Command}
-use Rattle.beep_talk.specs.AtZero.{Answer, ZeroMessage, answer_message, kind_of, profile_of}
-use Rattle.beep_talk.specs.Plan.{PlainPlan}
+use Rattle.beep_script.specs.beep_talk.specs.declared.plan.Command.{Command}
+use Rattle.beep_script.specs.beep_talk.specs.AtZero.{Answer, ZeroMessage, answer_message, kind_of, profile_of}
+use Rattle.beep_script.specs.beep_talk.specs.Plan.{PlainPlan}
 use Rattle.beep_script.specs.Desk.{asks, asks_where, decided, desk, ends_lines, grants_own, is_clear}
 use Rattle.beep_script.specs.Laws.{replied_positions}
 use Rattle.beep_script.specs.Script.{BeginsWith, message_marks as script_message, script_marks, whole_message}

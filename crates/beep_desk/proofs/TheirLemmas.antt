@@ -3,21 +3,21 @@
 use Rattle.std.proofs.Common.{◌≡◌, ◌∙◌, refl, sym, ap, ℕ, zero, suc, ◌+◌, ◌-◌, ◌==◌, ◌≤◌, Bool, true, false, not, ◌&&◌, ◌||◌, if◌then◌else◌, List, [], ◌∷◌, ◌++◌, length, map, drop, filter, reverse, Option, None, Some, arith}
 use Rattle.std.specs.Prelude.{nat_lt}
 use Rattle.std.proofs.lemmas.Bool.Decides.{nat_tests}
-use Rattle.beep_frame.specs.declared.kind.Kind.{Kind}
-use Rattle.beep_frame.specs.Frame.{is_msg, same_kind}
-use Rattle.beep_history.specs.declared.journal.Side.{Side}
-use Rattle.beep_history.specs.Journal.{Item}
-use Rattle.beep_history.specs.Marks.{is_answered}
-use Rattle.beep_mgmt.specs.Form.{Form, greeting, start, chosen, close, okay, fault}
-use Rattle.beep_journal.specs.Lives.{Event, lives, is_live, live_life, life_named}
-use Rattle.beep_journal.specs.Zero.{said_at}
-use Rattle.beep_journal.proofs.MomentLemmas.{equal-number}
-use Rattle.beep_decide.specs.Asks.{is_close_of}
-use Rattle.beep_spoken.specs.Spoken.{Spoken}
-use Rattle.beep_asked.specs.Kept.{Kept, closes, closes_one, is_leaving}
-use Rattle.beep_asked.specs.Asked.{AreAsked, names_life}
-use Rattle.beep_management.specs.Managed.{replies_among, numbers_granted, number_started as number_of}
-use Rattle.beep_talk.specs.AtZero.{ZeroMessage, kind_of}
+use Rattle.beep_peer.specs.beep_frame.specs.declared.kind.Kind.{Kind}
+use Rattle.beep_peer.specs.beep_frame.specs.Frame.{is_msg, same_kind}
+use Rattle.beep_peer.specs.beep_history.specs.declared.journal.Side.{Side}
+use Rattle.beep_peer.specs.beep_history.specs.Journal.{Item}
+use Rattle.beep_peer.specs.beep_history.specs.Marks.{is_answered}
+use Rattle.beep_peer.specs.beep_mgmt.specs.Form.{Form, greeting, start, chosen, close, okay, fault}
+use Rattle.beep_peer.specs.beep_journal.specs.Lives.{Event, lives, is_live, live_life, life_named}
+use Rattle.beep_peer.specs.beep_journal.specs.Zero.{said_at}
+use Rattle.beep_peer.specs.beep_journal.proofs.MomentLemmas.{equal-number}
+use Rattle.beep_peer.specs.beep_decide.specs.Asks.{is_close_of}
+use Rattle.beep_peer.specs.beep_spoken.specs.Spoken.{Spoken}
+use Rattle.beep_peer.specs.beep_asked.specs.Kept.{Kept, closes, closes_one, is_leaving}
+use Rattle.beep_peer.specs.beep_asked.specs.Asked.{AreAsked, names_life}
+use Rattle.beep_peer.specs.beep_management.specs.Managed.{replies_among, numbers_granted, number_started as number_of}
+use Rattle.beep_script.specs.beep_talk.specs.AtZero.{ZeroMessage, kind_of}
 use Rattle.beep_script.specs.Desk.{peer_starting, number_started, has_peer_close}
 use Rattle.beep_script.specs.Laws.{replied_positions}
 use Rattle.beep_script.proofs.RequestedLemmas.{nth}

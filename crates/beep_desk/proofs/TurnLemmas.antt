@@ -5,20 +5,20 @@ use Rattle.std.specs.Prelude.{is_some, nat_le, bytes_eq}
 use Rattle.std.specs.List.{list_any, prefix_len}
 use Rattle.std.specs.Option.{option_to_list}
 use Rattle.std.proofs.lemmas.List.{map-append}
-use Rattle.beep_frame.specs.Frame.{is_msg}
-use Rattle.beep_history.specs.declared.journal.Side.{Side}
-use Rattle.beep_history.specs.Journal.{Item, began, passed, told}
-use Rattle.beep_mgmt.specs.Form.{Form, PlainProfile, greeting, start, chosen, close, okay, fault}
-use Rattle.beep_mgmt.specs.Message.{message_said}
-use Rattle.beep_journal.specs.Zero.{zero_history, gathered, asked}
-use Rattle.beep_decide.specs.declared.decision.Placed.{Placed}
-use Rattle.beep_decide.specs.Decide.{PlainOffer, PlainStanding, Decision, refuse, choose, grant_close, answer_of, decide, decide_offer, decide_profile, first_offered, has_other_encoding, is_among, is_used, later, offer_of, used_count}
-use Rattle.beep_decide.specs.Numbers.{may_start, other_role}
-use Rattle.beep_turns.specs.declared.turns.TheConstants.{MAX_CHANNELS}
-use Rattle.beep_answering.specs.Decided.{NoneTunes}
-use Rattle.beep_talk.specs.AtZero.{ZeroMessage, Answer, answer_message, profile_of}
-use Rattle.beep_talk.specs.Plan.{PlainPlan}
-use Rattle.beep_talk.specs.declared.plan.Command.{Command}
+use Rattle.beep_peer.specs.beep_frame.specs.Frame.{is_msg}
+use Rattle.beep_peer.specs.beep_history.specs.declared.journal.Side.{Side}
+use Rattle.beep_peer.specs.beep_history.specs.Journal.{Item, began, passed, told}
+use Rattle.beep_peer.specs.beep_mgmt.specs.Form.{Form, PlainProfile, greeting, start, chosen, close, okay, fault}
+use Rattle.beep_peer.specs.beep_mgmt.specs.Message.{message_said}
+use Rattle.beep_peer.specs.beep_journal.specs.Zero.{zero_history, gathered, asked}
+use Rattle.beep_peer.specs.beep_decide.specs.declared.decision.Placed.{Placed}
+use Rattle.beep_peer.specs.beep_decide.specs.Decide.{PlainOffer, PlainStanding, Decision, refuse, choose, grant_close, answer_of, decide, decide_offer, decide_profile, first_offered, has_other_encoding, is_among, is_used, later, offer_of, used_count}
+use Rattle.beep_peer.specs.beep_decide.specs.Numbers.{may_start, other_role}
+use Rattle.beep_peer.specs.beep_turns.specs.declared.turns.TheConstants.{MAX_CHANNELS}
+use Rattle.beep_peer.specs.beep_answering.specs.Decided.{NoneTunes}
+use Rattle.beep_script.specs.beep_talk.specs.AtZero.{ZeroMessage, Answer, answer_message, profile_of}
+use Rattle.beep_script.specs.beep_talk.specs.Plan.{PlainPlan}
+use Rattle.beep_script.specs.beep_talk.specs.declared.plan.Command.{Command}
 use Rattle.beep_script.specs.Desk.{answered, asks, asks_where, closes_by, decided, desk, ends_lines, grants_own, is_clear, listing, standing}
 use Rattle.beep_script.specs.Laws.{answered_positions, replied_positions}
 use Rattle.beep_desk.specs.Listed.{ArePlacedFrom}

@@ -3,22 +3,22 @@ use Rattle.std.proofs.Common.{◌≡◌, ◌∙◌, refl, sym, ap, subst, ℕ, s
 use Rattle.std.specs.Prelude.{nat_lt}
 use Rattle.std.proofs.lemmas.Bool.Decides.{nat_tests}
 use Rattle.std.proofs.lemmas.List.{length-reverse, reverse-append}
-use Rattle.beep_frame.specs.declared.kind.Kind.{Kind}
-use Rattle.beep_frame.specs.Frame.{same_kind}
-use Rattle.beep_history.specs.declared.journal.Side.{Side}
-use Rattle.beep_history.specs.Journal.{Item}
-use Rattle.beep_mgmt.specs.Form.{Form, greeting, start, chosen, close, okay, fault}
-use Rattle.beep_journal.specs.Lives.{Event}
-use Rattle.beep_journal.specs.Zero.{said_at}
-use Rattle.beep_journal.proofs.MomentLemmas.{same-number}
-use Rattle.beep_decide.specs.Decide.{PlainStanding, Decision, refuse, choose, tune, grant_close, answer_of, decide, decide_close, note_of}
-use Rattle.beep_asked.specs.Asked.{AreAsked, names_life, names_live}
-use Rattle.beep_asked.specs.Kept.{Kept}
-use Rattle.beep_management.specs.declared.wait.Wait.{Wait}
-use Rattle.beep_management.specs.Managed.{Prepared}
-use Rattle.beep_management.specs.Manages.{ArePrepared}
-use Rattle.beep_upright.specs.Upright.{AreAnswered, IsHeldBack, wait_of}
-use Rattle.beep_talk.specs.AtZero.{Answer, kind_of}
+use Rattle.beep_peer.specs.beep_frame.specs.declared.kind.Kind.{Kind}
+use Rattle.beep_peer.specs.beep_frame.specs.Frame.{same_kind}
+use Rattle.beep_peer.specs.beep_history.specs.declared.journal.Side.{Side}
+use Rattle.beep_peer.specs.beep_history.specs.Journal.{Item}
+use Rattle.beep_peer.specs.beep_mgmt.specs.Form.{Form, greeting, start, chosen, close, okay, fault}
+use Rattle.beep_peer.specs.beep_journal.specs.Lives.{Event}
+use Rattle.beep_peer.specs.beep_journal.specs.Zero.{said_at}
+use Rattle.beep_peer.specs.beep_journal.proofs.MomentLemmas.{same-number}
+use Rattle.beep_peer.specs.beep_decide.specs.Decide.{PlainStanding, Decision, refuse, choose, tune, grant_close, answer_of, decide, decide_close, note_of}
+use Rattle.beep_peer.specs.beep_asked.specs.Asked.{AreAsked, names_life, names_live}
+use Rattle.beep_peer.specs.beep_asked.specs.Kept.{Kept}
+use Rattle.beep_peer.specs.beep_management.specs.declared.wait.Wait.{Wait}
+use Rattle.beep_peer.specs.beep_management.specs.Managed.{Prepared}
+use Rattle.beep_peer.specs.beep_management.specs.Manages.{ArePrepared}
+use Rattle.beep_peer.specs.beep_upright.specs.Upright.{AreAnswered, IsHeldBack, wait_of}
+use Rattle.beep_script.specs.beep_talk.specs.AtZero.{Answer, kind_of}
 use Rattle.beep_script.specs.Desk.{closes_by, number_closed}
 use Rattle.beep_desk.specs.Listed.{ArePlacedFrom, spoken_as}
 use Rattle.beep_desk.specs.Waiting.{AllWait, OnlyGrantsWait, WaitsFor}

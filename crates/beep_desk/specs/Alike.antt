@@ -1,7 +1,7 @@
 -- Two values of what stands that differ alone in how their numbers are listed (RFC 3080, section
 -- 2.3.1).
 use Rattle.std.specs.Prelude.{◌≡◌, ℕ}
-use Rattle.beep_decide.specs.Decide.{PlainStanding, is_among, used_count}
+use Rattle.beep_peer.specs.beep_decide.specs.Decide.{PlainStanding, is_among, used_count}
 
 -- the same end has as many numbers in use, and the same are live, starting and closing
 pub record StandsAlike (one other : PlainStanding) : Type 0 where

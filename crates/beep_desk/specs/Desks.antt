@@ -2,27 +2,27 @@
 -- owes there: between two steps of its session, and within one (RFC 3080, section 2.3.1).
 -- The code keeps neither list, and lets answers go as what they wait for comes.
 use Rattle.std.specs.Prelude.{◌≡◌, ◌⊎◌, ℕ, ◌==◌, Bool, true, false, not, ◌&&◌, List, [], ◌∷◌, ◌++◌, Option, None, Some, map}
-use Rattle.beep_frame.specs.Frame.{is_msg}
-use Rattle.beep_history.specs.declared.journal.Side.{Side}
-use Rattle.beep_history.specs.Journal.{Item, began, passed, told}
-use Rattle.beep_history.specs.Marks.{Mark, is_answered}
-use Rattle.beep_history.specs.Broken.{KeepsExchangeRules}
-use Rattle.beep_mgmt.specs.Message.{message_said, message_text}
-use Rattle.beep_journal.specs.Lives.{Event, is_live}
-use Rattle.beep_journal.specs.Zero.{zero_history, gathered, events}
-use Rattle.beep_asked.specs.Asked.{names_live}
-use Rattle.beep_decide.specs.Decide.{PlainStanding, decide}
-use Rattle.beep_outbox.specs.Queue.{Message, marks_of}
-use Rattle.beep_standing.specs.Standing.{Marks, AreLiveBy}
-use Rattle.beep_spoken.specs.Spoken.{AreSpoken}
-use Rattle.beep_management.specs.declared.wait.Wait.{Wait}
-use Rattle.beep_management.specs.Managed.{Prepared}
-use Rattle.beep_management.specs.Manages.{ArePrepared, Manages}
-use Rattle.beep_answering.specs.declared.settled.Settled.{Settled}
-use Rattle.beep_answering.specs.Decided.{SaysAnswer, SettledBy, kind_of}
+use Rattle.beep_peer.specs.beep_frame.specs.Frame.{is_msg}
+use Rattle.beep_peer.specs.beep_history.specs.declared.journal.Side.{Side}
+use Rattle.beep_peer.specs.beep_history.specs.Journal.{Item, began, passed, told}
+use Rattle.beep_peer.specs.beep_history.specs.Marks.{Mark, is_answered}
+use Rattle.beep_peer.specs.beep_history.specs.Broken.{KeepsExchangeRules}
+use Rattle.beep_peer.specs.beep_mgmt.specs.Message.{message_said, message_text}
+use Rattle.beep_peer.specs.beep_journal.specs.Lives.{Event, is_live}
+use Rattle.beep_peer.specs.beep_journal.specs.Zero.{zero_history, gathered, events}
+use Rattle.beep_peer.specs.beep_asked.specs.Asked.{names_live}
+use Rattle.beep_peer.specs.beep_decide.specs.Decide.{PlainStanding, decide}
+use Rattle.beep_peer.specs.beep_outbox.specs.Queue.{Message, marks_of}
+use Rattle.beep_peer.specs.beep_standing.specs.Standing.{Marks, AreLiveBy}
+use Rattle.beep_peer.specs.beep_spoken.specs.Spoken.{AreSpoken}
+use Rattle.beep_peer.specs.beep_management.specs.declared.wait.Wait.{Wait}
+use Rattle.beep_peer.specs.beep_management.specs.Managed.{Prepared}
+use Rattle.beep_peer.specs.beep_management.specs.Manages.{ArePrepared, Manages}
+use Rattle.beep_peer.specs.beep_answering.specs.declared.settled.Settled.{Settled}
+use Rattle.beep_peer.specs.beep_answering.specs.Decided.{SaysAnswer, SettledBy, kind_of}
 use Rattle.beep_peer.specs.declared.peer.Peer.{Peer}
-use Rattle.beep_talk.specs.AtZero.{Answer, ZeroMessage, answer_message}
-use Rattle.beep_talk.specs.Plan.{PlainPlan}
+use Rattle.beep_script.specs.beep_talk.specs.AtZero.{Answer, ZeroMessage, answer_message}
+use Rattle.beep_script.specs.beep_talk.specs.Plan.{PlainPlan}
 use Rattle.beep_script.specs.Desk.{decided, desk, is_clear}
 use Rattle.beep_desk.specs.Listed.{spoken_of, spoken_as}
 use Rattle.beep_desk.specs.Waiting.{AllWait, IsDone, OnlyGrantsWait}

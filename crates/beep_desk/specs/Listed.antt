@@ -2,13 +2,13 @@
 -- those that its script lists and owes there (RFC 3080, section 2.3.1).
 -- The code keeps no list of what it gave.
 use Rattle.std.specs.Prelude.{◌≡◌, ℕ, ◌+◌, List, [], ◌∷◌, map, filter, length}
-use Rattle.beep_frame.specs.Frame.{is_msg}
-use Rattle.beep_history.specs.declared.journal.Side.{Side}
-use Rattle.beep_history.specs.Journal.{Item}
-use Rattle.beep_journal.specs.Zero.{zero_history, asked}
-use Rattle.beep_spoken.specs.Spoken.{Spoken}
-use Rattle.beep_talk.specs.AtZero.{ZeroMessage, Answer, answer_message}
-use Rattle.beep_talk.specs.Plan.{PlainPlan}
+use Rattle.beep_peer.specs.beep_frame.specs.Frame.{is_msg}
+use Rattle.beep_peer.specs.beep_history.specs.declared.journal.Side.{Side}
+use Rattle.beep_peer.specs.beep_history.specs.Journal.{Item}
+use Rattle.beep_peer.specs.beep_journal.specs.Zero.{zero_history, asked}
+use Rattle.beep_peer.specs.beep_spoken.specs.Spoken.{Spoken}
+use Rattle.beep_script.specs.beep_talk.specs.AtZero.{ZeroMessage, Answer, answer_message}
+use Rattle.beep_script.specs.beep_talk.specs.Plan.{PlainPlan}
 use Rattle.beep_script.specs.Desk.{desk}
 use Rattle.beep_script.specs.Laws.{answered_positions}
 

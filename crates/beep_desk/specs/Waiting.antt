@@ -2,27 +2,27 @@
 -- section 2.3.1.3).
 -- The code knows of a close alone whether its life is live.
 use Rattle.std.specs.Prelude.{◌≡◌, ℕ, ◌==◌, true, false, List, [], ◌∷◌, Option, None, Some, map}
-use Rattle.beep_frame.specs.declared.kind.Kind.{Kind}
-use Rattle.beep_frame.specs.Frame.{same_kind}
-use Rattle.beep_history.specs.declared.journal.Side.{Side}
-use Rattle.beep_history.specs.Journal.{Item}
-use Rattle.beep_history.specs.Marks.{is_answered, marks, mark_modulo_2_64}
-use Rattle.beep_history.specs.Broken.{KeepsExchangeRules}
-use Rattle.beep_journal.specs.Life.{history, is_there, life_now}
-use Rattle.beep_journal.specs.Lives.{Event}
-use Rattle.beep_journal.specs.Zero.{events, zero_history}
-use Rattle.beep_asked.specs.Asked.{names_live}
-use Rattle.beep_lawful.specs.Closing.{is_drained}
-use Rattle.beep_channel.specs.Held.{Live}
-use Rattle.beep_lives.specs.Lives.{live_at}
-use Rattle.beep_standing.specs.Standing.{Marks, AreLiveBy}
-use Rattle.beep_spoken.specs.Spoken.{Spoken}
-use Rattle.beep_management.specs.declared.wait.Wait.{Wait}
-use Rattle.beep_management.specs.Managed.{Prepared, requests_among}
-use Rattle.beep_management.specs.Manages.{IsManaged}
+use Rattle.beep_peer.specs.beep_frame.specs.declared.kind.Kind.{Kind}
+use Rattle.beep_peer.specs.beep_frame.specs.Frame.{same_kind}
+use Rattle.beep_peer.specs.beep_history.specs.declared.journal.Side.{Side}
+use Rattle.beep_peer.specs.beep_history.specs.Journal.{Item}
+use Rattle.beep_peer.specs.beep_history.specs.Marks.{is_answered, marks, mark_modulo_2_64}
+use Rattle.beep_peer.specs.beep_history.specs.Broken.{KeepsExchangeRules}
+use Rattle.beep_peer.specs.beep_journal.specs.Life.{history, is_there, life_now}
+use Rattle.beep_peer.specs.beep_journal.specs.Lives.{Event}
+use Rattle.beep_peer.specs.beep_journal.specs.Zero.{events, zero_history}
+use Rattle.beep_peer.specs.beep_asked.specs.Asked.{names_live}
+use Rattle.beep_peer.specs.beep_lawful.specs.Closing.{is_drained}
+use Rattle.beep_peer.specs.beep_channel.specs.Held.{Live}
+use Rattle.beep_peer.specs.beep_lives.specs.Lives.{live_at}
+use Rattle.beep_peer.specs.beep_standing.specs.Standing.{Marks, AreLiveBy}
+use Rattle.beep_peer.specs.beep_spoken.specs.Spoken.{Spoken}
+use Rattle.beep_peer.specs.beep_management.specs.declared.wait.Wait.{Wait}
+use Rattle.beep_peer.specs.beep_management.specs.Managed.{Prepared, requests_among}
+use Rattle.beep_peer.specs.beep_management.specs.Manages.{IsManaged}
 use Rattle.beep_peer.specs.declared.peer.Peer.{Peer}
-use Rattle.beep_talk.specs.AtZero.{Answer, ZeroMessage}
-use Rattle.beep_talk.specs.Plan.{PlainPlan}
+use Rattle.beep_script.specs.beep_talk.specs.AtZero.{Answer, ZeroMessage}
+use Rattle.beep_script.specs.beep_talk.specs.Plan.{PlainPlan}
 use Rattle.beep_script.specs.Desk.{is_said}
 use Rattle.beep_desk.specs.Listed.{ArePlacedFrom, asked_positions, spoken_of}
 

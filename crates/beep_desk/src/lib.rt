@@ -5,3 +5,6 @@
 #![tactic(auto)]
 
 pub mod laws;
+
+// Crates below, which are named through this one.
+pub use beep_script::prof_raw;

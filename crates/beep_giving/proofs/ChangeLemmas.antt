@@ -1,10 +1,10 @@
 -- Which channels a call leaves, and that one of each number is there as before.
 use Rattle.std.proofs.Common.{◌≡◌, ℕ, ◌==◌, Bool, true, false, ◌||◌, if◌then◌else◌, List, [], ◌∷◌, Some, is_some, refl, sym, ap, ◌∙◌}
 use Rattle.std.specs.List.{list_any}
-use Rattle.beep_journal.proofs.MomentLemmas.{same-number}
-use Rattle.beep_channel.specs.Held.{Live}
-use Rattle.beep_lives.specs.Lives.{live_at, numbers}
-use Rattle.beep_lives.specs.Edits.{Edits}
+use Rattle.beep_peer.specs.beep_journal.proofs.MomentLemmas.{same-number}
+use Rattle.beep_peer.specs.beep_channel.specs.Held.{Live}
+use Rattle.beep_peer.specs.beep_lives.specs.Lives.{live_at, numbers}
+use Rattle.beep_peer.specs.beep_lives.specs.Edits.{Edits}
 use Rattle.beep_peer.specs.Waiting.{KeepsAbove}
 use Rattle.beep_giving.specs.Giving.{ChangesOnly}
 

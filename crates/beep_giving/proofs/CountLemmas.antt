@@ -3,22 +3,22 @@ use Rattle.std.proofs.Common.{◌≡◌, ℕ, zero, suc, ◌+◌, ◌-◌, ◌<�
 use Rattle.std.specs.Prelude.{nat_lt}
 use Rattle.std.specs.Option.{option_map_or}
 use Rattle.std.proofs.lemmas.Bool.Decides.{nat_tests}
-use Rattle.beep_frame.specs.declared.kind.Kind.{Kind}
-use Rattle.beep_frame.specs.declared.tag.Tag.{Tag}
-use Rattle.beep_frame.specs.Frame.{is_msg, is_ans, is_reply}
-use Rattle.beep_frame.specs.Modulo.{modulo_2_64}
-use Rattle.beep_history.specs.Journal.{Item}
-use Rattle.beep_history.specs.Marks.{Mark}
-use Rattle.beep_exchange.specs.declared.given.Given.{Given}
-use Rattle.beep_exchange.specs.Given.{ends_reply, message_number, after_given, after_taken, next_asked_now}
-use Rattle.beep_inbox.specs.Runs.{marks_with}
-use Rattle.beep_outbox.specs.Queue.{Message, message_marks}
-use Rattle.beep_channel.specs.Held.{Held, Live, next_ask, next_reply, ansno_of}
-use Rattle.beep_channel.specs.Stands.{IsCounted, ends_of, answers_after, answer_number}
-use Rattle.beep_channel.proofs.CountedLemmas.{ends-append, ends-part, counted-ask, counted-reply}
-use Rattle.beep_lives.specs.Lives.{live_at}
-use Rattle.beep_lives.proofs.ListLemmas.{live-number}
-use Rattle.beep_standing.specs.Standing.{Marks, AreLiveBy}
+use Rattle.beep_peer.specs.beep_frame.specs.declared.kind.Kind.{Kind}
+use Rattle.beep_peer.specs.beep_frame.specs.declared.tag.Tag.{Tag}
+use Rattle.beep_peer.specs.beep_frame.specs.Frame.{is_msg, is_ans, is_reply}
+use Rattle.beep_peer.specs.beep_frame.specs.Modulo.{modulo_2_64}
+use Rattle.beep_peer.specs.beep_history.specs.Journal.{Item}
+use Rattle.beep_peer.specs.beep_history.specs.Marks.{Mark}
+use Rattle.beep_peer.specs.beep_exchange.specs.declared.given.Given.{Given}
+use Rattle.beep_peer.specs.beep_exchange.specs.Given.{ends_reply, message_number, after_given, after_taken, next_asked_now}
+use Rattle.beep_peer.specs.beep_inbox.specs.Runs.{marks_with}
+use Rattle.beep_peer.specs.beep_outbox.specs.Queue.{Message, message_marks}
+use Rattle.beep_peer.specs.beep_channel.specs.Held.{Held, Live, next_ask, next_reply, ansno_of}
+use Rattle.beep_peer.specs.beep_channel.specs.Stands.{IsCounted, ends_of, answers_after, answer_number}
+use Rattle.beep_peer.specs.beep_channel.proofs.CountedLemmas.{ends-append, ends-part, counted-ask, counted-reply}
+use Rattle.beep_peer.specs.beep_lives.specs.Lives.{live_at}
+use Rattle.beep_peer.specs.beep_lives.proofs.ListLemmas.{live-number}
+use Rattle.beep_peer.specs.beep_standing.specs.Standing.{Marks, AreLiveBy}
 use Rattle.beep_giving.specs.Giving.{next_message}
 
 -- ---- numbers above zero

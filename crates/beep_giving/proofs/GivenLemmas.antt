@@ -4,23 +4,23 @@ use Rattle.std.specs.Prelude.{IfSome, IsSome}
 use Rattle.std.proofs.lemmas.Bool.Decides.{nat_tests}
 use Rattle.std.proofs.Math.Logic.{∥∥₁_elim}
 use denote.Struct.Props.{props}
-use Rattle.beep_frame.specs.declared.kind.Kind.{Kind}
-use Rattle.beep_frame.specs.Frame.{is_msg, is_ans}
-use Rattle.beep_frame.specs.Modulo.{modulo_2_64}
-use Rattle.beep_history.specs.Journal.{Item}
-use Rattle.beep_history.specs.Marks.{Mark}
-use Rattle.beep_exchange.specs.declared.given.Given.{Given}
-use Rattle.beep_exchange.specs.Given.{after_given, next_asked_now}
-use Rattle.beep_outbox.specs.Queue.{Message, message_marks}
-use Rattle.beep_channel.specs.Held.{Held, Live, IsReply, next_ask, next_reply}
-use Rattle.beep_channel.specs.Stands.{IsCounted, ends_of}
-use Rattle.beep_lives.specs.Lives.{live_at, numbers}
-use Rattle.beep_lives.specs.Edits.{Edits, Gives, KeepsHeld}
-use Rattle.beep_standing.specs.Standing.{Marks, with_marks}
-use Rattle.beep_standing.proofs.SendLemmas.{with-same, with-other, given-joins, room-stays}
-use Rattle.beep_hearing.specs.Hears.{KeepsZeroRoom}
-use Rattle.beep_management.specs.Managed.{Managed, octets_prepared}
-use Rattle.beep_management.proofs.ItemLemmas.{given-above}
+use Rattle.beep_peer.specs.beep_frame.specs.declared.kind.Kind.{Kind}
+use Rattle.beep_peer.specs.beep_frame.specs.Frame.{is_msg, is_ans}
+use Rattle.beep_peer.specs.beep_frame.specs.Modulo.{modulo_2_64}
+use Rattle.beep_peer.specs.beep_history.specs.Journal.{Item}
+use Rattle.beep_peer.specs.beep_history.specs.Marks.{Mark}
+use Rattle.beep_peer.specs.beep_exchange.specs.declared.given.Given.{Given}
+use Rattle.beep_peer.specs.beep_exchange.specs.Given.{after_given, next_asked_now}
+use Rattle.beep_peer.specs.beep_outbox.specs.Queue.{Message, message_marks}
+use Rattle.beep_peer.specs.beep_channel.specs.Held.{Held, Live, IsReply, next_ask, next_reply}
+use Rattle.beep_peer.specs.beep_channel.specs.Stands.{IsCounted, ends_of}
+use Rattle.beep_peer.specs.beep_lives.specs.Lives.{live_at, numbers}
+use Rattle.beep_peer.specs.beep_lives.specs.Edits.{Edits, Gives, KeepsHeld}
+use Rattle.beep_peer.specs.beep_standing.specs.Standing.{Marks, with_marks}
+use Rattle.beep_peer.specs.beep_standing.proofs.SendLemmas.{with-same, with-other, given-joins, room-stays}
+use Rattle.beep_peer.specs.beep_hearing.specs.Hears.{KeepsZeroRoom}
+use Rattle.beep_peer.specs.beep_management.specs.Managed.{Managed, octets_prepared}
+use Rattle.beep_peer.specs.beep_management.proofs.ItemLemmas.{given-above}
 use Rattle.beep_peer.specs.declared.peer.Peer.{Peer}
 use Rattle.beep_peer.specs.Peering.{AreFew, Holds, IsPeer, AreHeld}
 use Rattle.beep_peer.specs.Acts.{held_of, IsUnchanged}

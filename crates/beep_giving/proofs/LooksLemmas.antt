@@ -2,19 +2,19 @@
 use Rattle.std.proofs.Common.{◌≡◌, ℕ, ◌<◌, ◌==◌, Bool, true, false, not, if◌then◌else◌, List, [], ◌∷◌, length, map, Option, Some, None, is_some, refl, sym, ap, arith}
 use Rattle.std.specs.Prelude.{IsSome, nat_lt, ◌↔◌}
 use Rattle.std.proofs.lemmas.Bool.Decides.{nat_tests}
-use Rattle.beep_frame.specs.Frame.{is_msg}
-use Rattle.beep_history.specs.declared.journal.Side.{Side}
-use Rattle.beep_history.specs.Journal.{Item}
-use Rattle.beep_history.specs.Marks.{marks, mark_modulo_2_64}
-use Rattle.beep_exchange.specs.declared.given.Given.{Given}
-use Rattle.beep_exchange.specs.Given.{ends_reply, first_owed_now}
-use Rattle.beep_inbox.specs.Runs.{Run}
-use Rattle.beep_journal.specs.Life.{history}
-use Rattle.beep_channel.specs.Held.{Live}
-use Rattle.beep_channel.specs.Stands.{ends_of, answers_after, answer_number}
-use Rattle.beep_lives.specs.Lives.{live_at}
-use Rattle.beep_standing.specs.Standing.{Marks, AreLiveBy}
-use Rattle.beep_standing.proofs.DueLemmas.{channel-untaken}
+use Rattle.beep_peer.specs.beep_frame.specs.Frame.{is_msg}
+use Rattle.beep_peer.specs.beep_history.specs.declared.journal.Side.{Side}
+use Rattle.beep_peer.specs.beep_history.specs.Journal.{Item}
+use Rattle.beep_peer.specs.beep_history.specs.Marks.{marks, mark_modulo_2_64}
+use Rattle.beep_peer.specs.beep_exchange.specs.declared.given.Given.{Given}
+use Rattle.beep_peer.specs.beep_exchange.specs.Given.{ends_reply, first_owed_now}
+use Rattle.beep_peer.specs.beep_inbox.specs.Runs.{Run}
+use Rattle.beep_peer.specs.beep_journal.specs.Life.{history}
+use Rattle.beep_peer.specs.beep_channel.specs.Held.{Live}
+use Rattle.beep_peer.specs.beep_channel.specs.Stands.{ends_of, answers_after, answer_number}
+use Rattle.beep_peer.specs.beep_lives.specs.Lives.{live_at}
+use Rattle.beep_peer.specs.beep_standing.specs.Standing.{Marks, AreLiveBy}
+use Rattle.beep_peer.specs.beep_standing.proofs.DueLemmas.{channel-untaken}
 use Rattle.beep_giving.specs.Looks.{owes_of, answers_of, has_untaken_of}
 use Rattle.beep_giving.proofs.CountLemmas.{above-zero, counted-above}
 

@@ -2,20 +2,20 @@
 use Rattle.std.proofs.Common.{◌≡◌, ℕ, ◌<◌, ◌==◌, false, if◌then◌else◌, List, [], ◌∷◌, ◌++◌, length, Option, Some, option_map, take, inl, refl, sym, ap, ◌∙◌, subst}
 use Rattle.std.proofs.Math.Logic.{∥∥₁_elim, ∥∥₁_map}
 use denote.Struct.Props.{props}
-use Rattle.beep_history.specs.Journal.{Item}
-use Rattle.beep_history.specs.Marks.{Mark}
-use Rattle.beep_exchange.specs.declared.given.Given.{Given}
-use Rattle.beep_exchange.specs.Given.{after_taken}
-use Rattle.beep_inbox.specs.declared.part.Part.{Part}
-use Rattle.beep_inbox.specs.Laws.{part_marks}
-use Rattle.beep_channel.specs.Held.{Live}
-use Rattle.beep_channel.specs.Stands.{IsCounted}
-use Rattle.beep_lives.specs.Lives.{live_at}
-use Rattle.beep_lives.specs.Edits.{Edits, Takes}
-use Rattle.beep_standing.specs.Standing.{Marks, with_marks}
-use Rattle.beep_standing.proofs.SendLemmas.{with-same, with-other, taken-joins}
-use Rattle.beep_management.specs.declared.wait.Wait.{Wait}
-use Rattle.beep_management.specs.Managed.{Prepared, Managed, octets_prepared}
+use Rattle.beep_peer.specs.beep_history.specs.Journal.{Item}
+use Rattle.beep_peer.specs.beep_history.specs.Marks.{Mark}
+use Rattle.beep_peer.specs.beep_exchange.specs.declared.given.Given.{Given}
+use Rattle.beep_peer.specs.beep_exchange.specs.Given.{after_taken}
+use Rattle.beep_peer.specs.beep_inbox.specs.declared.part.Part.{Part}
+use Rattle.beep_peer.specs.beep_inbox.specs.Laws.{part_marks}
+use Rattle.beep_peer.specs.beep_channel.specs.Held.{Live}
+use Rattle.beep_peer.specs.beep_channel.specs.Stands.{IsCounted}
+use Rattle.beep_peer.specs.beep_lives.specs.Lives.{live_at}
+use Rattle.beep_peer.specs.beep_lives.specs.Edits.{Edits, Takes}
+use Rattle.beep_peer.specs.beep_standing.specs.Standing.{Marks, with_marks}
+use Rattle.beep_peer.specs.beep_standing.proofs.SendLemmas.{with-same, with-other, taken-joins}
+use Rattle.beep_peer.specs.beep_management.specs.declared.wait.Wait.{Wait}
+use Rattle.beep_peer.specs.beep_management.specs.Managed.{Prepared, Managed, octets_prepared}
 use Rattle.beep_peer.specs.declared.peer.Peer.{Peer}
 use Rattle.beep_peer.specs.Peering.{Holds, IsPeer, AreHeld}
 use Rattle.beep_peer.specs.Calls.{LetsGo}

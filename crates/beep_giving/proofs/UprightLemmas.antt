@@ -4,35 +4,35 @@ use Rattle.std.specs.Prelude.{Result, Ok, Err, OnOk, OnErr, IsSome, IfSome}
 use Rattle.std.specs.List.{list_any}
 use Rattle.std.proofs.lemmas.Bool.Decides.{nat_tests}
 use Rattle.std.proofs.lemmas.List.{append_cancel_left}
-use Rattle.beep_frame.specs.declared.kind.Kind.{Kind}
-use Rattle.beep_frame.specs.declared.tag.Tag.{Tag}
-use Rattle.beep_frame.specs.Frame.{is_msg, is_reply, same_kind}
-use Rattle.beep_history.specs.declared.journal.Side.{Side}
-use Rattle.beep_history.specs.Journal.{Item}
-use Rattle.beep_history.specs.Marks.{Mark, octet, end, marks}
-use Rattle.beep_journal.specs.Zero.{zero_history, asked}
-use Rattle.beep_journal.specs.Life.{is_there}
-use Rattle.beep_exchange.specs.Given.{ends_reply}
-use Rattle.beep_inbox.specs.declared.part.Part.{Part}
-use Rattle.beep_inbox.specs.Laws.{part_marks}
-use Rattle.beep_outbox.specs.Queue.{Message, message_marks}
-use Rattle.beep_channel.specs.Held.{Live, IsReply}
-use Rattle.beep_channel.specs.Stands.{ends_of}
-use Rattle.beep_channel.proofs.CountedLemmas.{ends-append}
-use Rattle.beep_lives.specs.Lives.{live_at}
-use Rattle.beep_lives.specs.Edits.{Edits, Takes}
-use Rattle.beep_standing.specs.Standing.{Marks, with_marks, AreLiveBy}
-use Rattle.beep_spoken.specs.Spoken.{kinds_of}
-use Rattle.beep_decide.specs.Asks.{is_close_of}
-use Rattle.beep_lawful.specs.declared.terms.Terms.{Terms}
-use Rattle.beep_asked.specs.Kept.{Kept, closes, closes_one, is_leaving}
-use Rattle.beep_asked.specs.Asked.{AreWaiting}
-use Rattle.beep_management.specs.Managed.{Managed}
-use Rattle.beep_upright.specs.Turns.{kinds_at, reply_kinds}
-use Rattle.beep_upright.specs.Upright.{asked_at, all_asked, is_of_close, IsLetGo, AreAnswered, place_of, AreReady, IsUpright}
-use Rattle.beep_upright.proofs.TestLemmas.{equal-number, or-one, or-two}
-use Rattle.beep_upright.proofs.BegunLemmas.{any-in}
-use Rattle.beep_upright.proofs.ReadyLemmas.{each-answered, names-from}
+use Rattle.beep_peer.specs.beep_frame.specs.declared.kind.Kind.{Kind}
+use Rattle.beep_peer.specs.beep_frame.specs.declared.tag.Tag.{Tag}
+use Rattle.beep_peer.specs.beep_frame.specs.Frame.{is_msg, is_reply, same_kind}
+use Rattle.beep_peer.specs.beep_history.specs.declared.journal.Side.{Side}
+use Rattle.beep_peer.specs.beep_history.specs.Journal.{Item}
+use Rattle.beep_peer.specs.beep_history.specs.Marks.{Mark, octet, end, marks}
+use Rattle.beep_peer.specs.beep_journal.specs.Zero.{zero_history, asked}
+use Rattle.beep_peer.specs.beep_journal.specs.Life.{is_there}
+use Rattle.beep_peer.specs.beep_exchange.specs.Given.{ends_reply}
+use Rattle.beep_peer.specs.beep_inbox.specs.declared.part.Part.{Part}
+use Rattle.beep_peer.specs.beep_inbox.specs.Laws.{part_marks}
+use Rattle.beep_peer.specs.beep_outbox.specs.Queue.{Message, message_marks}
+use Rattle.beep_peer.specs.beep_channel.specs.Held.{Live, IsReply}
+use Rattle.beep_peer.specs.beep_channel.specs.Stands.{ends_of}
+use Rattle.beep_peer.specs.beep_channel.proofs.CountedLemmas.{ends-append}
+use Rattle.beep_peer.specs.beep_lives.specs.Lives.{live_at}
+use Rattle.beep_peer.specs.beep_lives.specs.Edits.{Edits, Takes}
+use Rattle.beep_peer.specs.beep_standing.specs.Standing.{Marks, with_marks, AreLiveBy}
+use Rattle.beep_peer.specs.beep_spoken.specs.Spoken.{kinds_of}
+use Rattle.beep_peer.specs.beep_decide.specs.Asks.{is_close_of}
+use Rattle.beep_peer.specs.beep_lawful.specs.declared.terms.Terms.{Terms}
+use Rattle.beep_peer.specs.beep_asked.specs.Kept.{Kept, closes, closes_one, is_leaving}
+use Rattle.beep_peer.specs.beep_asked.specs.Asked.{AreWaiting}
+use Rattle.beep_peer.specs.beep_management.specs.Managed.{Managed}
+use Rattle.beep_peer.specs.beep_upright.specs.Turns.{kinds_at, reply_kinds}
+use Rattle.beep_peer.specs.beep_upright.specs.Upright.{asked_at, all_asked, is_of_close, IsLetGo, AreAnswered, place_of, AreReady, IsUpright}
+use Rattle.beep_peer.specs.beep_upright.proofs.TestLemmas.{equal-number, or-one, or-two}
+use Rattle.beep_peer.specs.beep_upright.proofs.BegunLemmas.{any-in}
+use Rattle.beep_peer.specs.beep_upright.proofs.ReadyLemmas.{each-answered, names-from}
 use Rattle.beep_peer.specs.declared.peer.Peer.{Peer}
 use Rattle.beep_peer.specs.Peering.{Holds, IsPeer}
 use Rattle.beep_peer.proofs.KindsLemmas.{kinds-by, asked-by, asked-none, upright-same}

@@ -2,25 +2,25 @@
 -- each journal for which a peer stands (RFC 3080, sections 2.1 and 2.3.1.3).
 -- The code keeps neither a journal nor what was given and taken.
 use Rattle.std.specs.Prelude.{◌≡◌, ℕ, Bool, false, ◌||◌, if◌then◌else◌, List, ◌++◌, Option, None, Some, is_some}
-use Rattle.beep_frame.specs.declared.kind.Kind.{Kind}
-use Rattle.beep_frame.specs.Frame.{is_msg, is_ans}
-use Rattle.beep_frame.specs.Modulo.{modulo_2_64}
-use Rattle.beep_history.specs.Journal.{Item}
-use Rattle.beep_history.specs.Marks.{Mark}
-use Rattle.beep_exchange.specs.Given.{ends_reply, message_number}
-use Rattle.beep_inbox.specs.declared.part.Part.{Part}
-use Rattle.beep_inbox.specs.Laws.{part_marks}
-use Rattle.beep_outbox.specs.declared.give_error.GiveError.{GiveError}
-use Rattle.beep_outbox.specs.Queue.{Message, message_marks}
-use Rattle.beep_channel.specs.declared.ask_error.AskError.{AskError}
-use Rattle.beep_channel.specs.Held.{Live, ask_refusal, reply_refusal}
-use Rattle.beep_channel.specs.Stands.{ends_of, answers_after}
-use Rattle.beep_lives.specs.Lives.{live_at, numbers}
-use Rattle.beep_standing.specs.Standing.{Marks, with_marks}
-use Rattle.beep_hearing.specs.Hears.{SameAbove}
-use Rattle.beep_asked.specs.Kept.{closes, is_leaving}
+use Rattle.beep_peer.specs.beep_frame.specs.declared.kind.Kind.{Kind}
+use Rattle.beep_peer.specs.beep_frame.specs.Frame.{is_msg, is_ans}
+use Rattle.beep_peer.specs.beep_frame.specs.Modulo.{modulo_2_64}
+use Rattle.beep_peer.specs.beep_history.specs.Journal.{Item}
+use Rattle.beep_peer.specs.beep_history.specs.Marks.{Mark}
+use Rattle.beep_peer.specs.beep_exchange.specs.Given.{ends_reply, message_number}
+use Rattle.beep_peer.specs.beep_inbox.specs.declared.part.Part.{Part}
+use Rattle.beep_peer.specs.beep_inbox.specs.Laws.{part_marks}
+use Rattle.beep_peer.specs.beep_outbox.specs.declared.give_error.GiveError.{GiveError}
+use Rattle.beep_peer.specs.beep_outbox.specs.Queue.{Message, message_marks}
+use Rattle.beep_peer.specs.beep_channel.specs.declared.ask_error.AskError.{AskError}
+use Rattle.beep_peer.specs.beep_channel.specs.Held.{Live, ask_refusal, reply_refusal}
+use Rattle.beep_peer.specs.beep_channel.specs.Stands.{ends_of, answers_after}
+use Rattle.beep_peer.specs.beep_lives.specs.Lives.{live_at, numbers}
+use Rattle.beep_peer.specs.beep_standing.specs.Standing.{Marks, with_marks}
+use Rattle.beep_peer.specs.beep_hearing.specs.Hears.{SameAbove}
+use Rattle.beep_peer.specs.beep_asked.specs.Kept.{closes, is_leaving}
 use Rattle.beep_peer.specs.declared.peer.Peer.{Peer}
-use Rattle.beep_management.specs.Managed.{Prepared}
+use Rattle.beep_peer.specs.beep_management.specs.Managed.{Prepared}
 use Rattle.beep_peer.specs.Peering.{IsPeer}
 use Rattle.beep_peer.specs.Calls.{GivesFirst}
 

@@ -1,3 +1,30 @@
 -- What public clauses cite.
 pub mod Looks
 pub mod Giving
+-- Crates below, which are named through this one.
+pub use Rattle.beep_peer.specs.beep_octets
+pub use Rattle.beep_peer.specs.beep_frame
+pub use Rattle.beep_peer.specs.beep_seq
+pub use Rattle.beep_peer.specs.beep_history
+pub use Rattle.beep_peer.specs.beep_exchange
+pub use Rattle.beep_peer.specs.beep_inbox
+pub use Rattle.beep_peer.specs.beep_outbox
+pub use Rattle.beep_peer.specs.beep_channel
+pub use Rattle.beep_peer.specs.beep_turns
+pub use Rattle.beep_peer.specs.beep_lives
+pub use Rattle.beep_peer.specs.beep_chars
+pub use Rattle.beep_peer.specs.beep_mime
+pub use Rattle.beep_peer.specs.beep_text
+pub use Rattle.beep_peer.specs.beep_mgmt
+pub use Rattle.beep_peer.specs.beep_journal
+pub use Rattle.beep_peer.specs.beep_spoken
+pub use Rattle.beep_peer.specs.beep_decide
+pub use Rattle.beep_peer.specs.beep_lawful
+pub use Rattle.beep_peer.specs.beep_standing
+pub use Rattle.beep_peer.specs.beep_asked
+pub use Rattle.beep_peer.specs.beep_management
+pub use Rattle.beep_peer.specs.beep_speaking
+pub use Rattle.beep_peer.specs.beep_hearing
+pub use Rattle.beep_peer.specs.beep_upright
+pub use Rattle.beep_peer.specs.beep_answering
+pub use Rattle.beep_peer

@@ -1,9 +1,9 @@
 -- What is held of a life by its channel, where it lives (RFC 3080, section 2.1).
 -- The code asks the channel; here a number without one has nothing.
 use Rattle.std.specs.Prelude.{ℕ, ◌==◌, nat_lt, Bool, false, not, List, [], length, Option, None, Some}
-use Rattle.beep_exchange.specs.declared.given.Given.{Given}
-use Rattle.beep_inbox.specs.Runs.{Run}
-use Rattle.beep_channel.specs.Held.{Live}
+use Rattle.beep_peer.specs.beep_exchange.specs.declared.given.Given.{Given}
+use Rattle.beep_peer.specs.beep_inbox.specs.Runs.{Run}
+use Rattle.beep_peer.specs.beep_channel.specs.Held.{Live}
 
 -- what is counted of its requests and of their replies, positions modulo 2^64
 abbrev pub given_of : Option Live → Option Given

@@ -1,28 +1,28 @@
 //! Messages that a program gives in a live life above zero (RFC 3080, section 2.1).
 ghost use Rattle.std.specs.Prelude.{◌≡◌, ◌≢◌, ◌<◌, ◌==◌, ◌||◌, ℕ, List, length, None, Some, true, false, option_map, IsSome, IfSome, IfOk, IfErr, OnOk, OnErr};
-ghost use Rattle.beep_frame.specs.declared.kind.Kind.{Kind as KindValue};
-ghost use Rattle.beep_frame.specs.Frame.{is_msg, is_ans};
-ghost use Rattle.beep_frame.specs.Modulo.{modulo_2_64};
-ghost use Rattle.beep_history.specs.Journal.{Item};
-ghost use Rattle.beep_exchange.specs.Given.{after_given};
-ghost use Rattle.beep_outbox.specs.declared.give_error.GiveError.{GiveError as GiveErrorValue};
-ghost use Rattle.beep_channel.specs.declared.ask_error.AskError.{AskError as AskErrorValue};
-ghost use Rattle.beep_channel.specs.Held.{IsReply};
-ghost use Rattle.beep_channel.specs.Stands.{ends_of};
-ghost use Rattle.beep_lives.specs.Lives.{live_at};
-ghost use Rattle.beep_lawful.specs.declared.terms.Terms.{Terms};
-ghost use Rattle.beep_standing.specs.Standing.{Marks};
-ghost use Rattle.beep_asked.specs.Kept.{closes};
-ghost use Rattle.beep_upright.specs.Upright.{IsUpright};
+ghost use Rattle.beep_peer.specs.beep_frame.specs.declared.kind.Kind.{Kind as KindValue};
+ghost use Rattle.beep_peer.specs.beep_frame.specs.Frame.{is_msg, is_ans};
+ghost use Rattle.beep_peer.specs.beep_frame.specs.Modulo.{modulo_2_64};
+ghost use Rattle.beep_peer.specs.beep_history.specs.Journal.{Item};
+ghost use Rattle.beep_peer.specs.beep_exchange.specs.Given.{after_given};
+ghost use Rattle.beep_peer.specs.beep_outbox.specs.declared.give_error.GiveError.{GiveError as GiveErrorValue};
+ghost use Rattle.beep_peer.specs.beep_channel.specs.declared.ask_error.AskError.{AskError as AskErrorValue};
+ghost use Rattle.beep_peer.specs.beep_channel.specs.Held.{IsReply};
+ghost use Rattle.beep_peer.specs.beep_channel.specs.Stands.{ends_of};
+ghost use Rattle.beep_peer.specs.beep_lives.specs.Lives.{live_at};
+ghost use Rattle.beep_peer.specs.beep_lawful.specs.declared.terms.Terms.{Terms};
+ghost use Rattle.beep_peer.specs.beep_standing.specs.Standing.{Marks};
+ghost use Rattle.beep_peer.specs.beep_asked.specs.Kept.{closes};
+ghost use Rattle.beep_peer.specs.beep_upright.specs.Upright.{IsUpright};
 ghost use Rattle.beep_peer.specs.Peering.{IsPeer, AreHeld};
 ghost use Rattle.beep_peer.specs.Acts.{held_of, IsUnchanged};
 ghost use Rattle.beep_giving.specs.Looks.{given_of, owes_of};
 ghost use Rattle.beep_giving.specs.Giving.{ask_refusal_at, reply_refusal_at, GivesMessage, ChangesOnly};
 
-use beep_channel::AskError;
-use beep_frame::Kind;
-use beep_outbox::GiveError;
 use beep_peer::Peer;
+use beep_peer::beep_channel::AskError;
+use beep_peer::beep_frame::Kind;
+use beep_peer::beep_outbox::GiveError;
 
 /// Gives a request in a live life, and answers its position modulo 2^64. The refusals are tried in
 /// the order Closing, TooManyAsked, Full, NoMemory.

@@ -9,3 +9,11 @@ mod taking;
 pub use giving::{ask, give_reply};
 pub use looks::{begun_answers, has_untaken, owes};
 pub use taking::take;
+
+// Crates below, which are named through this one.
+pub use beep_peer;
+pub use beep_peer::{
+    beep_answering, beep_channel, beep_chars, beep_decide, beep_frame, beep_hearing, beep_history,
+    beep_inbox, beep_journal, beep_lawful, beep_lives, beep_mgmt, beep_octets, beep_outbox,
+    beep_seq, beep_speaking, beep_text,
+};

@@ -1,14 +1,14 @@
 //! What a program may ask of a life above zero (RFC 3080, section 2.1).
 ghost use Rattle.std.specs.Prelude.{◌≡◌, ◌↔◌, ◌<◌, ℕ, List, nat_lt, map, false, IsSome};
-ghost use Rattle.beep_frame.specs.Frame.{is_msg};
-ghost use Rattle.beep_history.specs.declared.journal.Side.{Side};
-ghost use Rattle.beep_history.specs.Journal.{Item};
-ghost use Rattle.beep_history.specs.Marks.{marks, mark_modulo_2_64};
-ghost use Rattle.beep_exchange.specs.Given.{ends_reply};
-ghost use Rattle.beep_journal.specs.Life.{history};
-ghost use Rattle.beep_channel.specs.Stands.{ends_of, answers_after, answer_number};
-ghost use Rattle.beep_lives.specs.Lives.{live_at};
-ghost use Rattle.beep_standing.specs.Standing.{Marks};
+ghost use Rattle.beep_peer.specs.beep_frame.specs.Frame.{is_msg};
+ghost use Rattle.beep_peer.specs.beep_history.specs.declared.journal.Side.{Side};
+ghost use Rattle.beep_peer.specs.beep_history.specs.Journal.{Item};
+ghost use Rattle.beep_peer.specs.beep_history.specs.Marks.{marks, mark_modulo_2_64};
+ghost use Rattle.beep_peer.specs.beep_exchange.specs.Given.{ends_reply};
+ghost use Rattle.beep_peer.specs.beep_journal.specs.Life.{history};
+ghost use Rattle.beep_peer.specs.beep_channel.specs.Stands.{ends_of, answers_after, answer_number};
+ghost use Rattle.beep_peer.specs.beep_lives.specs.Lives.{live_at};
+ghost use Rattle.beep_peer.specs.beep_standing.specs.Standing.{Marks};
 ghost use Rattle.beep_peer.specs.Peering.{IsPeer};
 ghost use Rattle.beep_giving.specs.Looks.{owes_of, answers_of, has_untaken_of};
 

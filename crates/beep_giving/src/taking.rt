@@ -1,19 +1,19 @@
 //! What a program takes from a live life above zero (RFC 3080, sections 2.1 and 2.3.1.3).
 ghost use Rattle.std.specs.Prelude.{◌≡◌, ◌<◌, ◌==◌, ◌||◌, [], ℕ, List, length, if◌then◌else◌, option_map, IsSome, IfSome, IfNone};
-ghost use Rattle.beep_octets.specs.Numbers.{numbers_32};
-ghost use Rattle.beep_history.specs.Journal.{Item};
-ghost use Rattle.beep_exchange.specs.Given.{after_taken};
-ghost use Rattle.beep_inbox.specs.Untaken.{IsTaken};
-ghost use Rattle.beep_lives.specs.Lives.{live_at};
-ghost use Rattle.beep_lawful.specs.declared.terms.Terms.{Terms};
-ghost use Rattle.beep_standing.specs.Standing.{Marks};
-ghost use Rattle.beep_upright.specs.Upright.{IsUpright};
+ghost use Rattle.beep_peer.specs.beep_octets.specs.Numbers.{numbers_32};
+ghost use Rattle.beep_peer.specs.beep_history.specs.Journal.{Item};
+ghost use Rattle.beep_peer.specs.beep_exchange.specs.Given.{after_taken};
+ghost use Rattle.beep_peer.specs.beep_inbox.specs.Untaken.{IsTaken};
+ghost use Rattle.beep_peer.specs.beep_lives.specs.Lives.{live_at};
+ghost use Rattle.beep_peer.specs.beep_lawful.specs.declared.terms.Terms.{Terms};
+ghost use Rattle.beep_peer.specs.beep_standing.specs.Standing.{Marks};
+ghost use Rattle.beep_peer.specs.beep_upright.specs.Upright.{IsUpright};
 ghost use Rattle.beep_peer.specs.Peering.{IsPeer, AreHeld};
 ghost use Rattle.beep_peer.specs.Waiting.{AreLetGo, IsStuck};
 ghost use Rattle.beep_giving.specs.Looks.{given_of, inbox_of};
 ghost use Rattle.beep_giving.specs.Giving.{TakesMarks, ChangesOnly};
 
-use beep_inbox::Part;
+use beep_peer::beep_inbox::Part;
 use beep_peer::{Peer, let_go};
 
 /// Takes the first octets of the first untaken run of a live life, as many as `buf` holds, and its

@@ -3,21 +3,21 @@ use Rattle.std.proofs.Common.{◌≡◌, ◌⊎◌, inl, inr, IsTrue, ℕ, ◌+�
 use Rattle.std.specs.Prelude.{is_some, IfSome}
 use Rattle.std.proofs.Math.Logic.{∥∥₁_elim}
 use denote.Struct.Props.{props}
-use Rattle.beep_frame.specs.declared.head.Head.{Head}
-use Rattle.beep_frame.specs.declared.rule.Rule.{Rule}
-use Rattle.beep_frame.specs.declared.seq.Seq.{Seq}
-use Rattle.beep_frame.specs.declared.step.Step.{Step}
-use Rattle.beep_frame.specs.Modulo.{modulo_2_64}
-use Rattle.beep_frame.specs.Decoding.{DecoderState, WasFed}
-use Rattle.beep_frame.specs.Decodes.{GivesHead, GivesFrame, GivesSeq, is_broken}
-use Rattle.beep_frame.specs.Fed.{fed_of}
-use Rattle.beep_history.specs.declared.journal.Side.{Side}
-use Rattle.beep_history.specs.Journal.{Item, began, passed, told}
-use Rattle.beep_history.specs.Broken.{under_way}
-use Rattle.beep_journal.specs.Zero.{zero_history, gathered}
-use Rattle.beep_journal.specs.Broken.{none_tunes, broken_head, broken_seq}
-use Rattle.beep_channel.specs.Held.{Live}
-use Rattle.beep_lives.specs.Lives.{live_at, has_begun, receiving_of}
+use Rattle.beep_standing.specs.beep_frame.specs.declared.head.Head.{Head}
+use Rattle.beep_standing.specs.beep_frame.specs.declared.rule.Rule.{Rule}
+use Rattle.beep_standing.specs.beep_frame.specs.declared.seq.Seq.{Seq}
+use Rattle.beep_standing.specs.beep_frame.specs.declared.step.Step.{Step}
+use Rattle.beep_standing.specs.beep_frame.specs.Modulo.{modulo_2_64}
+use Rattle.beep_standing.specs.beep_frame.specs.Decoding.{DecoderState, WasFed}
+use Rattle.beep_standing.specs.beep_frame.specs.Decodes.{GivesHead, GivesFrame, GivesSeq, is_broken}
+use Rattle.beep_standing.specs.beep_frame.specs.Fed.{fed_of}
+use Rattle.beep_standing.specs.beep_history.specs.declared.journal.Side.{Side}
+use Rattle.beep_standing.specs.beep_history.specs.Journal.{Item, began, passed, told}
+use Rattle.beep_standing.specs.beep_history.specs.Broken.{under_way}
+use Rattle.beep_standing.specs.beep_journal.specs.Zero.{zero_history, gathered}
+use Rattle.beep_standing.specs.beep_journal.specs.Broken.{none_tunes, broken_head, broken_seq}
+use Rattle.beep_standing.specs.beep_channel.specs.Held.{Live}
+use Rattle.beep_standing.specs.beep_lives.specs.Lives.{live_at, has_begun, receiving_of}
 use Rattle.beep_standing.specs.Standing.{Marks, AreLiveBy}
 use Rattle.beep_standing.proofs.ArriveLemmas.{idle-each, is-each}
 use Rattle.beep_hearing.specs.declared.heard.Heard.{Heard}

@@ -1,15 +1,15 @@
 -- What arrived in channel zero is taken until nothing is left, and the other channels stay.
 use Rattle.std.proofs.Common.{◌≡◌, ℕ, Bool, true, false, if◌then◌else◌, List, [], ◌++◌, Option, None, Some, refl, sym, ap, subst, ◌∙◌, arith}
 use Rattle.std.specs.Prelude.{is_some, IfSome, IsSome}
-use Rattle.beep_frame.specs.declared.head.Head.{Head}
-use Rattle.beep_history.specs.Journal.{Item}
-use Rattle.beep_journal.specs.Zero.{zero_history}
-use Rattle.beep_journal.proofs.MomentLemmas.{same-number}
-use Rattle.beep_inbox.specs.declared.part.Part.{Part}
-use Rattle.beep_inbox.specs.Laws.{part_marks}
-use Rattle.beep_channel.specs.Held.{Live, HasRoomOut}
-use Rattle.beep_lives.specs.Lives.{live_at}
-use Rattle.beep_lives.specs.Edits.{Edits, EditsWhere, Arrives, Takes}
+use Rattle.beep_standing.specs.beep_frame.specs.declared.head.Head.{Head}
+use Rattle.beep_standing.specs.beep_history.specs.Journal.{Item}
+use Rattle.beep_standing.specs.beep_journal.specs.Zero.{zero_history}
+use Rattle.beep_standing.specs.beep_journal.proofs.MomentLemmas.{same-number}
+use Rattle.beep_standing.specs.beep_inbox.specs.declared.part.Part.{Part}
+use Rattle.beep_standing.specs.beep_inbox.specs.Laws.{part_marks}
+use Rattle.beep_standing.specs.beep_channel.specs.Held.{Live, HasRoomOut}
+use Rattle.beep_standing.specs.beep_lives.specs.Lives.{live_at}
+use Rattle.beep_standing.specs.beep_lives.specs.Edits.{Edits, EditsWhere, Arrives, Takes}
 use Rattle.beep_standing.specs.Standing.{Marks, with_marks, AreLive}
 use Rattle.beep_standing.proofs.SendLemmas.{taken-joins, with-other}
 use Rattle.beep_standing.proofs.DueLemmas.{untaken-of}

@@ -3,22 +3,22 @@ use Rattle.std.proofs.Common.{◌≡◌, ℕ, ◌≤◌, ◌==◌, Bool, true, f
 use Rattle.std.specs.Prelude.{is_some, IfSome}
 use Rattle.std.specs.List.{list_any}
 use Rattle.std.proofs.lemmas.Bool.Decides.{nat_tests}
-use Rattle.beep_frame.specs.declared.head.Head.{Head}
-use Rattle.beep_frame.specs.declared.rule.Rule.{Rule}
-use Rattle.beep_frame.specs.declared.limits.TheConstants.{MAX_PAYLOAD}
-use Rattle.beep_history.specs.declared.journal.Side.{Side}
-use Rattle.beep_history.specs.Journal.{Item, passed}
-use Rattle.beep_history.specs.Marks.{Mark, Request, is_whole, waiting, previous}
-use Rattle.beep_history.specs.Broken.{broken_rule, under_way}
-use Rattle.beep_journal.specs.Zero.{zero_history}
-use Rattle.beep_journal.specs.Life.{history, is_there}
-use Rattle.beep_journal.specs.Broken.{none_tunes, is_greeting, breaks_size, breaks_no_greeting, breaks_not_alone, breaks_zero_reply, or_else, broken_head, broken_seq}
-use Rattle.beep_frame.specs.declared.seq.Seq.{Seq}
-use Rattle.beep_history.specs.Windows.{is_bad_ack}
-use Rattle.beep_channel.specs.Held.{Live}
-use Rattle.beep_channel.specs.Stands.{Stands}
-use Rattle.beep_lives.specs.Lives.{live_at, has_begun}
-use Rattle.beep_lives.specs.Edits.{Arrives, EditsWhere}
+use Rattle.beep_standing.specs.beep_frame.specs.declared.head.Head.{Head}
+use Rattle.beep_standing.specs.beep_frame.specs.declared.rule.Rule.{Rule}
+use Rattle.beep_standing.specs.beep_frame.specs.declared.limits.TheConstants.{MAX_PAYLOAD}
+use Rattle.beep_standing.specs.beep_history.specs.declared.journal.Side.{Side}
+use Rattle.beep_standing.specs.beep_history.specs.Journal.{Item, passed}
+use Rattle.beep_standing.specs.beep_history.specs.Marks.{Mark, Request, is_whole, waiting, previous}
+use Rattle.beep_standing.specs.beep_history.specs.Broken.{broken_rule, under_way}
+use Rattle.beep_standing.specs.beep_journal.specs.Zero.{zero_history}
+use Rattle.beep_standing.specs.beep_journal.specs.Life.{history, is_there}
+use Rattle.beep_standing.specs.beep_journal.specs.Broken.{none_tunes, is_greeting, breaks_size, breaks_no_greeting, breaks_not_alone, breaks_zero_reply, or_else, broken_head, broken_seq}
+use Rattle.beep_standing.specs.beep_frame.specs.declared.seq.Seq.{Seq}
+use Rattle.beep_standing.specs.beep_history.specs.Windows.{is_bad_ack}
+use Rattle.beep_standing.specs.beep_channel.specs.Held.{Live}
+use Rattle.beep_standing.specs.beep_channel.specs.Stands.{Stands}
+use Rattle.beep_standing.specs.beep_lives.specs.Lives.{live_at, has_begun}
+use Rattle.beep_standing.specs.beep_lives.specs.Edits.{Arrives, EditsWhere}
 use Rattle.beep_standing.specs.Standing.{Marks, AreLiveBy}
 use Rattle.beep_standing.proofs.ArriveLemmas.{zero-joins, seq-judged}
 use Rattle.beep_standing.proofs.ZeroLemmas.{part-none}

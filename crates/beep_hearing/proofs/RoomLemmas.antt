@@ -1,8 +1,8 @@
 -- What channel zero had room for it has room for still.
 use Rattle.std.proofs.Common.{◌≡◌, ℕ, ◌==◌, Bool, true, false, if◌then◌else◌, List, Some, refl, sym, ap, ◌∙◌, arith, eqb-true}
-use Rattle.beep_channel.specs.Held.{Live, HasRoomOut}
-use Rattle.beep_lives.specs.Lives.{live_at}
-use Rattle.beep_lives.specs.Edits.{Edits, EditsWhere}
+use Rattle.beep_standing.specs.beep_channel.specs.Held.{Live, HasRoomOut}
+use Rattle.beep_standing.specs.beep_lives.specs.Lives.{live_at}
+use Rattle.beep_standing.specs.beep_lives.specs.Edits.{Edits, EditsWhere}
 use Rattle.beep_hearing.specs.Hears.{KeepsOthers, HasZeroRoom, KeepsZeroRoom}
 
 pub room-same : (old new : List Live) → new ≡ old → KeepsZeroRoom old new

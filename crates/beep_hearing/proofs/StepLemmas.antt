@@ -2,30 +2,30 @@
 use Rattle.std.proofs.Common.{◌≡◌, ℕ, ◌+◌, ◌-◌, ◌^◌, ◌<◌, ◌==◌, inl, inr, Bool, true, false, ◌&&◌, ◌||◌, nat_lt, if◌then◌else◌, List, [], ◌∷◌, ◌++◌, length, map, Option, None, Some, refl, sym, ap, subst, subst₂, ◌∙◌, append_assoc, append-nil, replicate, arith, length-append, lt-ltb}
 use Rattle.std.specs.List.{flat_map}
 use Rattle.std.proofs.lemmas.List.{append_cancel_left, length-replicate}
-use Rattle.beep_frame.specs.declared.head.Head.{Head}
-use Rattle.beep_frame.specs.declared.rule.Rule.{Rule}
-use Rattle.beep_frame.specs.declared.seq.Seq.{Seq}
-use Rattle.beep_frame.specs.declared.limits.TheConstants.{MAX_PAYLOAD}
-use Rattle.beep_frame.specs.Frame.{Frame, framed, seq_frame, IsFrame, IsSeq}
-use Rattle.beep_frame.specs.Spelling.{header, seq_line, line_end, spelling}
-use Rattle.beep_frame.specs.Line.{at_head, at_seq}
-use Rattle.beep_frame.proofs.AliveLemmas.{unfinished_header}
-use Rattle.beep_frame.proofs.LawLemmas.{not_whole, length-seq_line}
-use Rattle.beep_frame.proofs.StreamLemmas.{same_line}
-use Rattle.beep_frame.specs.Stream.{Stream, IsUnfinished, HasNoHead, IsHeadOf, BreaksBy}
-use Rattle.beep_frame.specs.Modulo.{modulo_2_64}
-use Rattle.beep_frame.specs.Decoding.{DecoderState, WasFed}
-use Rattle.beep_frame.specs.Decodes.{GivesHead, GivesFrame, GivesSeq, Breaks as DecoderBreaks}
-use Rattle.beep_frame.specs.Fed.{fed_of}
-use Rattle.beep_history.specs.declared.journal.Side.{Side}
-use Rattle.beep_history.specs.Journal.{Item, began, passed, told}
-use Rattle.beep_history.specs.Marks.{marks, mark_modulo_2_64}
-use Rattle.beep_history.specs.Broken.{under_way}
-use Rattle.beep_journal.specs.Zero.{zero_history, gathered}
-use Rattle.beep_journal.specs.Broken.{none_tunes, broken_head, broken_seq}
-use Rattle.beep_journal.specs.Journal.{Past, spelled, fault_at, begins, seq_ends, TakesOctet}
-use Rattle.beep_journal.proofs.JournalLemmas.{above-zero}
-use Rattle.beep_channel.specs.Held.{Live}
+use Rattle.beep_standing.specs.beep_frame.specs.declared.head.Head.{Head}
+use Rattle.beep_standing.specs.beep_frame.specs.declared.rule.Rule.{Rule}
+use Rattle.beep_standing.specs.beep_frame.specs.declared.seq.Seq.{Seq}
+use Rattle.beep_standing.specs.beep_frame.specs.declared.limits.TheConstants.{MAX_PAYLOAD}
+use Rattle.beep_standing.specs.beep_frame.specs.Frame.{Frame, framed, seq_frame, IsFrame, IsSeq}
+use Rattle.beep_standing.specs.beep_frame.specs.Spelling.{header, seq_line, line_end, spelling}
+use Rattle.beep_standing.specs.beep_frame.specs.Line.{at_head, at_seq}
+use Rattle.beep_standing.specs.beep_frame.proofs.AliveLemmas.{unfinished_header}
+use Rattle.beep_standing.specs.beep_frame.proofs.LawLemmas.{not_whole, length-seq_line}
+use Rattle.beep_standing.specs.beep_frame.proofs.StreamLemmas.{same_line}
+use Rattle.beep_standing.specs.beep_frame.specs.Stream.{Stream, IsUnfinished, HasNoHead, IsHeadOf, BreaksBy}
+use Rattle.beep_standing.specs.beep_frame.specs.Modulo.{modulo_2_64}
+use Rattle.beep_standing.specs.beep_frame.specs.Decoding.{DecoderState, WasFed}
+use Rattle.beep_standing.specs.beep_frame.specs.Decodes.{GivesHead, GivesFrame, GivesSeq, Breaks as DecoderBreaks}
+use Rattle.beep_standing.specs.beep_frame.specs.Fed.{fed_of}
+use Rattle.beep_standing.specs.beep_history.specs.declared.journal.Side.{Side}
+use Rattle.beep_standing.specs.beep_history.specs.Journal.{Item, began, passed, told}
+use Rattle.beep_standing.specs.beep_history.specs.Marks.{marks, mark_modulo_2_64}
+use Rattle.beep_standing.specs.beep_history.specs.Broken.{under_way}
+use Rattle.beep_standing.specs.beep_journal.specs.Zero.{zero_history, gathered}
+use Rattle.beep_standing.specs.beep_journal.specs.Broken.{none_tunes, broken_head, broken_seq}
+use Rattle.beep_standing.specs.beep_journal.specs.Journal.{Past, spelled, fault_at, begins, seq_ends, TakesOctet}
+use Rattle.beep_standing.specs.beep_journal.proofs.JournalLemmas.{above-zero}
+use Rattle.beep_standing.specs.beep_channel.specs.Held.{Live}
 use Rattle.beep_standing.specs.Standing.{Marks, AreLiveBy}
 use Rattle.beep_hearing.specs.Gathered.{Gathered}
 use Rattle.beep_hearing.specs.declared.ear.Ear.{Ear}

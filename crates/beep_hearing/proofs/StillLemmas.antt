@@ -1,14 +1,14 @@
 -- A message of channel zero that is no RPY grants nothing, so that it moves no life.
 use Rattle.std.proofs.Common.{◌≡◌, ℕ, ◌==◌, Bool, true, false, not, ◌&&◌, List, [], ◌∷◌, Some, refl, sym, subst, ◌∙◌}
 use Rattle.std.proofs.Math.Logic.{∥∥₁_map}
-use Rattle.beep_frame.specs.declared.head.Head.{Head}
-use Rattle.beep_frame.specs.declared.kind.Kind.{Kind}
-use Rattle.beep_frame.specs.Frame.{same_kind}
-use Rattle.beep_history.specs.declared.journal.Side.{Side}
-use Rattle.beep_history.specs.Journal.{Item, passed, other}
-use Rattle.beep_history.specs.Marks.{position_of}
-use Rattle.beep_journal.specs.Zero.{zero_history, said_to, events}
-use Rattle.beep_channel.specs.Held.{Live}
+use Rattle.beep_standing.specs.beep_frame.specs.declared.head.Head.{Head}
+use Rattle.beep_standing.specs.beep_frame.specs.declared.kind.Kind.{Kind}
+use Rattle.beep_standing.specs.beep_frame.specs.Frame.{same_kind}
+use Rattle.beep_standing.specs.beep_history.specs.declared.journal.Side.{Side}
+use Rattle.beep_standing.specs.beep_history.specs.Journal.{Item, passed, other}
+use Rattle.beep_standing.specs.beep_history.specs.Marks.{position_of}
+use Rattle.beep_standing.specs.beep_journal.specs.Zero.{zero_history, said_to, events}
+use Rattle.beep_standing.specs.beep_channel.specs.Held.{Live}
 use Rattle.beep_standing.specs.Standing.{Marks}
 use Rattle.beep_standing.specs.Moving.{MovesNone, GrantedWhere, is_grant}
 use Rattle.beep_standing.proofs.LivesLemmas.{lives-stay}

@@ -3,23 +3,23 @@ use Rattle.std.proofs.Common.{◌≡◌, ℕ, ◌+◌, ◌-◌, ◌<◌, ◌==�
 use Rattle.std.specs.Prelude.{drop}
 use Rattle.std.proofs.lemmas.List.{length-take, length-drop}
 use Rattle.std.proofs.lemmas.Bool.Decides.{nat_tests}
-use Rattle.beep_frame.specs.declared.head.Head.{Head}
-use Rattle.beep_frame.specs.Frame.{Frame, framed, seq_frame, IsFrame}
-use Rattle.beep_frame.specs.Spelling.{header, header_line, line_end, seq_line, spelling, trailer}
-use Rattle.beep_frame.specs.Stream.{IsUnfinished}
-use Rattle.beep_frame.specs.Modulo.{modulo_2_64}
-use Rattle.beep_frame.specs.Decoding.{DecoderState, WasFed}
-use Rattle.beep_frame.specs.Fed.{fed_of}
-use Rattle.beep_frame.proofs.LawLemmas.{means, length-header_line, length-seq_line}
-use Rattle.beep_text.specs.declared.limits.TheConstants.{MAX_TEXT}
-use Rattle.beep_text.specs.Said.{element_said}
-use Rattle.beep_mgmt.specs.Message.{message_said}
-use Rattle.beep_inbox.specs.declared.part.Part.{Part}
-use Rattle.beep_inbox.specs.Runs.{Run, octets_of, left_runs}
-use Rattle.beep_inbox.specs.Untaken.{IsTaken}
-use Rattle.beep_channel.specs.Held.{Live}
-use Rattle.beep_lives.specs.Lives.{live_at}
-use Rattle.beep_lives.specs.Edits.{Edits, Takes}
+use Rattle.beep_standing.specs.beep_frame.specs.declared.head.Head.{Head}
+use Rattle.beep_standing.specs.beep_frame.specs.Frame.{Frame, framed, seq_frame, IsFrame}
+use Rattle.beep_standing.specs.beep_frame.specs.Spelling.{header, header_line, line_end, seq_line, spelling, trailer}
+use Rattle.beep_standing.specs.beep_frame.specs.Stream.{IsUnfinished}
+use Rattle.beep_standing.specs.beep_frame.specs.Modulo.{modulo_2_64}
+use Rattle.beep_standing.specs.beep_frame.specs.Decoding.{DecoderState, WasFed}
+use Rattle.beep_standing.specs.beep_frame.specs.Fed.{fed_of}
+use Rattle.beep_standing.specs.beep_frame.proofs.LawLemmas.{means, length-header_line, length-seq_line}
+use Rattle.beep_standing.specs.beep_text.specs.declared.limits.TheConstants.{MAX_TEXT}
+use Rattle.beep_standing.specs.beep_text.specs.Said.{element_said}
+use Rattle.beep_standing.specs.beep_mgmt.specs.Message.{message_said}
+use Rattle.beep_standing.specs.beep_inbox.specs.declared.part.Part.{Part}
+use Rattle.beep_standing.specs.beep_inbox.specs.Runs.{Run, octets_of, left_runs}
+use Rattle.beep_standing.specs.beep_inbox.specs.Untaken.{IsTaken}
+use Rattle.beep_standing.specs.beep_channel.specs.Held.{Live}
+use Rattle.beep_standing.specs.beep_lives.specs.Lives.{live_at}
+use Rattle.beep_standing.specs.beep_lives.specs.Edits.{Edits, Takes}
 use Rattle.beep_hearing.specs.Hears.{kept_text}
 use Rattle.beep_hearing.specs.Left.{untaken_of}
 

@@ -1,16 +1,16 @@
 -- The frame of channel zero that waits: that it may pass, and what it leaves once it has passed.
 use Rattle.std.proofs.Common.{◌≡◌, ℕ, ◌+◌, ◌-◌, ◌<◌, ◌≤◌, true, List, [], ◌∷◌, ◌++◌, length, Option, None, Some, refl, sym, ap, subst, ◌∙◌, append-nil, arith, length-append, eqb-true}
 use Rattle.std.proofs.Math.Logic.{∥∥₁_map}
-use Rattle.beep_frame.specs.declared.head.Head.{Head}
-use Rattle.beep_frame.specs.Frame.{framed}
-use Rattle.beep_frame.specs.Spelling.{header, spelling}
-use Rattle.beep_frame.specs.Modulo.{modulo_2_64}
-use Rattle.beep_history.specs.declared.journal.Side.{Side}
-use Rattle.beep_history.specs.Journal.{Item, passed}
-use Rattle.beep_journal.specs.Zero.{zero_history, gathered}
-use Rattle.beep_journal.specs.Journal.{spelled}
-use Rattle.beep_channel.specs.Held.{Live}
-use Rattle.beep_lives.specs.Lives.{live_at, receiving_of}
+use Rattle.beep_standing.specs.beep_frame.specs.declared.head.Head.{Head}
+use Rattle.beep_standing.specs.beep_frame.specs.Frame.{framed}
+use Rattle.beep_standing.specs.beep_frame.specs.Spelling.{header, spelling}
+use Rattle.beep_standing.specs.beep_frame.specs.Modulo.{modulo_2_64}
+use Rattle.beep_standing.specs.beep_history.specs.declared.journal.Side.{Side}
+use Rattle.beep_standing.specs.beep_history.specs.Journal.{Item, passed}
+use Rattle.beep_standing.specs.beep_journal.specs.Zero.{zero_history, gathered}
+use Rattle.beep_standing.specs.beep_journal.specs.Journal.{spelled}
+use Rattle.beep_standing.specs.beep_channel.specs.Held.{Live}
+use Rattle.beep_standing.specs.beep_lives.specs.Lives.{live_at, receiving_of}
 use Rattle.beep_standing.specs.Standing.{Marks}
 use Rattle.beep_standing.proofs.ArriveLemmas.{is-each}
 use Rattle.beep_hearing.specs.Gathered.{Gathered}

@@ -2,10 +2,10 @@
 -- what callers know of an ear.
 -- The code goes from step to step of its decoder; here no step appears but the last.
 use Rattle.std.specs.Prelude.{◌≡◌, ℕ, Bool, true, false, List, Option, None, Some}
-use Rattle.beep_frame.specs.declared.head.Head.{Head}
-use Rattle.beep_frame.specs.declared.rule.Rule.{Rule}
-use Rattle.beep_history.specs.Journal.{Item}
-use Rattle.beep_channel.specs.Held.{Live}
+use Rattle.beep_standing.specs.beep_frame.specs.declared.head.Head.{Head}
+use Rattle.beep_standing.specs.beep_frame.specs.declared.rule.Rule.{Rule}
+use Rattle.beep_standing.specs.beep_history.specs.Journal.{Item}
+use Rattle.beep_standing.specs.beep_channel.specs.Held.{Live}
 use Rattle.beep_standing.specs.Standing.{Marks}
 use Rattle.beep_hearing.specs.declared.heard.Heard.{Heard}
 use Rattle.beep_hearing.specs.declared.stopped.Stopped.{Stopped}

@@ -4,25 +4,25 @@
 -- less than a frame.
 use Rattle.std.specs.Prelude.{◌≡◌, ℕ, ◌+◌, ◌<◌, ◌≤◌, ◌==◌, nat_le, if◌then◌else◌, Bool, true, false, not, ◌&&◌, List, [], ◌∷◌, ◌++◌, length, map, None, Some, is_some, IfSome}
 use Rattle.std.specs.List.{list_any}
-use Rattle.beep_text.specs.declared.limits.TheConstants.{MAX_TEXT}
-use Rattle.beep_frame.specs.declared.head.Head.{Head}
-use Rattle.beep_frame.specs.declared.rule.Rule.{Rule}
-use Rattle.beep_frame.specs.declared.limits.TheConstants.{MAX_PAYLOAD}
-use Rattle.beep_frame.specs.Frame.{Frame, framed, IsHead, IsFrame, IsSeq}
-use Rattle.beep_frame.specs.Spelling.{spelling}
-use Rattle.beep_frame.specs.Stream.{IsUnfinished, IsHeadOf}
-use Rattle.beep_frame.specs.Modulo.{modulo_2_64}
-use Rattle.beep_frame.specs.Decoding.{DecoderState, WasFed}
-use Rattle.beep_frame.specs.Fed.{fed_of}
-use Rattle.beep_history.specs.declared.journal.Side.{Side}
-use Rattle.beep_history.specs.Journal.{Item, began, passed, told}
-use Rattle.beep_history.specs.Marks.{marks, mark_modulo_2_64, previous}
-use Rattle.beep_history.specs.Broken.{under_way}
-use Rattle.beep_journal.specs.Zero.{zero_history, gathered}
-use Rattle.beep_journal.specs.Broken.{none_tunes, broken_head, broken_seq}
-use Rattle.beep_journal.specs.Journal.{Past, spelled, fault_at, TakesOctet}
-use Rattle.beep_lives.specs.Lives.{live_at, numbers}
-use Rattle.beep_channel.specs.Held.{Live, HasRoomOut}
+use Rattle.beep_standing.specs.beep_text.specs.declared.limits.TheConstants.{MAX_TEXT}
+use Rattle.beep_standing.specs.beep_frame.specs.declared.head.Head.{Head}
+use Rattle.beep_standing.specs.beep_frame.specs.declared.rule.Rule.{Rule}
+use Rattle.beep_standing.specs.beep_frame.specs.declared.limits.TheConstants.{MAX_PAYLOAD}
+use Rattle.beep_standing.specs.beep_frame.specs.Frame.{Frame, framed, IsHead, IsFrame, IsSeq}
+use Rattle.beep_standing.specs.beep_frame.specs.Spelling.{spelling}
+use Rattle.beep_standing.specs.beep_frame.specs.Stream.{IsUnfinished, IsHeadOf}
+use Rattle.beep_standing.specs.beep_frame.specs.Modulo.{modulo_2_64}
+use Rattle.beep_standing.specs.beep_frame.specs.Decoding.{DecoderState, WasFed}
+use Rattle.beep_standing.specs.beep_frame.specs.Fed.{fed_of}
+use Rattle.beep_standing.specs.beep_history.specs.declared.journal.Side.{Side}
+use Rattle.beep_standing.specs.beep_history.specs.Journal.{Item, began, passed, told}
+use Rattle.beep_standing.specs.beep_history.specs.Marks.{marks, mark_modulo_2_64, previous}
+use Rattle.beep_standing.specs.beep_history.specs.Broken.{under_way}
+use Rattle.beep_standing.specs.beep_journal.specs.Zero.{zero_history, gathered}
+use Rattle.beep_standing.specs.beep_journal.specs.Broken.{none_tunes, broken_head, broken_seq}
+use Rattle.beep_standing.specs.beep_journal.specs.Journal.{Past, spelled, fault_at, TakesOctet}
+use Rattle.beep_standing.specs.beep_lives.specs.Lives.{live_at, numbers}
+use Rattle.beep_standing.specs.beep_channel.specs.Held.{Live, HasRoomOut}
 use Rattle.beep_standing.specs.Standing.{Marks, AreLive, AreLiveBy}
 use Rattle.beep_hearing.specs.Gathered.{Gathered}
 use Rattle.beep_hearing.specs.declared.ear.Ear.{Ear}

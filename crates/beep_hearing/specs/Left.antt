@@ -1,18 +1,18 @@
 -- What the steps of a feed need and leave: for proofs.
 use Rattle.std.specs.Prelude.{◌≡◌, ℕ, ◌+◌, ◌-◌, ◌<◌, true, List, [], ◌∷◌, ◌++◌, length, Option, None, Some, IfSome, is_some}
-use Rattle.beep_octets.specs.Numbers.{numbers_64}
-use Rattle.beep_frame.specs.declared.head.Head.{Head}
-use Rattle.beep_frame.specs.declared.rule.Rule.{Rule}
-use Rattle.beep_frame.specs.Frame.{Frame, framed}
-use Rattle.beep_frame.specs.Modulo.{modulo_2_64}
-use Rattle.beep_frame.specs.Decoding.{WasFed}
-use Rattle.beep_frame.specs.Fed.{fed_of}
-use Rattle.beep_inbox.specs.Runs.{octets_of}
-use Rattle.beep_channel.specs.Held.{Live}
-use Rattle.beep_lives.specs.Lives.{live_at, receiving_of}
+use Rattle.beep_standing.specs.beep_octets.specs.Numbers.{numbers_64}
+use Rattle.beep_standing.specs.beep_frame.specs.declared.head.Head.{Head}
+use Rattle.beep_standing.specs.beep_frame.specs.declared.rule.Rule.{Rule}
+use Rattle.beep_standing.specs.beep_frame.specs.Frame.{Frame, framed}
+use Rattle.beep_standing.specs.beep_frame.specs.Modulo.{modulo_2_64}
+use Rattle.beep_standing.specs.beep_frame.specs.Decoding.{WasFed}
+use Rattle.beep_standing.specs.beep_frame.specs.Fed.{fed_of}
+use Rattle.beep_standing.specs.beep_inbox.specs.Runs.{octets_of}
+use Rattle.beep_standing.specs.beep_channel.specs.Held.{Live}
+use Rattle.beep_standing.specs.beep_lives.specs.Lives.{live_at, receiving_of}
 use Rattle.beep_hearing.specs.declared.heard.Heard.{Heard}
 use Rattle.beep_hearing.specs.declared.ear.Ear.{Ear}
-use Rattle.beep_history.specs.Journal.{Item}
+use Rattle.beep_standing.specs.beep_history.specs.Journal.{Item}
 use Rattle.beep_standing.specs.Standing.{Marks, AreLive}
 use Rattle.beep_hearing.specs.Gathered.{Gathered}
 use Rattle.beep_hearing.specs.Hears.{IsText, SameAbove}

@@ -1,25 +1,25 @@
 //! The received half of a session: a decoder, what waits for its end, and the rule that was broken.
 ghost use Rattle.std.specs.Prelude.{◌≡◌, ℕ, List, [], ◌∷◌, ◌++◌, ◌+◌, ◌-◌, ◌<◌, ◌≤◌, ◌==◌, true, false, length, take, None, Some, Ok, IfOk, OnOk, IfSome, is_some};
-ghost use Rattle.beep_frame.specs.declared.head.Head.{Head as HeadValue};
-ghost use Rattle.beep_frame.specs.declared.rule.Rule.{Rule as RuleValue};
-ghost use Rattle.beep_frame.specs.declared.limits.TheConstants.{MAX_PAYLOAD};
-ghost use Rattle.beep_text.specs.declared.limits.TheConstants.{MAX_TEXT};
-ghost use Rattle.beep_history.specs.declared.journal.Side.{Side};
-ghost use Rattle.beep_history.specs.Journal.{Item, began, passed, told};
-ghost use Rattle.beep_history.specs.Marks.{previous};
-ghost use Rattle.beep_history.specs.Broken.{under_way};
-ghost use Rattle.beep_journal.specs.Broken.{none_tunes, broken_head, broken_seq};
-ghost use Rattle.beep_channel.specs.Held.{Live};
-ghost use Rattle.beep_lives.specs.Lives.{live_at, has_begun};
+ghost use Rattle.beep_standing.specs.beep_frame.specs.declared.head.Head.{Head as HeadValue};
+ghost use Rattle.beep_standing.specs.beep_frame.specs.declared.rule.Rule.{Rule as RuleValue};
+ghost use Rattle.beep_standing.specs.beep_frame.specs.declared.limits.TheConstants.{MAX_PAYLOAD};
+ghost use Rattle.beep_standing.specs.beep_text.specs.declared.limits.TheConstants.{MAX_TEXT};
+ghost use Rattle.beep_standing.specs.beep_history.specs.declared.journal.Side.{Side};
+ghost use Rattle.beep_standing.specs.beep_history.specs.Journal.{Item, began, passed, told};
+ghost use Rattle.beep_standing.specs.beep_history.specs.Marks.{previous};
+ghost use Rattle.beep_standing.specs.beep_history.specs.Broken.{under_way};
+ghost use Rattle.beep_standing.specs.beep_journal.specs.Broken.{none_tunes, broken_head, broken_seq};
+ghost use Rattle.beep_standing.specs.beep_channel.specs.Held.{Live};
+ghost use Rattle.beep_standing.specs.beep_lives.specs.Lives.{live_at, has_begun};
 ghost use Rattle.beep_standing.specs.Standing.{Marks, AreLiveBy};
 
 use crate::hear::{drop_untaken, hear_frame, hear_head, hear_seq};
 use crate::heard::Heard;
 use crate::stopped::Stopped;
 use crate::text::ZeroText;
-use beep_frame::{Decoder, FrameRef, Head, MAX_PAYLOAD, Rule, Seq, Step};
-use beep_lives::Lives;
-use beep_octets::NoMemory;
+use beep_standing::beep_frame::{Decoder, FrameRef, Head, MAX_PAYLOAD, Rule, Seq, Step};
+use beep_standing::beep_lives::Lives;
+use beep_standing::beep_octets::NoMemory;
 use std::alloc::Global;
 
 /// What a session keeps of the octets that it is fed, beside its live channels.
@@ -35,7 +35,7 @@ pub struct Ear {
 }
 
 impl Ear {
-    ghost use Rattle.beep_frame.specs.Modulo.{modulo_2_64};
+    ghost use Rattle.beep_standing.specs.beep_frame.specs.Modulo.{modulo_2_64};
     ghost use Rattle.beep_hearing.specs.declared.heard.Heard.{Heard as HeardValue};
     ghost use Rattle.beep_hearing.specs.declared.stopped.Stopped.{Stopped as StoppedValue};
     ghost use Rattle.beep_hearing.specs.Hears.{Hears, IsEar, Waits, Passes, PassesBy, KeepsOthers, KeepsZeroRoom};

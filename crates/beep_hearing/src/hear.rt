@@ -1,19 +1,19 @@
 //! What a received header, SEQ or frame makes of the live channels, by the journal for which they
 //! stand.
 ghost use Rattle.std.specs.Prelude.{◌≡◌, ℕ, ◌<◌, ◌≤◌, ◌==◌, ◌&&◌, ◌∷◌, List, length, true, false, not, None, Some, is_some, IfSome};
-ghost use Rattle.beep_frame.specs.declared.head.Head.{Head as HeadValue};
-ghost use Rattle.beep_frame.specs.declared.limits.TheConstants.{MAX_PAYLOAD};
-ghost use Rattle.beep_history.specs.declared.journal.Side.{Side};
-ghost use Rattle.beep_history.specs.Journal.{Item, began, passed, told};
-ghost use Rattle.beep_history.specs.Marks.{previous};
-ghost use Rattle.beep_history.specs.Broken.{under_way};
-ghost use Rattle.beep_journal.specs.Broken.{none_tunes, broken_head, broken_seq, is_greeting, breaks_zero_reply};
-ghost use Rattle.beep_lives.specs.Lives.{live_at, has_begun, receiving_of};
+ghost use Rattle.beep_standing.specs.beep_frame.specs.declared.head.Head.{Head as HeadValue};
+ghost use Rattle.beep_standing.specs.beep_frame.specs.declared.limits.TheConstants.{MAX_PAYLOAD};
+ghost use Rattle.beep_standing.specs.beep_history.specs.declared.journal.Side.{Side};
+ghost use Rattle.beep_standing.specs.beep_history.specs.Journal.{Item, began, passed, told};
+ghost use Rattle.beep_standing.specs.beep_history.specs.Marks.{previous};
+ghost use Rattle.beep_standing.specs.beep_history.specs.Broken.{under_way};
+ghost use Rattle.beep_standing.specs.beep_journal.specs.Broken.{none_tunes, broken_head, broken_seq, is_greeting, breaks_zero_reply};
+ghost use Rattle.beep_standing.specs.beep_lives.specs.Lives.{live_at, has_begun, receiving_of};
 ghost use Rattle.beep_standing.specs.Standing.{Marks, AreLive, AreLiveBy};
 ghost use Rattle.beep_hearing.specs.Hears.{Passes, KeepsOthers, KeepsZeroRoom};
 
-use beep_frame::{Head, Kind, Rule, Seq};
-use beep_lives::Lives;
+use beep_standing::beep_frame::{Head, Kind, Rule, Seq};
+use beep_standing::beep_lives::Lives;
 
 /// The octets of channel zero that are dropped at once.
 const PIECE: usize = 4096;

@@ -1,6 +1,6 @@
 //! What a feed answers.
 
-use beep_frame::{Head, Rule};
+use beep_standing::beep_frame::{Head, Rule};
 
 /// What came of the octets that a feed used.
 #[derive(Clone, Copy, Debug, PartialEq, Eq)]

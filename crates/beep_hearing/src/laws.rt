@@ -1,11 +1,11 @@
 //! What an ear and the live channels stand for at first, and what the text that is kept of channel
 //! zero says: each function does nothing, and its contract is the fact.
 ghost use Rattle.std.specs.Prelude.{◌≡◌, ℕ, List, []};
-ghost use Rattle.beep_channel.specs.Held.{Live};
-ghost use Rattle.beep_lives.specs.Edits.{AreNew};
+ghost use Rattle.beep_standing.specs.beep_channel.specs.Held.{Live};
+ghost use Rattle.beep_standing.specs.beep_lives.specs.Edits.{AreNew};
 ghost use Rattle.beep_standing.specs.Standing.{no_marks};
 ghost use Rattle.beep_hearing.specs.declared.ear.Ear.{Ear};
-ghost use Rattle.beep_mgmt.specs.Message.{message_said};
+ghost use Rattle.beep_standing.specs.beep_mgmt.specs.Message.{message_said};
 ghost use Rattle.beep_hearing.specs.Hears.{Hears, IsEar, kept_text};
 ghost use Rattle.beep_hearing.specs.Answers.{IsReached};
 

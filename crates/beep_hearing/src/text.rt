@@ -2,10 +2,10 @@
 //!
 //! All of its octets are kept, until there are more than can be read: from then on none are.
 ghost use Rattle.std.specs.Prelude.{◌≡◌, ◌≤◌, ℕ, List, [], length, IfOk};
-ghost use Rattle.beep_text.specs.declared.limits.TheConstants.{MAX_TEXT};
+ghost use Rattle.beep_standing.specs.beep_text.specs.declared.limits.TheConstants.{MAX_TEXT};
 
-use beep_octets::{NoMemory, Octets};
-use beep_text::MAX_TEXT;
+use beep_standing::beep_octets::{NoMemory, Octets};
+use beep_standing::beep_text::MAX_TEXT;
 use std::alloc::Global;
 use std::marker::Model;
 
@@ -19,7 +19,7 @@ pub struct ZeroText {
 
 impl Model for ZeroText {
     ghost use Rattle.std.specs.Prelude.{◌≤◌, length};
-    ghost use Rattle.beep_text.specs.declared.limits.TheConstants.{MAX_TEXT};
+    ghost use Rattle.beep_standing.specs.beep_text.specs.declared.limits.TheConstants.{MAX_TEXT};
     ghost use Rattle.beep_hearing.specs.Gathered.{Gathered};
 
     ghost Value = { Gathered };

@@ -40,9 +40,9 @@ module _ (S T : List Entry → List ℕ → Type 0) (octets : List ℕ) (gathers
       subst P (sym p) (stops (more ++ old) rest (stands-writes T law more old front rest h (subst (T old) e (gathers old s))))
 
 -- what holds of one log holds of the other
-pub told-map : (P Q : List Entry → Type 0) → ((log : List Entry) → P log → Q log) → (log : Option (List Entry)) → WhereKnown P log → WhereKnown Q log
-told-map P Q f None s = tt
-told-map P Q f (Some log) s = f log s
+pub known-map : (P Q : List Entry → Type 0) → ((log : List Entry) → P log → Q log) → (log : Option (List Entry)) → WhereKnown P log → WhereKnown Q log
+known-map P Q f None s = tt
+known-map P Q f (Some log) s = f log s
 
 -- one entry more is on the log
 pub entered : (P Q : List Entry → Type 0) (entry : Entry) → ((log : List Entry) → P log → Q (entry ∷ log)) → (old new : Option (List Entry)) → Logs old new (entry ∷ []) → WhereKnown P old → WhereKnown Q new
@@ -66,9 +66,9 @@ known-then P R f (Some old) None more l s = absurd l
 known-then P R f (Some old) (Some new) more l s = f old s
 
 -- an empty log stands as such
-pub told-empty : (P : List Entry → Type 0) (log : Option (List Entry)) → P [] → (log ≡ None) ⊎ (log ≡ Some []) → WhereKnown P log
-told-empty P log p (inl e) = subst (WhereKnown P) (sym e) tt
-told-empty P log p (inr e) = subst (WhereKnown P) (sym e) p
+pub known-empty : (P : List Entry → Type 0) (log : Option (List Entry)) → P [] → (log ≡ None) ⊎ (log ≡ Some []) → WhereKnown P log
+known-empty P log p (inl e) = subst (WhereKnown P) (sym e) tt
+known-empty P log p (inr e) = subst (WhereKnown P) (sym e) p
 
 -- ---- what was written to the output
 
@@ -142,9 +142,9 @@ reads-grown P (Some old) None (more, octets, logs, writes) r = absurd logs
 reads-grown P (Some old) (Some new) (more, octets, logs, writes) r = subst (ReadsWhere P) (sym logs) (reads-after P more old octets writes r)
 
 -- what holds of a log and what holds of it hold together
-pub told-pair : (P Q : List Entry → Type 0) (log : Option (List Entry)) → WhereKnown P log → WhereKnown Q log → WhereKnown (λ l. P l × Q l) log
-told-pair P Q None p q = tt
-told-pair P Q (Some log) p q = (p, q)
+pub known-pair : (P Q : List Entry → Type 0) (log : Option (List Entry)) → WhereKnown P log → WhereKnown Q log → WhereKnown (λ l. P l × Q l) log
+known-pair P Q None p q = tt
+known-pair P Q (Some log) p q = (p, q)
 
 -- what holds wherever was read holds there of the other
 pub reads-map : (P Q : List Entry → Type 0) → ((log : List Entry) → P log → Q log) → (log : List Entry) → ReadsWhere P log → ReadsWhere Q log

@@ -1,2 +1,4 @@
 -- What public clauses cite.
 pub mod Causes
+-- Crates below, which are named through this one.
+pub use Rattle.beep_wires

@@ -19,3 +19,7 @@ pub use ended::{Ended, Stop};
 pub use left::Reads;
 pub use say::ROUNDS;
 pub use turns::run_turns;
+
+// Crates below, which are named through this one.
+pub use beep_memory;
+pub use beep_wires;

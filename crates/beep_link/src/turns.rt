@@ -29,7 +29,7 @@ pub fn run_turns<E: End, W: Wires, O: Sink>(
         (record { link = W.state wires.old link; quiets = (W.counts wires.old).quiets })
         (record { link = W.state wires.new link; quiets = (W.counts wires.new).quiets }) }
     ensures written { IsWritten result (O.state output.old).faults (O.state output.new).faults }
-    ensures told { E.stands end.old [] [] [] → WhereKnown (λ log.
+    ensures shown { E.stands end.old [] [] [] → WhereKnown (λ log.
         WithText (O.state output.old).written (O.state output.new).written
         (E.tells (E.terms end.old) result log)) (W.state wires.new link).log }
 
@@ -81,7 +81,7 @@ fn turn<E: End, W: Wires, O: Sink>(
 ) -> Result<(), Ended>
     requires open { (W.state wires.old link).is_open ≡ true }
     requires going { (W.state wires.old link).has_ended ≡ false }
-    requires told { TellsLeft reads left.old (W.state wires.old link).log }
+    requires shown { TellsLeft reads left.old (W.state wires.old link).log }
     requires buffer { vec_len buffers.old.coming ≡ BUFFER }
     requires empty { buffers.old.going.octets ≡ [] }
     ensures stands { (before : Option (List ℕ)) → WhereKnown (λ log. WithText before
@@ -101,7 +101,7 @@ fn turn<E: End, W: Wires, O: Sink>(
         × E.tells (E.terms end.old) (EndedValue.Idle 0) log text)) (W.state wires.new link).log }
     ensures going { OnOk result ((W.state wires.new link).has_ended ≡ false) }
     ensures falls { OnOk result (reads_left reads left.new < reads_left reads left.old) }
-    ensures told { OnOk result (TellsLeft reads left.new (W.state wires.new link).log) }
+    ensures shown { OnOk result (TellsLeft reads left.new (W.state wires.new link).log) }
     ensures bounded { IsBounded reads (W.state wires.new link).log }
     ensures counted { (before : ℕ) → CountsQuiet before left.old (W.counts wires.old).quiets
         → OnOk result (CountsQuiet before left.new (W.counts wires.new).quiets) }

@@ -2,33 +2,33 @@
 use Rattle.std.proofs.Common.{◌≡◌, ◌∙◌, refl, sym, ap, subst, ℕ, ◌<◌, ◌^◌, ◌==◌, Bool, true, false, not, ◌&&◌, if◌then◌else◌, List, [], ◌∷◌, ◌++◌, map, flat_map, append-nil, append_assoc, arith}
 use Rattle.std.proofs.lemmas.List.{map-append}
 use Rattle.std.proofs.lemmas.Grind.{flat_map-append}
-use Rattle.beep_frame.specs.declared.head.Head.{Head}
-use Rattle.beep_frame.specs.declared.kind.Kind.{Kind}
-use Rattle.beep_frame.specs.declared.tag.Tag.{Tag}
-use Rattle.beep_frame.specs.Frame.{is_ans, same_kind}
-use Rattle.beep_history.specs.declared.journal.Side.{Side}
-use Rattle.beep_history.specs.Journal.{Item, passed}
-use Rattle.beep_history.specs.Marks.{Mark, octet, end, marks, frame_marks, tag_of, position_of, mark_modulo_2_64, modulo_2_64}
-use Rattle.beep_history.specs.Messages.{same_tag, left_from, cut_from}
-use Rattle.beep_journal.specs.Lives.{lives}
-use Rattle.beep_journal.specs.Zero.{events}
-use Rattle.beep_journal.specs.Life.{history, is_there, life, life_now, life_under_way}
-use Rattle.beep_journal.proofs.JournalLemmas.{above-there, above-others}
-use Rattle.beep_journal.proofs.MomentLemmas.{same-number, equal-number}
-use Rattle.beep_inbox.specs.Runs.{marks_with}
-use Rattle.beep_speaking.specs.declared.emit.Emit.{Emit}
+use Rattle.beep_steps.specs.beep_frame.specs.declared.head.Head.{Head}
+use Rattle.beep_steps.specs.beep_frame.specs.declared.kind.Kind.{Kind}
+use Rattle.beep_steps.specs.beep_frame.specs.declared.tag.Tag.{Tag}
+use Rattle.beep_steps.specs.beep_frame.specs.Frame.{is_ans, same_kind}
+use Rattle.beep_steps.specs.beep_history.specs.declared.journal.Side.{Side}
+use Rattle.beep_steps.specs.beep_history.specs.Journal.{Item, passed}
+use Rattle.beep_steps.specs.beep_history.specs.Marks.{Mark, octet, end, marks, frame_marks, tag_of, position_of, mark_modulo_2_64, modulo_2_64}
+use Rattle.beep_steps.specs.beep_history.specs.Messages.{same_tag, left_from, cut_from}
+use Rattle.beep_steps.specs.beep_journal.specs.Lives.{lives}
+use Rattle.beep_steps.specs.beep_journal.specs.Zero.{events}
+use Rattle.beep_steps.specs.beep_journal.specs.Life.{history, is_there, life, life_now, life_under_way}
+use Rattle.beep_steps.specs.beep_journal.proofs.JournalLemmas.{above-there, above-others}
+use Rattle.beep_steps.specs.beep_journal.proofs.MomentLemmas.{same-number, equal-number}
+use Rattle.beep_steps.specs.beep_inbox.specs.Runs.{marks_with}
+use Rattle.beep_steps.specs.beep_speaking.specs.declared.emit.Emit.{Emit}
 use Rattle.beep_lines.specs.declared.bodies.Body.{Body}
 use Rattle.beep_lines.specs.Bodies.{body_of}
 use Rattle.beep_lines.specs.Lines.{lines_of}
-use Rattle.beep_talk.specs.Plan.{PlainPlan}
-use Rattle.beep_talk.specs.Talk.{has_profile}
-use Rattle.beep_mime.specs.Split.{body_of as body_of_message}
-use Rattle.prof_raw.specs.Entries.{entries_of}
-use Rattle.prof_raw.specs.Line.{line_of}
-use Rattle.beep_script.specs.Lines.{lines, heard, heard_at, ends_answer, entries_in, content_with}
+use Rattle.beep_steps.specs.beep_talk.specs.Plan.{PlainPlan}
+use Rattle.beep_steps.specs.beep_talk.specs.Talk.{has_profile}
+use Rattle.beep_steps.specs.beep_mime.specs.Split.{body_of as body_of_message}
+use Rattle.beep_steps.specs.prof_raw.specs.Entries.{entries_of}
+use Rattle.beep_steps.specs.prof_raw.specs.Line.{line_of}
+use Rattle.beep_steps.specs.beep_script.specs.Lines.{lines, heard, heard_at, ends_answer, entries_in, content_with}
 use Rattle.beep_steps.specs.Steps.{Says, arrived_marks}
 use Rattle.beep_listener.specs.Listening.{IsServed, ServedAt, AreGathered, ArePruned, Gathers, Takes, so_far, first_answer}
-use Rattle.beep_history.proofs.MessagesLemmas.{marks-left}
+use Rattle.beep_steps.specs.beep_history.proofs.MessagesLemmas.{marks-left}
 use Rattle.beep_steps.proofs.StepLemmas.{Steps, dead-answer}
 use Rattle.beep_steps.proofs.ArrivedLemmas.{own-marks, turn}
 

@@ -1,20 +1,20 @@
 -- What a listener wrote, as octets come and its session stops.
 use Rattle.std.proofs.Common.{◌≡◌, ◌∙◌, refl, sym, ap, subst, ℕ, ◌==◌, ◌+◌, Bool, true, false, List, [], ◌∷◌, ◌++◌, take, drop, Option, append-nil, append_assoc}
 use Rattle.std.specs.Prelude.{IfErr, OnErr, OnOk, Result, Ok, Err}
-use Rattle.beep_inbox.specs.declared.part.Part.{Part}
-use Rattle.beep_inbox.specs.Laws.{part_marks}
-use Rattle.beep_history.specs.Marks.{Mark}
-use Rattle.beep_journal.specs.Log.{Moment, got_all}
-use Rattle.beep_link.specs.Causes.{ended_by, WithText}
-use Rattle.beep_link.specs.declared.ended.Stop.{Stop}
-use Rattle.beep_link.specs.declared.ended.Ended.{Ended}
-use Rattle.beep_link.proofs.StandLemmas.{text-map, text-more, text-none}
+use Rattle.beep_steps.specs.beep_inbox.specs.declared.part.Part.{Part}
+use Rattle.beep_steps.specs.beep_inbox.specs.Laws.{part_marks}
+use Rattle.beep_steps.specs.beep_history.specs.Marks.{Mark}
+use Rattle.beep_steps.specs.beep_journal.specs.Log.{Moment, got_all}
+use Rattle.beep_steps.specs.beep_link.specs.Causes.{ended_by, WithText}
+use Rattle.beep_steps.specs.beep_link.specs.declared.ended.Stop.{Stop}
+use Rattle.beep_steps.specs.beep_link.specs.declared.ended.Ended.{Ended}
+use Rattle.beep_steps.specs.beep_link.proofs.StandLemmas.{text-map, text-more, text-none}
 use Rattle.beep_lines.specs.declared.bodies.Body.{Body}
 use Rattle.beep_lines.specs.Lines.{GathersAll, GathersSome}
-use Rattle.beep_peer.specs.Peering.{zero_waits}
-use Rattle.beep_session.specs.Session.{Held}
-use Rattle.beep_talk.specs.Plan.{PlainPlan}
-use Rattle.beep_wires.specs.Log.{Entry}
+use Rattle.beep_steps.specs.beep_peer.specs.Peering.{zero_waits}
+use Rattle.beep_steps.specs.beep_session.specs.Session.{Held}
+use Rattle.beep_steps.specs.beep_talk.specs.Plan.{PlainPlan}
+use Rattle.beep_steps.specs.beep_wires.specs.Log.{Entry}
 use Rattle.beep_steps.specs.Logs.{moments, SaysNothing, Shows, StandsOn, StaysOn, WaitsOn}
 use Rattle.beep_steps.specs.Steps.{EndsSo, IsUntaken, TookNone, TookPart}
 use Rattle.beep_steps.proofs.OnLemmas.{got-rest}

@@ -1,22 +1,22 @@
 -- What a listener stands for, as its session goes on.
 use Rattle.std.proofs.Common.{◌≡◌, ◌∙◌, refl, sym, ap, subst, ℕ, ◌==◌, Bool, true, false, not, ◌&&◌, ◌||◌, List, [], ◌∷◌, None}
 use Rattle.std.specs.Prelude.{is_some, IfOk, Result, Ok, Err}
-use Rattle.beep_history.specs.Journal.{opening}
-use Rattle.beep_mgmt.specs.Message.{message_said}
-use Rattle.beep_text.specs.Said.{element_said}
-use Rattle.beep_journal.specs.Lives.{Event, is_live}
-use Rattle.beep_journal.specs.Zero.{zero_events}
-use Rattle.beep_journal.specs.declared.role.Role.{Role}
-use Rattle.beep_journal.specs.Life.{is_there}
-use Rattle.beep_journal.specs.Log.{Moment}
-use Rattle.beep_lives.specs.Lives.{live_at}
-use Rattle.beep_speaking.specs.declared.emit.Emit.{Emit}
-use Rattle.beep_session.specs.Session.{Held}
-use Rattle.beep_session.specs.Lawfully.{terms_of, IsLawfulSession}
-use Rattle.beep_session.specs.declared.limits.Limits.{Limits}
-use Rattle.beep_settings.specs.declared.settings.Settings.{Settings}
-use Rattle.beep_standing.specs.Standing.{Marks, no_marks}
-use Rattle.beep_talk.specs.declared.plan.Command.{Command}
+use Rattle.beep_steps.specs.beep_history.specs.Journal.{opening}
+use Rattle.beep_steps.specs.beep_mgmt.specs.Message.{message_said}
+use Rattle.beep_steps.specs.beep_text.specs.Said.{element_said}
+use Rattle.beep_steps.specs.beep_journal.specs.Lives.{Event, is_live}
+use Rattle.beep_steps.specs.beep_journal.specs.Zero.{zero_events}
+use Rattle.beep_steps.specs.beep_journal.specs.declared.role.Role.{Role}
+use Rattle.beep_steps.specs.beep_journal.specs.Life.{is_there}
+use Rattle.beep_steps.specs.beep_journal.specs.Log.{Moment}
+use Rattle.beep_steps.specs.beep_lives.specs.Lives.{live_at}
+use Rattle.beep_steps.specs.beep_speaking.specs.declared.emit.Emit.{Emit}
+use Rattle.beep_steps.specs.beep_session.specs.Session.{Held}
+use Rattle.beep_steps.specs.beep_session.specs.Lawfully.{terms_of, IsLawfulSession}
+use Rattle.beep_steps.specs.beep_session.specs.declared.limits.Limits.{Limits}
+use Rattle.beep_steps.specs.beep_settings.specs.declared.settings.Settings.{Settings}
+use Rattle.beep_steps.specs.beep_standing.specs.Standing.{Marks, no_marks}
+use Rattle.beep_steps.specs.beep_talk.specs.declared.plan.Command.{Command}
 use Rattle.beep_lines.specs.declared.bodies.Body.{Body}
 use Rattle.beep_steps.specs.Ends.{limits_of}
 use Rattle.beep_steps.specs.Logs.{StandsOn, StaysOn, terms_by}
@@ -26,7 +26,7 @@ use Rattle.beep_listener.specs.Pruning.{HasPruned, has_life}
 use Rattle.beep_steps.proofs.StepLemmas.{said-steps, said-there}
 use Rattle.beep_listener.proofs.GatherLemmas.{gathers-steps, pruned-there, said-served}
 use Rattle.beep_steps.proofs.GoLemmas.{same-journal}
-use Rattle.beep_logged.proofs.ReadLemmas.{first-logged}
+use Rattle.beep_steps.specs.beep_logged.proofs.ReadLemmas.{first-logged}
 use Rattle.beep_steps.proofs.TakenLemmas.{from-all}
 
 -- the same plan

@@ -2,7 +2,7 @@
 use Rattle.std.proofs.Common.{◌≡◌, ℕ, Bool, ◌&&◌, suc, zero, nat_lt, true, false, List, [], ◌∷◌, chars, IsAscii, refl, ap, ◌∙◌, arith, ltb-true}
 use Rattle.std.specs.List.{list_all}
 use Rattle.std.proofs.lemmas.Str.{chars-IsAscii}
-use Rattle.beep_chars.specs.Characters.{is_allowed}
+use Rattle.beep_steps.specs.beep_chars.specs.Characters.{is_allowed}
 
 left_of : (a b : Bool) → (a && b) ≡ true → a ≡ true
 left_of true b e = refl

@@ -3,34 +3,34 @@ use Rattle.std.proofs.Common.{◌≡◌, ◌∙◌, refl, sym, ap, subst, ℕ, s
 use Rattle.std.specs.Prelude.{is_some, nat_lt, ◌||◌, OnErr, Result, Ok, Err}
 use Rattle.std.proofs.lemmas.Grind.{flat_map-append}
 use Rattle.std.proofs.lemmas.Bool.Decides.{nat_tests}
-use Rattle.beep_frame.specs.declared.head.Head.{Head}
-use Rattle.beep_frame.specs.declared.tag.Tag.{Tag}
-use Rattle.beep_history.specs.declared.journal.Side.{Side}
-use Rattle.beep_history.specs.Journal.{Item, passed}
-use Rattle.beep_history.specs.Marks.{Mark, octet, end, marks, frame_marks, tag_of, mark_modulo_2_64, modulo_2_64}
-use Rattle.beep_history.specs.Moments.{mark_tag}
-use Rattle.beep_history.specs.Messages.{same_tag, left_from, cut_from}
-use Rattle.beep_inbox.specs.declared.part.Part.{Part}
-use Rattle.beep_inbox.specs.Laws.{part_marks}
-use Rattle.beep_inbox.specs.Runs.{AllMarked, Run, marks_of, marks_with}
-use Rattle.beep_journal.specs.Broken.{none_tunes}
-use Rattle.beep_journal.specs.Journal.{Past}
-use Rattle.beep_journal.specs.Life.{history, is_released, is_there, life_now, life_under_way}
-use Rattle.beep_journal.specs.Log.{Moment}
-use Rattle.beep_journal.proofs.JournalLemmas.{above-there}
-use Rattle.beep_journal.proofs.MomentLemmas.{equal-number, same-number}
-use Rattle.beep_journal.proofs.ShownLemmas.{one-shown}
-use Rattle.beep_channel.specs.Held.{Live}
-use Rattle.beep_lives.specs.Lives.{live_at}
-use Rattle.beep_session.specs.Looks.{IsTakenAt}
-use Rattle.beep_session.specs.Session.{Held}
-use Rattle.beep_talk.specs.Plan.{PlainPlan}
-use Rattle.beep_script.specs.Lines.{lines}
-use Rattle.beep_script.specs.Script.{BeginsWith}
+use Rattle.beep_steps.specs.beep_frame.specs.declared.head.Head.{Head}
+use Rattle.beep_steps.specs.beep_frame.specs.declared.tag.Tag.{Tag}
+use Rattle.beep_steps.specs.beep_history.specs.declared.journal.Side.{Side}
+use Rattle.beep_steps.specs.beep_history.specs.Journal.{Item, passed}
+use Rattle.beep_steps.specs.beep_history.specs.Marks.{Mark, octet, end, marks, frame_marks, tag_of, mark_modulo_2_64, modulo_2_64}
+use Rattle.beep_steps.specs.beep_history.specs.Moments.{mark_tag}
+use Rattle.beep_steps.specs.beep_history.specs.Messages.{same_tag, left_from, cut_from}
+use Rattle.beep_steps.specs.beep_inbox.specs.declared.part.Part.{Part}
+use Rattle.beep_steps.specs.beep_inbox.specs.Laws.{part_marks}
+use Rattle.beep_steps.specs.beep_inbox.specs.Runs.{AllMarked, Run, marks_of, marks_with}
+use Rattle.beep_steps.specs.beep_journal.specs.Broken.{none_tunes}
+use Rattle.beep_steps.specs.beep_journal.specs.Journal.{Past}
+use Rattle.beep_steps.specs.beep_journal.specs.Life.{history, is_released, is_there, life_now, life_under_way}
+use Rattle.beep_steps.specs.beep_journal.specs.Log.{Moment}
+use Rattle.beep_steps.specs.beep_journal.proofs.JournalLemmas.{above-there}
+use Rattle.beep_steps.specs.beep_journal.proofs.MomentLemmas.{equal-number, same-number}
+use Rattle.beep_steps.specs.beep_journal.proofs.ShownLemmas.{one-shown}
+use Rattle.beep_steps.specs.beep_channel.specs.Held.{Live}
+use Rattle.beep_steps.specs.beep_lives.specs.Lives.{live_at}
+use Rattle.beep_steps.specs.beep_session.specs.Looks.{IsTakenAt}
+use Rattle.beep_steps.specs.beep_session.specs.Session.{Held}
+use Rattle.beep_steps.specs.beep_talk.specs.Plan.{PlainPlan}
+use Rattle.beep_steps.specs.beep_script.specs.Lines.{lines}
+use Rattle.beep_steps.specs.beep_script.specs.Script.{BeginsWith}
 use Rattle.beep_lines.specs.declared.bodies.Body.{Body}
 use Rattle.beep_lines.specs.Bodies.{body_of, HasMore, IsOver, Others}
 use Rattle.beep_lines.specs.Lines.{GathersAll, GathersSome, lines_of}
-use Rattle.beep_link.proofs.StandLemmas.{text-none}
+use Rattle.beep_steps.specs.beep_link.proofs.StandLemmas.{text-none}
 use Rattle.beep_steps.specs.Logs.{AreTaken, StaysOn}
 use Rattle.beep_steps.specs.Steps.{CameFrame, CameMore, CameZero, IsUntaken, SettledOn, TookNone, TookPart, arrived_marks}
 use Rattle.beep_steps.proofs.ArrivedLemmas.{turn}

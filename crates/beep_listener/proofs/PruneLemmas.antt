@@ -2,8 +2,8 @@
 use Rattle.std.proofs.Common.{◌≡◌, ◌∙◌, refl, sym, ap, subst, ℕ, suc, zero, ◌<◌, ◌==◌, nat_lt, Bool, true, false, ◌&&◌, if◌then◌else◌, List, [], ◌∷◌, length, Some, None, arith}
 use Rattle.std.specs.Prelude.{slice_get, slice_set}
 use Rattle.std.proofs.lemmas.Bool.Decides.{nat_tests}
-use Rattle.beep_journal.proofs.MomentLemmas.{equal-number}
-use Rattle.beep_channel.specs.Held.{Live}
+use Rattle.beep_steps.specs.beep_journal.proofs.MomentLemmas.{equal-number}
+use Rattle.beep_steps.specs.beep_channel.specs.Held.{Live}
 use Rattle.beep_lines.specs.declared.bodies.Body.{Body}
 use Rattle.beep_lines.specs.Bodies.{is_of, body_of, ended, HasEnded}
 use Rattle.beep_lines.proofs.BodyLemmas.{body-set-other}

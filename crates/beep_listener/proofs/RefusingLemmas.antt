@@ -1,12 +1,12 @@
 -- What a listener hears, says and settles leaves it one that nothing refused.
 use Rattle.std.proofs.Common.{◌≡◌, Bool, false, List, [], ap, ◌∙◌}
-use Rattle.beep_journal.specs.declared.role.Role.{Role}
-use Rattle.beep_journal.specs.Log.{Moment}
-use Rattle.beep_lawful.specs.declared.terms.Terms.{Terms}
-use Rattle.beep_session.specs.Lawfully.{terms_of}
-use Rattle.beep_session.specs.Session.{Held}
-use Rattle.beep_talk.specs.declared.plan.Command.{Command}
-use Rattle.beep_link.specs.declared.ended.Stop.{Stop}
+use Rattle.beep_steps.specs.beep_journal.specs.declared.role.Role.{Role}
+use Rattle.beep_steps.specs.beep_journal.specs.Log.{Moment}
+use Rattle.beep_steps.specs.beep_lawful.specs.declared.terms.Terms.{Terms}
+use Rattle.beep_steps.specs.beep_session.specs.Lawfully.{terms_of}
+use Rattle.beep_steps.specs.beep_session.specs.Session.{Held}
+use Rattle.beep_steps.specs.beep_talk.specs.declared.plan.Command.{Command}
+use Rattle.beep_steps.specs.beep_link.specs.declared.ended.Stop.{Stop}
 use Rattle.beep_steps.specs.Logs.{StandsOn, StaysOn, WaitsOn}
 use Rattle.beep_steps.specs.Refusing.{IsOtherStop, IsUnrefused, RefusesOn, Unrefused}
 use Rattle.beep_steps.proofs.SettledLemmas.{first-unrefused}

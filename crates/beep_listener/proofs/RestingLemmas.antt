@@ -3,14 +3,14 @@ use Rattle.std.proofs.Common.{◌≡◌, ◌∙◌, refl, sym, ap, subst, arith,
 use Rattle.std.specs.Prelude.{Result, Ok, Err, OnOk}
 use Rattle.std.proofs.lemmas.List.Folds.{list_any-append}
 use Rattle.std.proofs.Math.Seq.{take-suc}
-use Rattle.beep_history.specs.declared.limits.TheConstants.{MAX_MESSAGE}
-use Rattle.beep_text.specs.declared.limits.TheConstants.{MAX_TEXT}
-use Rattle.beep_mgmt.specs.Form.{fault}
-use Rattle.beep_answering.proofs.LengthLemmas.{refusal-length}
-use Rattle.beep_mgmt.specs.Message.{message_text}
-use Rattle.beep_journal.proofs.MomentLemmas.{equal-number, same-number}
-use Rattle.beep_decide.specs.Decide.{is_among, note_of}
-use Rattle.beep_session.specs.Session.{Held}
+use Rattle.beep_steps.specs.beep_history.specs.declared.limits.TheConstants.{MAX_MESSAGE}
+use Rattle.beep_steps.specs.beep_text.specs.declared.limits.TheConstants.{MAX_TEXT}
+use Rattle.beep_steps.specs.beep_mgmt.specs.Form.{fault}
+use Rattle.beep_steps.specs.beep_answering.proofs.LengthLemmas.{refusal-length}
+use Rattle.beep_steps.specs.beep_mgmt.specs.Message.{message_text}
+use Rattle.beep_steps.specs.beep_journal.proofs.MomentLemmas.{equal-number, same-number}
+use Rattle.beep_steps.specs.beep_decide.specs.Decide.{is_among, note_of}
+use Rattle.beep_steps.specs.beep_session.specs.Session.{Held}
 use Rattle.beep_steps.specs.Resting.{HasSaidAll, HoldsStill}
 use Rattle.beep_steps.specs.Speaking.{Notes}
 use Rattle.beep_steps.proofs.RestCalls.{awake-before, still-said}

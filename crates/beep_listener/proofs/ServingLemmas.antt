@@ -1,16 +1,16 @@
 -- All that comes to a listener is served, so what it wrote is the lines of the session that its log shows.
 use Rattle.std.proofs.Common.{◌≡◌, ◌<◌, ◌^◌, ℕ, Bool, List, [], ◌∷◌, Option, None, Some, ◌⊎◌, inl, inr, subst, sym, ap, arith}
-use Rattle.beep_journal.specs.Broken.{none_tunes}
-use Rattle.beep_journal.specs.Journal.{Past, Shows}
-use Rattle.beep_decide.specs.Decide.{PlainOffer}
-use Rattle.beep_lawful.specs.declared.terms.Terms.{Terms}
-use Rattle.beep_session.specs.Session.{Held}
-use Rattle.beep_wires.specs.Log.{Entry}
-use Rattle.beep_link.specs.declared.left.Reads.{Reads}
-use Rattle.beep_link.specs.Causes.{octets_read, IsBounded, WhereKnown, WithText}
-use Rattle.beep_talk.specs.Plan.{PlainPlan}
-use Rattle.beep_script.specs.EachEnd.{AreWritten}
-use Rattle.beep_script.specs.Lines.{lines}
+use Rattle.beep_steps.specs.beep_journal.specs.Broken.{none_tunes}
+use Rattle.beep_steps.specs.beep_journal.specs.Journal.{Past, Shows}
+use Rattle.beep_steps.specs.beep_decide.specs.Decide.{PlainOffer}
+use Rattle.beep_steps.specs.beep_lawful.specs.declared.terms.Terms.{Terms}
+use Rattle.beep_steps.specs.beep_session.specs.Session.{Held}
+use Rattle.beep_steps.specs.beep_wires.specs.Log.{Entry}
+use Rattle.beep_steps.specs.beep_link.specs.declared.left.Reads.{Reads}
+use Rattle.beep_steps.specs.beep_link.specs.Causes.{octets_read, IsBounded, WhereKnown, WithText}
+use Rattle.beep_steps.specs.beep_talk.specs.Plan.{PlainPlan}
+use Rattle.beep_steps.specs.beep_script.specs.EachEnd.{AreWritten}
+use Rattle.beep_steps.specs.beep_script.specs.Lines.{lines}
 use Rattle.beep_steps.specs.Logs.{moments, IsLawfulOn}
 use Rattle.beep_steps.specs.Serving.{IsListener, ShowsServing}
 use Rattle.beep_steps.proofs.ServedLemmas.{shows-all-served}
@@ -28,13 +28,13 @@ writes-lines plan terms whole log text writes lawful serving few past shows =
     writes past shows (shows-all-served plan terms log lawful serving few past shows)
 
 -- the same of an output, where the log of the link is known
-pub told-lines : (plan : PlainPlan) (terms : Terms) (whole : Bool) (reads : Reads) (before now : Option (List ℕ)) (log : Option (List Entry)) → reads.octets < 2 ^ 32
+pub known-lines : (plan : PlainPlan) (terms : Terms) (whole : Bool) (reads : Reads) (before now : Option (List ℕ)) (log : Option (List Entry)) → reads.octets < 2 ^ 32
     → WhereKnown (λ known. WithText before now (λ text. WritesLines plan whole (moments known) text × ShowsServing plan (moments known))) log
     → WhereKnown (IsLawfulOn terms) log → IsBounded reads log
     → WhereKnown (λ known. WithText before now (λ text. (past : Past) → Shows none_tunes (moments known) past → AreWritten whole (lines plan past.journal) text)) log
-told-lines plan terms whole reads before now None few told lawful bounded = tt
-told-lines plan terms whole reads before now (Some log) few (text, grew, told) lawful bounded =
-    (text, grew, writes-lines plan terms whole log text told.0 lawful told.1 (omega (arith, few, bounded)))
+known-lines plan terms whole reads before now None few shown lawful bounded = tt
+known-lines plan terms whole reads before now (Some log) few (text, grew, shown) lawful bounded =
+    (text, grew, writes-lines plan terms whole log text shown.0 lawful shown.1 (omega (arith, few, bounded)))
 
 -- nothing was read
 pub unread-bounded : (reads : Reads) (log : Option (List Entry)) → log ≡ None ⊎ log ≡ Some [] → IsBounded reads log

@@ -3,44 +3,44 @@ use Rattle.std.proofs.Common.{◌≡◌, ℕ, ◌==◌, Bool, true, false, not, 
 use Rattle.std.specs.Prelude.{◌≢◌, is_some, nat_lt, Result, Ok, Err, IfErr, IfOk, OnOk, Option, Some, None}
 use Rattle.std.proofs.lemmas.List.Folds.{list_any-append}
 use Rattle.std.proofs.Math.Seq.{take-suc}
-use Rattle.beep_frame.specs.declared.kind.Kind.{Kind}
-use Rattle.beep_history.specs.declared.journal.Side.{Side}
-use Rattle.beep_history.specs.Marks.{marks}
-use Rattle.beep_journal.specs.Broken.{none_tunes}
-use Rattle.beep_journal.specs.Journal.{Past}
-use Rattle.beep_journal.specs.Life.{is_released, is_there, life, life_now}
-use Rattle.beep_journal.specs.Zero.{zero_history}
-use Rattle.beep_journal.specs.Log.{Moment}
-use Rattle.beep_journal.proofs.MomentLemmas.{equal-number, same-number}
-use Rattle.beep_journal.proofs.ShownLemmas.{one-shown}
-use Rattle.beep_decide.specs.Decide.{is_among}
-use Rattle.beep_channel.specs.Held.{Live}
-use Rattle.beep_lives.specs.Lives.{live_at}
-use Rattle.beep_speaking.specs.declared.emit.Emit.{Emit}
-use Rattle.beep_answering.specs.declared.settled.Settled.{Settled}
-use Rattle.beep_answering.specs.Decided.{NoneTunes}
-use Rattle.beep_lawful.specs.declared.terms.Terms.{Terms}
-use Rattle.beep_giving.specs.Giving.{ask_refusal_at}
-use Rattle.beep_peer.specs.Peering.{is_over}
-use Rattle.beep_peer.specs.Standing.{live_above}
-use Rattle.beep_channel.specs.declared.ask_error.AskError.{AskError}
-use Rattle.beep_session.specs.Channels.{Gives, IsStill, is_closing}
-use Rattle.beep_session.specs.Lawfully.{KeepsUpright}
-use Rattle.beep_session.specs.Session.{Held}
-use Rattle.beep_wires.specs.Log.{Entry}
-use Rattle.beep_link.specs.declared.left.Reads.{Reads}
-use Rattle.beep_link.specs.Causes.{IsBounded, WhereKnown}
-use Rattle.beep_talk.specs.declared.plan.Command.{Command}
-use Rattle.beep_talk.specs.Plan.{PlainPlan}
-use Rattle.beep_talk.specs.Talk.{ready}
-use Rattle.beep_script.specs.Script.{BeginsWith, KeepsScript, script_marks}
-use Rattle.beep_served.proofs.ProfileLemmas.{have-profile}
-use Rattle.beep_replies.specs.Replies.{first_said}
-use Rattle.beep_steps.specs.Desking.{DesksOn, DesksWithin, ShowsToldZero}
+use Rattle.beep_steps.specs.beep_frame.specs.declared.kind.Kind.{Kind}
+use Rattle.beep_steps.specs.beep_history.specs.declared.journal.Side.{Side}
+use Rattle.beep_steps.specs.beep_history.specs.Marks.{marks}
+use Rattle.beep_steps.specs.beep_journal.specs.Broken.{none_tunes}
+use Rattle.beep_steps.specs.beep_journal.specs.Journal.{Past}
+use Rattle.beep_steps.specs.beep_journal.specs.Life.{is_released, is_there, life, life_now}
+use Rattle.beep_steps.specs.beep_journal.specs.Zero.{zero_history}
+use Rattle.beep_steps.specs.beep_journal.specs.Log.{Moment}
+use Rattle.beep_steps.specs.beep_journal.proofs.MomentLemmas.{equal-number, same-number}
+use Rattle.beep_steps.specs.beep_journal.proofs.ShownLemmas.{one-shown}
+use Rattle.beep_steps.specs.beep_decide.specs.Decide.{is_among}
+use Rattle.beep_steps.specs.beep_channel.specs.Held.{Live}
+use Rattle.beep_steps.specs.beep_lives.specs.Lives.{live_at}
+use Rattle.beep_steps.specs.beep_speaking.specs.declared.emit.Emit.{Emit}
+use Rattle.beep_steps.specs.beep_answering.specs.declared.settled.Settled.{Settled}
+use Rattle.beep_steps.specs.beep_answering.specs.Decided.{NoneTunes}
+use Rattle.beep_steps.specs.beep_lawful.specs.declared.terms.Terms.{Terms}
+use Rattle.beep_steps.specs.beep_giving.specs.Giving.{ask_refusal_at}
+use Rattle.beep_steps.specs.beep_peer.specs.Peering.{is_over}
+use Rattle.beep_steps.specs.beep_peer.specs.Standing.{live_above}
+use Rattle.beep_steps.specs.beep_channel.specs.declared.ask_error.AskError.{AskError}
+use Rattle.beep_steps.specs.beep_session.specs.Channels.{Gives, IsStill, is_closing}
+use Rattle.beep_steps.specs.beep_session.specs.Lawfully.{KeepsUpright}
+use Rattle.beep_steps.specs.beep_session.specs.Session.{Held}
+use Rattle.beep_steps.specs.beep_wires.specs.Log.{Entry}
+use Rattle.beep_steps.specs.beep_link.specs.declared.left.Reads.{Reads}
+use Rattle.beep_steps.specs.beep_link.specs.Causes.{IsBounded, WhereKnown}
+use Rattle.beep_steps.specs.beep_talk.specs.declared.plan.Command.{Command}
+use Rattle.beep_steps.specs.beep_talk.specs.Plan.{PlainPlan}
+use Rattle.beep_steps.specs.beep_talk.specs.Talk.{ready}
+use Rattle.beep_steps.specs.beep_script.specs.Script.{BeginsWith, KeepsScript, script_marks}
+use Rattle.beep_steps.specs.beep_served.proofs.ProfileLemmas.{have-profile}
+use Rattle.beep_steps.specs.beep_replies.specs.Replies.{first_said}
+use Rattle.beep_steps.specs.Desking.{DesksOn, DesksWithin, ShowsSaidZero}
 use Rattle.beep_steps.specs.Logs.{moments, AreTaken, IsLawfulOn, StandsOn}
 use Rattle.beep_steps.specs.Scripting.{ShowsWhole}
 use Rattle.beep_steps.specs.Serving.{ServesOn}
-use Rattle.beep_steps.specs.Speaking.{Notes, AreNoted, IsBorn, IsSaid, IsUnspoken, ShowsTold, SpeaksGone, SpeaksNew, SpeaksOn, closes_all, noted_by}
+use Rattle.beep_steps.specs.Speaking.{Notes, AreNoted, IsBorn, IsSaid, IsUnspoken, ShowsSaid, SpeaksGone, SpeaksNew, SpeaksOn, closes_all, noted_by}
 use Rattle.beep_steps.specs.Steps.{Spoke, is_zero_frame}
 use Rattle.beep_steps.proofs.DeskAsks.{fresh-asks}
 use Rattle.beep_steps.proofs.DeskDone.{closes-desk}
@@ -252,9 +252,9 @@ none-whole plan past shows = subst (λ (p : Past). KeepsScript plan p.journal) (
     of n c false = record { rest = script_marks plan n c []; whole_is = refl }
 
 -- what was sent is the beginning of the script, where the log is a lawful one of which fewer than 2^32 octets were read
-pub told-whole : (plan : PlainPlan) (terms : Terms) (reads : Reads) (log : Option (List Entry)) → plan.command ≡ Command.Listen → NoneTunes plan.offers → reads.octets < 2 ^ 32
-    → WhereKnown (λ known. ShowsTold plan (moments known) × ShowsToldZero plan (moments known)) log → WhereKnown (IsLawfulOn terms) log → IsBounded reads log
+pub known-whole : (plan : PlainPlan) (terms : Terms) (reads : Reads) (log : Option (List Entry)) → plan.command ≡ Command.Listen → NoneTunes plan.offers → reads.octets < 2 ^ 32
+    → WhereKnown (λ known. ShowsSaid plan (moments known) × ShowsSaidZero plan (moments known)) log → WhereKnown (IsLawfulOn terms) log → IsBounded reads log
     → WhereKnown (λ known. ShowsWhole plan (moments known)) log
-told-whole plan terms reads None listens none few shown lawful bounded = tt
-told-whole plan terms reads (Some log) listens none few shown lawful bounded =
+known-whole plan terms reads None listens none few shown lawful bounded = tt
+known-whole plan terms reads (Some log) listens none few shown lawful bounded =
     shown-whole plan terms (moments log) listens none lawful (let same = moments-octets log in omega (arith, few, bounded, same)) shown.0 shown.1

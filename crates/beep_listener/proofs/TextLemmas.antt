@@ -2,22 +2,22 @@
 use Rattle.std.proofs.Common.{◌≡◌, ◌∙◌, refl, sym, ap, subst, ℕ, ◌==◌, Bool, true, false, not, ◌||◌, List, [], ◌∷◌, ◌++◌, flat_map, append-nil, append_assoc}
 use Rattle.std.proofs.lemmas.Grind.{flat_map-append}
 use Rattle.std.specs.List.{list_any}
-use Rattle.beep_history.specs.Journal.{Item, began, passed, told}
-use Rattle.beep_journal.specs.Broken.{none_tunes}
-use Rattle.beep_journal.specs.Journal.{Past, Shows}
-use Rattle.beep_journal.specs.Log.{Moment, got_all}
-use Rattle.beep_journal.proofs.ShownLemmas.{one-shown}
-use Rattle.beep_hearing.specs.Hears.{is_above}
-use Rattle.beep_link.specs.declared.ended.Stop.{Stop}
-use Rattle.beep_link.specs.Causes.{ended_by}
-use Rattle.beep_talk.specs.Plan.{PlainPlan}
-use Rattle.beep_mime.specs.Split.{body_of as body_of_message}
-use Rattle.prof_raw.specs.Entries.{entries_of}
-use Rattle.prof_raw.specs.Line.{line_of}
-use Rattle.beep_script.specs.EachEnd.{AreWritten}
-use Rattle.beep_script.specs.Lines.{lines, heard, heard_at, entries_in}
-use Rattle.beep_script.specs.Script.{BeginsWith}
-use Rattle.beep_logged.specs.Logged.{IsShown}
+use Rattle.beep_steps.specs.beep_history.specs.Journal.{Item, began, passed, told}
+use Rattle.beep_steps.specs.beep_journal.specs.Broken.{none_tunes}
+use Rattle.beep_steps.specs.beep_journal.specs.Journal.{Past, Shows}
+use Rattle.beep_steps.specs.beep_journal.specs.Log.{Moment, got_all}
+use Rattle.beep_steps.specs.beep_journal.proofs.ShownLemmas.{one-shown}
+use Rattle.beep_steps.specs.beep_hearing.specs.Hears.{is_above}
+use Rattle.beep_steps.specs.beep_link.specs.declared.ended.Stop.{Stop}
+use Rattle.beep_steps.specs.beep_link.specs.Causes.{ended_by}
+use Rattle.beep_steps.specs.beep_talk.specs.Plan.{PlainPlan}
+use Rattle.beep_steps.specs.beep_mime.specs.Split.{body_of as body_of_message}
+use Rattle.beep_steps.specs.prof_raw.specs.Entries.{entries_of}
+use Rattle.beep_steps.specs.prof_raw.specs.Line.{line_of}
+use Rattle.beep_steps.specs.beep_script.specs.EachEnd.{AreWritten}
+use Rattle.beep_steps.specs.beep_script.specs.Lines.{lines, heard, heard_at, entries_in}
+use Rattle.beep_steps.specs.beep_script.specs.Script.{BeginsWith}
+use Rattle.beep_steps.specs.beep_logged.specs.Logged.{IsShown}
 use Rattle.beep_steps.specs.Logs.{SaysNothing}
 use Rattle.beep_steps.specs.Steps.{CameBelow, EndsSo}
 use Rattle.beep_steps.proofs.GrowLemmas.{gots-back}

@@ -3,36 +3,36 @@
 -- 3195, section 3).
 -- The code keeps no journal, no marks, and no list of the answers that are whole.
 use Rattle.std.specs.Prelude.{◌≡◌, ℕ, ◌+◌, ◌≤◌, ◌==◌, Bool, true, false, ◌&&◌, List, [], ◌∷◌, ◌++◌, flat_map, length, map}
-use Rattle.beep_frame.specs.declared.head.Head.{Head}
-use Rattle.beep_frame.specs.declared.head.TheConstants.{MAX_NUMBER}
-use Rattle.beep_frame.specs.declared.kind.Kind.{Kind}
-use Rattle.beep_frame.specs.declared.tag.Tag.{Tag}
-use Rattle.beep_frame.specs.Frame.{same_kind}
-use Rattle.beep_history.specs.declared.journal.Side.{Side}
-use Rattle.beep_history.specs.Journal.{Item, passed}
-use Rattle.beep_history.specs.Marks.{Mark, marks, mark_modulo_2_64}
-use Rattle.beep_history.specs.Messages.{cut_from, left_from}
-use Rattle.beep_journal.specs.Broken.{none_tunes}
-use Rattle.beep_journal.specs.Journal.{Past, Shows}
-use Rattle.beep_journal.specs.declared.role.Role.{Role}
-use Rattle.beep_journal.specs.Life.{history, is_released, is_there}
-use Rattle.beep_journal.specs.Log.{Moment}
-use Rattle.beep_inbox.specs.declared.part.Part.{Part}
-use Rattle.beep_inbox.specs.Laws.{part_marks}
-use Rattle.beep_decide.specs.Decide.{PlainOffer}
-use Rattle.beep_session.specs.Session.{Held}
-use Rattle.beep_session.specs.Lawfully.{terms_of}
-use Rattle.beep_talk.specs.declared.plan.Command.{Command}
-use Rattle.beep_talk.specs.Plan.{PlainPlan}
-pub use Rattle.beep_served.specs.Served.{ServedAt, IsServed}
-use Rattle.beep_script.specs.EachEnd.{AreWritten}
-use Rattle.beep_script.specs.Lines.{lines}
+use Rattle.beep_steps.specs.beep_frame.specs.declared.head.Head.{Head}
+use Rattle.beep_steps.specs.beep_frame.specs.declared.head.TheConstants.{MAX_NUMBER}
+use Rattle.beep_steps.specs.beep_frame.specs.declared.kind.Kind.{Kind}
+use Rattle.beep_steps.specs.beep_frame.specs.declared.tag.Tag.{Tag}
+use Rattle.beep_steps.specs.beep_frame.specs.Frame.{same_kind}
+use Rattle.beep_steps.specs.beep_history.specs.declared.journal.Side.{Side}
+use Rattle.beep_steps.specs.beep_history.specs.Journal.{Item, passed}
+use Rattle.beep_steps.specs.beep_history.specs.Marks.{Mark, marks, mark_modulo_2_64}
+use Rattle.beep_steps.specs.beep_history.specs.Messages.{cut_from, left_from}
+use Rattle.beep_steps.specs.beep_journal.specs.Broken.{none_tunes}
+use Rattle.beep_steps.specs.beep_journal.specs.Journal.{Past, Shows}
+use Rattle.beep_steps.specs.beep_journal.specs.declared.role.Role.{Role}
+use Rattle.beep_steps.specs.beep_journal.specs.Life.{history, is_released, is_there}
+use Rattle.beep_steps.specs.beep_journal.specs.Log.{Moment}
+use Rattle.beep_steps.specs.beep_inbox.specs.declared.part.Part.{Part}
+use Rattle.beep_steps.specs.beep_inbox.specs.Laws.{part_marks}
+use Rattle.beep_steps.specs.beep_decide.specs.Decide.{PlainOffer}
+use Rattle.beep_steps.specs.beep_session.specs.Session.{Held}
+use Rattle.beep_steps.specs.beep_session.specs.Lawfully.{terms_of}
+use Rattle.beep_steps.specs.beep_talk.specs.declared.plan.Command.{Command}
+use Rattle.beep_steps.specs.beep_talk.specs.Plan.{PlainPlan}
+pub use Rattle.beep_steps.specs.beep_served.specs.Served.{ServedAt, IsServed}
+use Rattle.beep_steps.specs.beep_script.specs.EachEnd.{AreWritten}
+use Rattle.beep_steps.specs.beep_script.specs.Lines.{lines}
 use Rattle.beep_lines.specs.declared.bodies.Body.{Body}
 use Rattle.beep_lines.specs.Bodies.{body_of}
 use Rattle.beep_lines.specs.Lines.{lines_of}
-use Rattle.beep_link.specs.declared.ended.Ended.{Ended}
-use Rattle.beep_settings.specs.declared.settings.Settings.{Settings}
-use Rattle.beep_wires.specs.Log.{Entry}
+use Rattle.beep_steps.specs.beep_link.specs.declared.ended.Ended.{Ended}
+use Rattle.beep_steps.specs.beep_settings.specs.declared.settings.Settings.{Settings}
+use Rattle.beep_steps.specs.beep_wires.specs.Log.{Entry}
 use Rattle.beep_steps.specs.Logs.{moments, terms_by, AreTaken, Shows as ShowsEnd, StandsOn, WaitsOn}
 use Rattle.beep_steps.specs.Refusing.{GoesUnrefused, IsUnrefused, Unrefused}
 use Rattle.beep_steps.specs.Serving.{ServesOn, ShowsServing}

@@ -1,8 +1,8 @@
 -- The answers that have come in part, but for those whose channel has no live life.
 -- The code goes from place to place.
 use Rattle.std.specs.Prelude.{◌≡◌, ◌<◌, ℕ, suc, ◌==◌, Bool, true, false, not, ◌&&◌, List, [], length, Some, is_some, slice_get}
-use Rattle.beep_channel.specs.Held.{Live}
-use Rattle.beep_lives.specs.Lives.{live_at}
+use Rattle.beep_steps.specs.beep_channel.specs.Held.{Live}
+use Rattle.beep_steps.specs.beep_lives.specs.Lives.{live_at}
 use Rattle.beep_lines.specs.declared.bodies.Body.{Body}
 use Rattle.beep_lines.specs.Bodies.{body_of}
 

@@ -1,10 +1,10 @@
 -- A listener that keeps its script, by what it notes (RFC 3080, section 2.3.1; RFC 3195, section
 -- 3).
 use Rattle.std.specs.Prelude.{◌≡◌, ℕ, ◌==◌, true, false, List}
-use Rattle.beep_journal.specs.Log.{Moment}
-use Rattle.beep_decide.specs.Decide.{is_among}
-use Rattle.beep_session.specs.Session.{Held}
-use Rattle.beep_talk.specs.Plan.{PlainPlan}
+use Rattle.beep_steps.specs.beep_journal.specs.Log.{Moment}
+use Rattle.beep_steps.specs.beep_decide.specs.Decide.{is_among}
+use Rattle.beep_steps.specs.beep_session.specs.Session.{Held}
+use Rattle.beep_steps.specs.beep_talk.specs.Plan.{PlainPlan}
 use Rattle.beep_listener.specs.declared.listener.Listener.{Listener}
 use Rattle.beep_steps.specs.Desking.{DesksOn, DesksWaiting, DesksWithin}
 use Rattle.beep_steps.specs.Resting.{HasRepliedAt, HasSaidAll, IsAwake}

@@ -2,30 +2,30 @@
 -- These are proofs, since the members of an impl cite nothing else of its crate.
 use Rattle.std.specs.Prelude.{◌≡◌, ℕ, false, List, [], ◌∷◌, ◌++◌}
 use Rattle.std.proofs.Common.{subst}
-use Rattle.beep_journal.specs.Log.{Moment, put_all}
-use Rattle.beep_session.specs.Session.{Held}
-use Rattle.beep_session.specs.Lawfully.{terms_of}
-use Rattle.beep_logged.specs.Logged.{IsLogged}
-use Rattle.beep_logged.proofs.EndLemmas.{put-append}
-use Rattle.beep_logged.proofs.ReadLemmas.{quiet-logged, over-logged}
-use Rattle.beep_peer.specs.Peering.{is_over}
-use Rattle.beep_talk.specs.Plan.{PlainPlan}
+use Rattle.beep_steps.specs.beep_journal.specs.Log.{Moment, put_all}
+use Rattle.beep_steps.specs.beep_session.specs.Session.{Held}
+use Rattle.beep_steps.specs.beep_session.specs.Lawfully.{terms_of}
+use Rattle.beep_steps.specs.beep_logged.specs.Logged.{IsLogged}
+use Rattle.beep_steps.specs.beep_logged.proofs.EndLemmas.{put-append}
+use Rattle.beep_steps.specs.beep_logged.proofs.ReadLemmas.{quiet-logged, over-logged}
+use Rattle.beep_steps.specs.beep_peer.specs.Peering.{is_over}
+use Rattle.beep_steps.specs.beep_talk.specs.Plan.{PlainPlan}
 use Rattle.beep_lines.specs.declared.bodies.Body.{Body}
-use Rattle.beep_wires.specs.Log.{Entry, wrote, quiet, ended}
-use Rattle.beep_link.specs.Causes.{IsOfFaults, IsOfReads}
-use Rattle.beep_link.specs.declared.ended.Ended.{Ended}
-use Rattle.beep_served.proofs.ProfileLemmas.{have-profile}
-use Rattle.beep_script.specs.Prompt.{IsIdle}
+use Rattle.beep_steps.specs.beep_wires.specs.Log.{Entry, wrote, quiet, ended}
+use Rattle.beep_steps.specs.beep_link.specs.Causes.{IsOfFaults, IsOfReads}
+use Rattle.beep_steps.specs.beep_link.specs.declared.ended.Ended.{Ended}
+use Rattle.beep_steps.specs.beep_served.proofs.ProfileLemmas.{have-profile}
+use Rattle.beep_steps.specs.beep_script.specs.Prompt.{IsIdle}
 use Rattle.beep_steps.specs.Logs.{moments}
 use Rattle.beep_steps.specs.Turning.{faults_idle, reads_idle, shown_on}
-use Rattle.beep_steps.specs.Desking.{DesksOn, ShowsToldZero}
+use Rattle.beep_steps.specs.Desking.{DesksOn, ShowsSaidZero}
 use Rattle.beep_steps.specs.Resting.{IsAwake, TellsIdle}
-use Rattle.beep_steps.specs.Speaking.{Notes, SpeaksOn, ShowsTold}
+use Rattle.beep_steps.specs.Speaking.{Notes, SpeaksOn, ShowsSaid}
 use Rattle.beep_steps.proofs.PartLemmas.{none-waits}
 use Rattle.beep_steps.proofs.RestLemmas.{rests-idle}
 use Rattle.beep_steps.proofs.ServeLemmas.{shows-served}
 use Rattle.beep_steps.proofs.SpeakCalls.{serving-at}
-use Rattle.beep_steps.proofs.DeskTold.{told-goes}
+use Rattle.beep_steps.proofs.DeskSaid.{said-goes}
 use Rattle.beep_steps.proofs.SpeakShown.{shows-goes}
 use Rattle.beep_listener.specs.Listening.{plan_of, ListensServed, TellsServed}
 use Rattle.beep_listener.specs.Speaking.{RestsOn, SpeaksAll}
@@ -40,7 +40,7 @@ ListensScripted session bodies buffer notes log text =
 -- what the log of a link shows of a listener that ended so, and what it wrote and said
 abbrev pub TellsScripted : PlainPlan → Ended → List Entry → List ℕ → Type 0
 TellsScripted plan cause log text = TellsServed plan cause log text
-    × (ShowsTold plan (moments log) × ShowsToldZero plan (moments log))
+    × (ShowsSaid plan (moments log) × ShowsSaidZero plan (moments log))
     × TellsIdle plan cause (moments log)
 
 module _ (session : Held) (bodies : List Body) (buffer : List ℕ) (notes : Notes) where
@@ -110,7 +110,7 @@ module _ (session : Held) (bodies : List Body) (buffer : List ℕ) (notes : Note
     stops_served session bodies buffer log octets text s.0 cause is,
     (
       shows-goes (plan_of session) notes session octets (moments log) s.1.0,
-      told-goes (plan_of session) session octets (moments log) s.1.1.on s.1.1.listed,
+      said-goes (plan_of session) session octets (moments log) s.1.1.on s.1.1.listed,
     ),
     faults_idle (plan_of session) cause (moments log) is,
   )
@@ -139,7 +139,7 @@ module _ (session : Held) (bodies : List Body) (buffer : List ℕ) (notes : Note
     spends_served session bodies buffer log text s.0 cause is going,
     (
       shows-goes (plan_of session) notes session [] (moments log) s.1.0,
-      told-goes (plan_of session) session [] (moments log) s.1.1.on s.1.1.listed,
+      said-goes (plan_of session) session [] (moments log) s.1.1.on s.1.1.listed,
     ),
     reads_idle (plan_of session) cause (moments log) is (idle_on log text s going rests),
   )

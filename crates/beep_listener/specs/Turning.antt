@@ -2,32 +2,32 @@
 -- These are proofs, since the members of an impl cite nothing else of its crate.
 use Rattle.std.specs.Prelude.{◌≡◌, ℕ, Bool, true, false, List, [], ◌∷◌, ◌++◌, Option, None, Some}
 use Rattle.std.proofs.Common.{refl, sym, ap, subst, ◌∙◌, inl, inr, append-nil}
-use Rattle.beep_frame.specs.declared.head.Head.{Head}
-use Rattle.beep_frame.specs.declared.rule.Rule.{Rule}
-use Rattle.beep_frame.specs.declared.seq.Seq.{Seq}
-use Rattle.beep_history.specs.declared.journal.Side.{Side}
-use Rattle.beep_history.specs.Journal.{Item, began, passed, told}
-use Rattle.beep_journal.specs.declared.role.Role.{Role}
-use Rattle.beep_journal.specs.Broken.{none_tunes, broken_head, broken_content, broken_seq}
-use Rattle.beep_journal.specs.Journal.{Past, Shows, TakesOctet, TakesWhere, goes_on, begins, passes, seq_ends}
-use Rattle.beep_journal.specs.Log.{Moment, put, put_all}
-use Rattle.beep_journal.proofs.ShownLemmas.{one-shown}
-use Rattle.beep_session.specs.Session.{Held}
-use Rattle.beep_session.specs.Lawfully.{terms_of}
-use Rattle.beep_logged.specs.Logged.{IsLogged}
-use Rattle.beep_logged.proofs.EndLemmas.{put-append}
-use Rattle.beep_logged.proofs.ReadLemmas.{quiet-logged, over-logged}
-use Rattle.beep_peer.specs.Peering.{is_over}
-use Rattle.beep_talk.specs.declared.plan.Command.{Command}
-use Rattle.beep_talk.specs.Plan.{PlainPlan}
-use Rattle.beep_script.specs.Lines.{lines}
+use Rattle.beep_steps.specs.beep_frame.specs.declared.head.Head.{Head}
+use Rattle.beep_steps.specs.beep_frame.specs.declared.rule.Rule.{Rule}
+use Rattle.beep_steps.specs.beep_frame.specs.declared.seq.Seq.{Seq}
+use Rattle.beep_steps.specs.beep_history.specs.declared.journal.Side.{Side}
+use Rattle.beep_steps.specs.beep_history.specs.Journal.{Item, began, passed, told}
+use Rattle.beep_steps.specs.beep_journal.specs.declared.role.Role.{Role}
+use Rattle.beep_steps.specs.beep_journal.specs.Broken.{none_tunes, broken_head, broken_content, broken_seq}
+use Rattle.beep_steps.specs.beep_journal.specs.Journal.{Past, Shows, TakesOctet, TakesWhere, goes_on, begins, passes, seq_ends}
+use Rattle.beep_steps.specs.beep_journal.specs.Log.{Moment, put, put_all}
+use Rattle.beep_steps.specs.beep_journal.proofs.ShownLemmas.{one-shown}
+use Rattle.beep_steps.specs.beep_session.specs.Session.{Held}
+use Rattle.beep_steps.specs.beep_session.specs.Lawfully.{terms_of}
+use Rattle.beep_steps.specs.beep_logged.specs.Logged.{IsLogged}
+use Rattle.beep_steps.specs.beep_logged.proofs.EndLemmas.{put-append}
+use Rattle.beep_steps.specs.beep_logged.proofs.ReadLemmas.{quiet-logged, over-logged}
+use Rattle.beep_steps.specs.beep_peer.specs.Peering.{is_over}
+use Rattle.beep_steps.specs.beep_talk.specs.declared.plan.Command.{Command}
+use Rattle.beep_steps.specs.beep_talk.specs.Plan.{PlainPlan}
+use Rattle.beep_steps.specs.beep_script.specs.Lines.{lines}
 use Rattle.beep_lines.specs.declared.bodies.Body.{Body}
-use Rattle.beep_wires.specs.Log.{Entry, wrote, quiet, ended}
-use Rattle.beep_link.specs.Causes.{IsOfFaults, IsOfReads}
-use Rattle.beep_link.specs.declared.ended.Ended.{Ended}
+use Rattle.beep_steps.specs.beep_wires.specs.Log.{Entry, wrote, quiet, ended}
+use Rattle.beep_steps.specs.beep_link.specs.Causes.{IsOfFaults, IsOfReads}
+use Rattle.beep_steps.specs.beep_link.specs.declared.ended.Ended.{Ended}
 use Rattle.beep_steps.specs.Logs.{moments, command_of}
 use Rattle.beep_steps.specs.Refusing.{GoesUnrefused, IsUnrefused}
-use Rattle.beep_steps.specs.Turning.{shown_on, spends_on, stops_on, none_refused, calm_reads, IsCalm, faults_refused, writes_on, quiets_on, closes_on, closes_serving, quiets_serving, writes_serving, writes_unrefused, quiets_unrefused, closes_unrefused}
+use Rattle.beep_steps.specs.Turning.{shown_on, spends_on, stops_on, none_on, none_refused, calm_reads, IsCalm, faults_refused, writes_on, quiets_on, closes_on, closes_serving, quiets_serving, writes_serving, writes_unrefused, quiets_unrefused, closes_unrefused}
 use Rattle.beep_steps.proofs.ServeLemmas.{shows-served}
 use Rattle.beep_steps.proofs.StepLemmas.{same-lines}
 use Rattle.beep_listener.specs.Listening.{plan_of, IsServed, ListensDry, ListensServed, TellsLines, TellsServed, UnrefusedOn, WritesLines, is_whole}
@@ -293,7 +293,8 @@ module _ (session : Held) (bodies : List Body) (buffer : List ℕ) where
   stops_served log octets text s cause is = (
     stops_listening log octets text s.0 cause is,
     shows-served (plan_of session) session octets (moments log) s.1,
-    faults_refused (terms_of session) cause log is,
+    faults_refused (terms_of session) cause log is (none_on false session log octets s.2.on
+        (as_shown s.2.role (put_all octets (moments log)) s.2.unrefused)),
   )
 
   pub spends_served : (log : List Entry) (text : List ℕ)

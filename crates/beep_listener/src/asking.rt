@@ -1,26 +1,26 @@
 //! What a listener says on its channels: it asks for lines, and refuses what is asked (RFC 3195,
 //! section 3.1).
 ghost use Rattle.std.specs.Prelude.{◌≡◌, ◌≢◌, ◌≤◌, ◌==◌, ◌||◌, true, false, ℕ, List, length, IfNone, IfOk, IfSome, OnOk};
-ghost use Rattle.beep_history.specs.declared.limits.TheConstants.{MAX_MESSAGE};
-ghost use Rattle.beep_journal.specs.Log.{Moment};
-ghost use Rattle.beep_mgmt.specs.Form.{fault};
-ghost use Rattle.beep_mgmt.specs.Message.{message_text};
-ghost use Rattle.beep_decide.specs.Decide.{is_among, note_of};
-ghost use Rattle.beep_outbox.specs.declared.give_error.GiveError.{GiveError as GiveErrorValue};
-ghost use Rattle.beep_talk.specs.Plan.{PlainPlan};
-ghost use Rattle.beep_peer.specs.Standing.{live_above};
+ghost use Rattle.beep_steps.specs.beep_history.specs.declared.limits.TheConstants.{MAX_MESSAGE};
+ghost use Rattle.beep_steps.specs.beep_journal.specs.Log.{Moment};
+ghost use Rattle.beep_steps.specs.beep_mgmt.specs.Form.{fault};
+ghost use Rattle.beep_steps.specs.beep_mgmt.specs.Message.{message_text};
+ghost use Rattle.beep_steps.specs.beep_decide.specs.Decide.{is_among, note_of};
+ghost use Rattle.beep_steps.specs.beep_outbox.specs.declared.give_error.GiveError.{GiveError as GiveErrorValue};
+ghost use Rattle.beep_steps.specs.beep_talk.specs.Plan.{PlainPlan};
+ghost use Rattle.beep_steps.specs.beep_peer.specs.Standing.{live_above};
 ghost use Rattle.beep_steps.specs.Logs.{StaysOn};
 ghost use Rattle.beep_steps.specs.Desking.{DesksOn, DesksWithin};
 ghost use Rattle.beep_steps.specs.Resting.{HasRepliedAt, HoldsStill, IsAwake};
 ghost use Rattle.beep_steps.specs.Speaking.{KeepsSpeaking, Notes, SpeaksNew, SpeaksOn};
 ghost use Rattle.beep_steps.specs.Serving.{KeepsServing, ServesOn};
 
-use beep_channel::AskError;
-use beep_chars::Text;
-use beep_mgmt::{Mgmt, write_mgmt};
-use beep_octets::{NoMemory, Octets};
-use beep_outbox::GiveError;
-use beep_session::{Duty, Session};
+use beep_steps::beep_channel::AskError;
+use beep_steps::beep_chars::Text;
+use beep_steps::beep_mgmt::{Mgmt, NOT_TAKEN, write_mgmt};
+use beep_steps::beep_octets::{NoMemory, Octets};
+use beep_steps::beep_outbox::GiveError;
+use beep_steps::beep_session::{Duty, Session};
 use beep_steps::is_open;
 use std::alloc::Global;
 
@@ -33,7 +33,13 @@ pub(crate) fn refusal_text(alloc: Global) -> Result<Octets, NoMemory>
 {
     let note = Text::of(alloc, "requested action not taken")?;
     let mut text = Octets::new(alloc);
-    write_mgmt(&Mgmt::Fault { code: 550, note }, &mut text)?;
+    write_mgmt(
+        &Mgmt::Fault {
+            code: NOT_TAKEN,
+            note,
+        },
+        &mut text,
+    )?;
     Ok(text)
 }
 

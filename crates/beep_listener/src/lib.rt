@@ -7,6 +7,9 @@ mod listener;
 mod listening;
 mod pruning;
 
-pub use beep_link::Ended;
 pub use beep_steps::are_fit;
+pub use beep_steps::beep_link::Ended;
 pub use listening::listen_end;
+
+// Crates below, which are named through this one.
+pub use beep_steps::{beep_frame, beep_memory, beep_octets, beep_settings, beep_wires, prof_raw};

@@ -1,17 +1,17 @@
 //! What a listener does as messages come and go: it asks for lines on each channel, and writes the
 //! lines of each answer (RFC 3195, section 3.1).
 ghost use Rattle.std.specs.Prelude.{◌≡◌, ◌≤◌, ◌∷◌, ◌++◌, ◌==◌, [], ℕ, List, vec_len, true, false, IfErr, IfOk, OnOk};
-ghost use Rattle.beep_wires.specs.Counts.{Rose};
-ghost use Rattle.beep_wires.specs.Log.{Entry, read as came};
-ghost use Rattle.beep_journal.specs.Log.{Moment, put_all};
-ghost use Rattle.beep_peer.specs.Peering.{is_over};
-ghost use Rattle.beep_mgmt.specs.Form.{fault};
-ghost use Rattle.beep_mgmt.specs.Message.{message_text};
-ghost use Rattle.beep_decide.specs.Decide.{note_of};
-ghost use Rattle.beep_talk.specs.Plan.{PlainPlan};
-ghost use Rattle.beep_link.specs.Causes.{ended_by, WithText};
-ghost use Rattle.beep_link.specs.declared.end.TheConstants.{FRAME_ROOM};
-ghost use Rattle.beep_link.specs.declared.ended.Stop.{Stop as StopValue};
+ghost use Rattle.beep_steps.specs.beep_wires.specs.Counts.{Rose};
+ghost use Rattle.beep_steps.specs.beep_wires.specs.Log.{Entry, read as came};
+ghost use Rattle.beep_steps.specs.beep_journal.specs.Log.{Moment, put_all};
+ghost use Rattle.beep_steps.specs.beep_peer.specs.Peering.{is_over};
+ghost use Rattle.beep_steps.specs.beep_mgmt.specs.Form.{fault};
+ghost use Rattle.beep_steps.specs.beep_mgmt.specs.Message.{message_text};
+ghost use Rattle.beep_steps.specs.beep_decide.specs.Decide.{note_of};
+ghost use Rattle.beep_steps.specs.beep_talk.specs.Plan.{PlainPlan};
+ghost use Rattle.beep_steps.specs.beep_link.specs.Causes.{ended_by, WithText};
+ghost use Rattle.beep_steps.specs.beep_link.specs.declared.end.TheConstants.{FRAME_ROOM};
+ghost use Rattle.beep_steps.specs.beep_link.specs.declared.ended.Stop.{Stop as StopValue};
 ghost use Rattle.beep_listener.specs.declared.listener.TheConstants.{TAKEN};
 ghost use Rattle.beep_listener.specs.Listening.{plan_of, Listens, UnrefusedOn};
 ghost use Rattle.beep_steps.specs.Logs.{moments, AreTaken, StandsOn, StaysOn};
@@ -25,12 +25,12 @@ use crate::asking::{
 };
 use crate::pruning::prune;
 use beep_lines::{Bodies, Lines};
-use beep_link::{BUFFER, End, FRAME_ROOM, Stop};
-use beep_octets::{NoMemory, Octets};
-use beep_session::Session;
-use beep_speaking::Emit;
+use beep_steps::beep_link::{BUFFER, End, FRAME_ROOM, Stop};
+use beep_steps::beep_octets::{NoMemory, Octets};
+use beep_steps::beep_session::Session;
+use beep_steps::beep_speaking::Emit;
+use beep_steps::beep_wires::Sink;
 use beep_steps::say_next;
-use beep_wires::Sink;
 use std::alloc::Global;
 use std::mem::swap;
 

@@ -1,11 +1,11 @@
 //! A listener over one link.
 ghost use Rattle.std.specs.Prelude.{◌≡◌, ◌≤◌, ◌+◌, ◌*◌, ◌∷◌, [], map, false, true, IfOk, OnOk};
 ghost use Rattle.std.specs.List.{list_all};
-ghost use Rattle.beep_answering.specs.Decided.{NoneTunes};
-ghost use Rattle.beep_answering.specs.Sent.{is_uri};
-ghost use Rattle.beep_decide.specs.Plain.{plain_offer};
-ghost use Rattle.beep_journal.specs.declared.role.Role.{Role as RoleValue};
-ghost use Rattle.beep_link.specs.Causes.{IsBounded, IsCaused, IsUnused, IsWritten, Keeps, WhereKnown, WithText};
+ghost use Rattle.beep_steps.specs.beep_answering.specs.Decided.{NoneTunes};
+ghost use Rattle.beep_steps.specs.beep_answering.specs.Sent.{is_uri};
+ghost use Rattle.beep_steps.specs.beep_decide.specs.Plain.{plain_offer};
+ghost use Rattle.beep_steps.specs.beep_journal.specs.declared.role.Role.{Role as RoleValue};
+ghost use Rattle.beep_steps.specs.beep_link.specs.Causes.{IsBounded, IsCaused, IsUnused, IsWritten, Keeps, WhereKnown, WithText};
 ghost use Rattle.beep_listener.specs.Listening.{is_whole, listener_plan, plan_of, AreLinesOf};
 ghost use Rattle.beep_listener.specs.Speaking.{notes_of};
 ghost use Rattle.beep_listener.specs.SpeakingTurning.{ListensScripted};
@@ -13,21 +13,21 @@ ghost use Rattle.beep_steps.specs.EachEnd.{EachEndOn};
 ghost use Rattle.beep_steps.specs.Resting.{IsPromptOn};
 ghost use Rattle.beep_steps.specs.Scripting.{KeepsWholeOn};
 ghost use Rattle.beep_steps.specs.Ends.{AreFit, reads_of};
-ghost use Rattle.beep_steps.specs.Refusing.{GoesUnrefused};
-ghost use Rattle.beep_steps.specs.Logs.{moments, IsLawfulOn, ReadsOnlyGoing, Shows, terms_by};
+ghost use Rattle.beep_steps.specs.Refusing.{GoesUnrefused, ReadsOnlyGoing};
+ghost use Rattle.beep_steps.specs.Logs.{moments, IsLawfulOn, Shows, terms_by};
 
 use crate::listener::Listener;
-use beep_answering::Offers;
-use beep_chars::Text;
-use beep_decide::Offer;
-use beep_journal::Role;
-use beep_link::{Ended, run_turns};
-use beep_octets::NoMemory;
-use beep_session::Session;
-use beep_settings::Settings;
+use beep_steps::beep_answering::Offers;
+use beep_steps::beep_chars::Text;
+use beep_steps::beep_decide::Offer;
+use beep_steps::beep_journal::Role;
+use beep_steps::beep_link::{Ended, run_turns};
+use beep_steps::beep_octets::NoMemory;
+use beep_steps::beep_session::Session;
+use beep_steps::beep_settings::Settings;
+use beep_steps::beep_wires::{Sink, Wires};
 use beep_steps::laws::what_a_listener_greets_with_is_read;
 use beep_steps::{limits_of, reads_of};
-use beep_wires::{Sink, Wires};
 use std::alloc::Global;
 
 /// Listens on one link, until its session ends.
@@ -49,7 +49,7 @@ pub fn listen_end<W: Wires, O: Sink>(
     // ended.
     ensures lawful { WhereKnown (IsLawfulOn (terms_by RoleValue.Listener settings.now))
         (W.state wires.new link).log }
-    ensures told { WhereKnown (Shows (terms_by RoleValue.Listener settings.now) result)
+    ensures shown { WhereKnown (Shows (terms_by RoleValue.Listener settings.now) result)
         (W.state wires.new link).log }
     ensures unrefused { WhereKnown (GoesUnrefused (terms_by RoleValue.Listener settings.now)
         result) (W.state wires.new link).log }

@@ -3,7 +3,7 @@ ghost use Rattle.std.specs.Prelude.{◌≡◌, ◌<◌, length};
 ghost use Rattle.beep_listener.specs.Pruning.{HasPruned, HasPrunedAt};
 
 use beep_lines::Bodies;
-use beep_session::Session;
+use beep_steps::beep_session::Session;
 
 /// Ends each answer whose channel has no live life.
 pub(crate) fn prune(bodies: &mut Bodies, session: &Session)

@@ -2,18 +2,18 @@
 -- beginning of what is written.
 use Rattle.std.proofs.Common.{◌≡◌, ◌⊎◌, inl, inr, ℕ, Bool, true, false, not, ◌&&◌, ◌==◌, List, [], ◌∷◌, ◌++◌, length, None, Some, Option, refl, sym, ap, ◌∙◌, subst}
 use Rattle.std.specs.Option.{is_none}
-use Rattle.beep_frame.specs.declared.head.Head.{Head}
-use Rattle.beep_frame.specs.declared.rule.Rule.{Rule}
-use Rattle.beep_frame.specs.declared.seq.Seq.{Seq}
-use Rattle.beep_history.specs.declared.journal.Side.{Side}
-use Rattle.beep_history.specs.Journal.{Item, began, passed, told}
-use Rattle.beep_journal.specs.Log.{Moment, got, put, got_all, put_all}
-use Rattle.beep_journal.specs.Life.{is_released}
-use Rattle.beep_journal.specs.Broken.{none_tunes, broken_head, broken_seq, broken_content}
-use Rattle.beep_journal.specs.Journal.{Past, Fault, fault_at, begins, passes, seq_ends, TakesOctet, TakesWhere, Takes, goes_on, Shows}
-use Rattle.beep_journal.proofs.ShownLemmas.{one-shown}
-use Rattle.beep_lawful.specs.declared.terms.Terms.{Terms}
-use Rattle.beep_lawful.specs.Lawful.{IsLawful, IsLawfulLog, IsLawfulMoment}
+use Rattle.beep_peer.specs.beep_frame.specs.declared.head.Head.{Head}
+use Rattle.beep_peer.specs.beep_frame.specs.declared.rule.Rule.{Rule}
+use Rattle.beep_peer.specs.beep_frame.specs.declared.seq.Seq.{Seq}
+use Rattle.beep_peer.specs.beep_history.specs.declared.journal.Side.{Side}
+use Rattle.beep_peer.specs.beep_history.specs.Journal.{Item, began, passed, told}
+use Rattle.beep_peer.specs.beep_journal.specs.Log.{Moment, got, put, got_all, put_all}
+use Rattle.beep_peer.specs.beep_journal.specs.Life.{is_released}
+use Rattle.beep_peer.specs.beep_journal.specs.Broken.{none_tunes, broken_head, broken_seq, broken_content}
+use Rattle.beep_peer.specs.beep_journal.specs.Journal.{Past, Fault, fault_at, begins, passes, seq_ends, TakesOctet, TakesWhere, Takes, goes_on, Shows}
+use Rattle.beep_peer.specs.beep_journal.proofs.ShownLemmas.{one-shown}
+use Rattle.beep_peer.specs.beep_lawful.specs.declared.terms.Terms.{Terms}
+use Rattle.beep_peer.specs.beep_lawful.specs.Lawful.{IsLawful, IsLawfulLog, IsLawfulMoment}
 use Rattle.beep_logged.specs.Logged.{IsLogged, IsLoggedBroken, IsSound}
 use Rattle.beep_logged.proofs.OctetLemmas.{longer-lawful}
 use Rattle.beep_logged.proofs.WriteLemmas.{earlier-lawful}

@@ -1,28 +1,28 @@
 -- Octets that were read, and the items that they brought.
 use Rattle.std.proofs.Common.{◌≡◌, ℕ, ◌==◌, inl, inr, Bool, true, false, not, ◌&&◌, ◌||◌, if◌then◌else◌, List, [], ◌∷◌, ◌++◌, length, None, Some, Option, refl, sym, ap, ◌∙◌, subst, append_assoc, append-nil, arith, length-append}
 use Rattle.std.specs.List.{list_any}
-use Rattle.beep_frame.specs.declared.head.Head.{Head}
-use Rattle.beep_frame.specs.declared.seq.Seq.{Seq}
-use Rattle.beep_frame.specs.declared.rule.Rule.{Rule}
-use Rattle.beep_frame.specs.Frame.{framed, seq_frame, IsHead, IsFrame, is_reply}
-use Rattle.beep_frame.specs.Spelling.{spelling, header, header_line, line_end, trailer}
-use Rattle.beep_frame.specs.Stream.{IsUnfinished, HasNoHead, HasHead, IsHeadOf}
-use Rattle.beep_frame.specs.Line.{line_start}
-use Rattle.beep_frame.proofs.AliveLemmas.{unfinished_line}
-use Rattle.beep_frame.proofs.DeadLemmas.{no_frame_alone}
-use Rattle.beep_frame.proofs.StreamLemmas.{Overlap, overlap}
-use Rattle.beep_history.specs.declared.journal.Side.{Side}
-use Rattle.beep_history.specs.Journal.{Item, began, passed, told}
-use Rattle.beep_history.specs.Broken.{under_way}
-use Rattle.beep_journal.specs.Log.{Moment}
-use Rattle.beep_journal.specs.Life.{is_released}
-use Rattle.beep_journal.specs.Zero.{zero_history, completes_form}
-use Rattle.beep_journal.specs.Broken.{none_tunes, broken_content}
-use Rattle.beep_journal.specs.Journal.{spelled}
-use Rattle.beep_journal.proofs.OctetLemmas.{unfinished_head}
-use Rattle.beep_lawful.specs.declared.terms.Terms.{Terms}
-use Rattle.beep_lawful.specs.Lawful.{IsLawful}
-use Rattle.beep_hearing.specs.Hears.{Join, MayJoin, ends_zero}
+use Rattle.beep_peer.specs.beep_frame.specs.declared.head.Head.{Head}
+use Rattle.beep_peer.specs.beep_frame.specs.declared.seq.Seq.{Seq}
+use Rattle.beep_peer.specs.beep_frame.specs.declared.rule.Rule.{Rule}
+use Rattle.beep_peer.specs.beep_frame.specs.Frame.{framed, seq_frame, IsHead, IsFrame, is_reply}
+use Rattle.beep_peer.specs.beep_frame.specs.Spelling.{spelling, header, header_line, line_end, trailer}
+use Rattle.beep_peer.specs.beep_frame.specs.Stream.{IsUnfinished, HasNoHead, HasHead, IsHeadOf}
+use Rattle.beep_peer.specs.beep_frame.specs.Line.{line_start}
+use Rattle.beep_peer.specs.beep_frame.proofs.AliveLemmas.{unfinished_line}
+use Rattle.beep_peer.specs.beep_frame.proofs.DeadLemmas.{no_frame_alone}
+use Rattle.beep_peer.specs.beep_frame.proofs.StreamLemmas.{Overlap, overlap}
+use Rattle.beep_peer.specs.beep_history.specs.declared.journal.Side.{Side}
+use Rattle.beep_peer.specs.beep_history.specs.Journal.{Item, began, passed, told}
+use Rattle.beep_peer.specs.beep_history.specs.Broken.{under_way}
+use Rattle.beep_peer.specs.beep_journal.specs.Log.{Moment}
+use Rattle.beep_peer.specs.beep_journal.specs.Life.{is_released}
+use Rattle.beep_peer.specs.beep_journal.specs.Zero.{zero_history, completes_form}
+use Rattle.beep_peer.specs.beep_journal.specs.Broken.{none_tunes, broken_content}
+use Rattle.beep_peer.specs.beep_journal.specs.Journal.{spelled}
+use Rattle.beep_peer.specs.beep_journal.proofs.OctetLemmas.{unfinished_head}
+use Rattle.beep_peer.specs.beep_lawful.specs.declared.terms.Terms.{Terms}
+use Rattle.beep_peer.specs.beep_lawful.specs.Lawful.{IsLawful}
+use Rattle.beep_peer.specs.beep_hearing.specs.Hears.{Join, MayJoin, ends_zero}
 use Rattle.beep_peer.proofs.GainLemmas.{gained-released}
 use Rattle.beep_logged.proofs.OctetLemmas.{At, May, many, many-append, goes, NoHeadAfter}
 use Rattle.beep_logged.proofs.WholeLemmas.{header-ends, frame-ends, seq-ends, none-after}

@@ -1,19 +1,19 @@
 -- One octet more on a log, and octets that complete nothing.
 use Rattle.std.proofs.Common.{◌≡◌, ℕ, ◌+◌, ◌<◌, inl, Bool, true, false, not, ◌&&◌, List, [], ◌∷◌, ◌++◌, length, None, Some, Option, refl, sym, ap, ◌∙◌, subst, append_assoc, append-nil, arith, length-append}
 use Rattle.std.specs.Option.{is_none}
-use Rattle.beep_frame.specs.declared.head.Head.{Head}
-use Rattle.beep_frame.specs.Frame.{IsHead}
-use Rattle.beep_frame.specs.Spelling.{header}
-use Rattle.beep_frame.specs.Stream.{IsUnfinished}
-use Rattle.beep_history.specs.declared.journal.Side.{Side}
-use Rattle.beep_history.specs.Journal.{Item, other}
-use Rattle.beep_journal.specs.Log.{Moment, got, put, got_all, put_all}
-use Rattle.beep_journal.specs.Life.{is_released}
-use Rattle.beep_journal.specs.Broken.{none_tunes}
-use Rattle.beep_journal.specs.Journal.{Past, Fault, with_rest, TakesOctet, TakesWhere, Takes, goes_on, Shows, GoesOn}
-use Rattle.beep_journal.proofs.ShownLemmas.{one-shown}
-use Rattle.beep_lawful.specs.declared.terms.Terms.{Terms}
-use Rattle.beep_lawful.specs.Lawful.{IsLawful, IsLawfulLog, IsLawfulMoment, breaks_after_end}
+use Rattle.beep_peer.specs.beep_frame.specs.declared.head.Head.{Head}
+use Rattle.beep_peer.specs.beep_frame.specs.Frame.{IsHead}
+use Rattle.beep_peer.specs.beep_frame.specs.Spelling.{header}
+use Rattle.beep_peer.specs.beep_frame.specs.Stream.{IsUnfinished}
+use Rattle.beep_peer.specs.beep_history.specs.declared.journal.Side.{Side}
+use Rattle.beep_peer.specs.beep_history.specs.Journal.{Item, other}
+use Rattle.beep_peer.specs.beep_journal.specs.Log.{Moment, got, put, got_all, put_all}
+use Rattle.beep_peer.specs.beep_journal.specs.Life.{is_released}
+use Rattle.beep_peer.specs.beep_journal.specs.Broken.{none_tunes}
+use Rattle.beep_peer.specs.beep_journal.specs.Journal.{Past, Fault, with_rest, TakesOctet, TakesWhere, Takes, goes_on, Shows, GoesOn}
+use Rattle.beep_peer.specs.beep_journal.proofs.ShownLemmas.{one-shown}
+use Rattle.beep_peer.specs.beep_lawful.specs.declared.terms.Terms.{Terms}
+use Rattle.beep_peer.specs.beep_lawful.specs.Lawful.{IsLawful, IsLawfulLog, IsLawfulMoment, breaks_after_end}
 
 -- ---- moments of a side
 

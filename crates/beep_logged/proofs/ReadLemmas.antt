@@ -2,29 +2,29 @@
 use Rattle.std.proofs.Common.{◌≡◌, ℕ, inl, inr, false, List, [], ◌∷◌, ◌++◌, length, None, Some, Option, refl, sym, ap, ◌∙◌, subst, append_assoc}
 use Rattle.std.specs.List.{list_any}
 use Rattle.std.proofs.lemmas.List.{append_cancel_left}
-use Rattle.beep_frame.specs.declared.head.Head.{Head}
-use Rattle.beep_frame.specs.declared.rule.Rule.{Rule}
-use Rattle.beep_frame.specs.Frame.{framed, IsFrame}
-use Rattle.beep_frame.specs.Spelling.{spelling}
-use Rattle.beep_frame.specs.Stream.{IsUnfinished, IsHeadOf}
-use Rattle.beep_frame.specs.Decoding.{DecoderState}
-use Rattle.beep_frame.specs.Laws.{Means}
-use Rattle.beep_frame.specs.Fed.{fed_of}
-use Rattle.beep_frame.proofs.LawLemmas.{means}
-use Rattle.beep_history.specs.declared.journal.Side.{Side}
-use Rattle.beep_history.specs.Journal.{Item, passed}
-use Rattle.beep_history.specs.Broken.{under_way}
-use Rattle.beep_journal.specs.Log.{Moment, got, got_all, none, over}
-use Rattle.beep_journal.specs.Life.{is_released}
-use Rattle.beep_journal.specs.Broken.{none_tunes, broken_content}
-use Rattle.beep_journal.specs.Journal.{Past, Fault, spelled, fault_at, passes, EndsFrame, Shows, no_past}
-use Rattle.beep_journal.proofs.ShownLemmas.{one-shown}
-use Rattle.beep_channel.specs.Held.{Live}
-use Rattle.beep_lawful.specs.declared.terms.Terms.{Terms}
-use Rattle.beep_lawful.specs.Lawful.{IsLawful}
-use Rattle.beep_standing.specs.Standing.{Marks}
-use Rattle.beep_hearing.specs.declared.ear.Ear.{Ear}
-use Rattle.beep_hearing.specs.Hears.{IsFed, Waits, Join, ends_zero, Breaks}
+use Rattle.beep_peer.specs.beep_frame.specs.declared.head.Head.{Head}
+use Rattle.beep_peer.specs.beep_frame.specs.declared.rule.Rule.{Rule}
+use Rattle.beep_peer.specs.beep_frame.specs.Frame.{framed, IsFrame}
+use Rattle.beep_peer.specs.beep_frame.specs.Spelling.{spelling}
+use Rattle.beep_peer.specs.beep_frame.specs.Stream.{IsUnfinished, IsHeadOf}
+use Rattle.beep_peer.specs.beep_frame.specs.Decoding.{DecoderState}
+use Rattle.beep_peer.specs.beep_frame.specs.Laws.{Means}
+use Rattle.beep_peer.specs.beep_frame.specs.Fed.{fed_of}
+use Rattle.beep_peer.specs.beep_frame.proofs.LawLemmas.{means}
+use Rattle.beep_peer.specs.beep_history.specs.declared.journal.Side.{Side}
+use Rattle.beep_peer.specs.beep_history.specs.Journal.{Item, passed}
+use Rattle.beep_peer.specs.beep_history.specs.Broken.{under_way}
+use Rattle.beep_peer.specs.beep_journal.specs.Log.{Moment, got, got_all, none, over}
+use Rattle.beep_peer.specs.beep_journal.specs.Life.{is_released}
+use Rattle.beep_peer.specs.beep_journal.specs.Broken.{none_tunes, broken_content}
+use Rattle.beep_peer.specs.beep_journal.specs.Journal.{Past, Fault, spelled, fault_at, passes, EndsFrame, Shows, no_past}
+use Rattle.beep_peer.specs.beep_journal.proofs.ShownLemmas.{one-shown}
+use Rattle.beep_peer.specs.beep_channel.specs.Held.{Live}
+use Rattle.beep_peer.specs.beep_lawful.specs.declared.terms.Terms.{Terms}
+use Rattle.beep_peer.specs.beep_lawful.specs.Lawful.{IsLawful}
+use Rattle.beep_peer.specs.beep_standing.specs.Standing.{Marks}
+use Rattle.beep_peer.specs.beep_hearing.specs.declared.ear.Ear.{Ear}
+use Rattle.beep_peer.specs.beep_hearing.specs.Hears.{IsFed, Waits, Join, ends_zero, Breaks}
 use Rattle.beep_peer.proofs.GainLemmas.{gained-released}
 use Rattle.beep_logged.specs.Logged.{IsLogged, IsLoggedWaiting, IsLoggedBroken}
 use Rattle.beep_logged.proofs.OctetLemmas.{At, May, many, many-append, many-got, takes-of, longer-lawful, moment-lawful, step, rest-own, rest-other}

@@ -1,23 +1,23 @@
 -- Octets that complete a header, a frame or a SEQ.
 use Rattle.std.proofs.Common.{◌≡◌, ℕ, inl, inr, List, [], ◌∷◌, ◌++◌, length, replicate, None, Option, refl, sym, ap, ◌∙◌, subst, append_assoc, append-nil, arith, length-append}
 use Rattle.std.proofs.lemmas.List.{length-replicate}
-use Rattle.beep_frame.specs.declared.head.Head.{Head}
-use Rattle.beep_frame.specs.declared.seq.Seq.{Seq}
-use Rattle.beep_frame.specs.declared.rule.Rule.{Rule}
-use Rattle.beep_frame.specs.Frame.{framed, seq_frame, IsHead, IsFrame, IsSeq}
-use Rattle.beep_frame.specs.Spelling.{spelling, header}
-use Rattle.beep_frame.specs.Stream.{IsUnfinished, HasNoHead}
-use Rattle.beep_frame.specs.Line.{at_head, at_seq}
-use Rattle.beep_frame.proofs.LawLemmas.{same_head, not_whole}
-use Rattle.beep_frame.proofs.StreamLemmas.{same_line}
-use Rattle.beep_history.specs.declared.journal.Side.{Side}
-use Rattle.beep_history.specs.Journal.{Item, began, passed, told, other}
-use Rattle.beep_journal.specs.Log.{Moment}
-use Rattle.beep_journal.specs.Broken.{none_tunes, broken_head, broken_seq, broken_content}
-use Rattle.beep_journal.specs.Journal.{Past, begins, passes, seq_ends, EndsHeader, EndsFrame, EndsSeq}
-use Rattle.beep_journal.proofs.OctetLemmas.{unfinished_head}
-use Rattle.beep_lawful.specs.declared.terms.Terms.{Terms}
-use Rattle.beep_lawful.specs.Lawful.{IsLawful}
+use Rattle.beep_peer.specs.beep_frame.specs.declared.head.Head.{Head}
+use Rattle.beep_peer.specs.beep_frame.specs.declared.seq.Seq.{Seq}
+use Rattle.beep_peer.specs.beep_frame.specs.declared.rule.Rule.{Rule}
+use Rattle.beep_peer.specs.beep_frame.specs.Frame.{framed, seq_frame, IsHead, IsFrame, IsSeq}
+use Rattle.beep_peer.specs.beep_frame.specs.Spelling.{spelling, header}
+use Rattle.beep_peer.specs.beep_frame.specs.Stream.{IsUnfinished, HasNoHead}
+use Rattle.beep_peer.specs.beep_frame.specs.Line.{at_head, at_seq}
+use Rattle.beep_peer.specs.beep_frame.proofs.LawLemmas.{same_head, not_whole}
+use Rattle.beep_peer.specs.beep_frame.proofs.StreamLemmas.{same_line}
+use Rattle.beep_peer.specs.beep_history.specs.declared.journal.Side.{Side}
+use Rattle.beep_peer.specs.beep_history.specs.Journal.{Item, began, passed, told, other}
+use Rattle.beep_peer.specs.beep_journal.specs.Log.{Moment}
+use Rattle.beep_peer.specs.beep_journal.specs.Broken.{none_tunes, broken_head, broken_seq, broken_content}
+use Rattle.beep_peer.specs.beep_journal.specs.Journal.{Past, begins, passes, seq_ends, EndsHeader, EndsFrame, EndsSeq}
+use Rattle.beep_peer.specs.beep_journal.proofs.OctetLemmas.{unfinished_head}
+use Rattle.beep_peer.specs.beep_lawful.specs.declared.terms.Terms.{Terms}
+use Rattle.beep_peer.specs.beep_lawful.specs.Lawful.{IsLawful}
 use Rattle.beep_logged.proofs.OctetLemmas.{At, May, moment_of, many, many-append, step, goes, shorter, NoHeadAfter, rest-own, rest-other}
 
 -- ---- where no header ends

@@ -2,18 +2,18 @@
 use Rattle.std.proofs.Common.{◌≡◌, ℕ, Bool, true, false, ◌&&◌, not, ◌==◌, if◌then◌else◌, length, eqb-true, List, [], ◌∷◌, ◌++◌, None, Some, Option, refl, sym, ap, ◌∙◌, subst, append_assoc, append-nil}
 use Rattle.std.specs.Prelude.{is_some}
 use Rattle.std.specs.Option.{is_none}
-use Rattle.beep_frame.specs.declared.head.Head.{Head}
-use Rattle.beep_frame.specs.declared.seq.Seq.{Seq}
-use Rattle.beep_frame.specs.declared.rule.Rule.{Rule}
-use Rattle.beep_frame.specs.Frame.{framed, seq_frame, IsHead, IsFrame, IsSeq}
-use Rattle.beep_frame.specs.Spelling.{spelling, header, header_line, seq_line, trailer}
-use Rattle.beep_history.specs.declared.journal.Side.{Side}
-use Rattle.beep_history.specs.Journal.{Item, began, passed, told}
-use Rattle.beep_journal.specs.Log.{Moment, put_all}
-use Rattle.beep_journal.specs.Broken.{none_tunes, broken_head, broken_seq, broken_content}
-use Rattle.beep_lawful.specs.declared.breach.Breach.{Breach}
-use Rattle.beep_lawful.specs.declared.terms.Terms.{Terms}
-use Rattle.beep_lawful.specs.Lawful.{is_apart, same_head, breaks_apart, breaks_rule, breaks_content, breaks_seq_rule, breaks_after_end, unlawful_head, unlawful_frame, unlawful_seq, unlawful_item, is_lawful, IsLawful}
+use Rattle.beep_peer.specs.beep_frame.specs.declared.head.Head.{Head}
+use Rattle.beep_peer.specs.beep_frame.specs.declared.seq.Seq.{Seq}
+use Rattle.beep_peer.specs.beep_frame.specs.declared.rule.Rule.{Rule}
+use Rattle.beep_peer.specs.beep_frame.specs.Frame.{framed, seq_frame, IsHead, IsFrame, IsSeq}
+use Rattle.beep_peer.specs.beep_frame.specs.Spelling.{spelling, header, header_line, seq_line, trailer}
+use Rattle.beep_peer.specs.beep_history.specs.declared.journal.Side.{Side}
+use Rattle.beep_peer.specs.beep_history.specs.Journal.{Item, began, passed, told}
+use Rattle.beep_peer.specs.beep_journal.specs.Log.{Moment, put_all}
+use Rattle.beep_peer.specs.beep_journal.specs.Broken.{none_tunes, broken_head, broken_seq, broken_content}
+use Rattle.beep_peer.specs.beep_lawful.specs.declared.breach.Breach.{Breach}
+use Rattle.beep_peer.specs.beep_lawful.specs.declared.terms.Terms.{Terms}
+use Rattle.beep_peer.specs.beep_lawful.specs.Lawful.{is_apart, same_head, breaks_apart, breaks_rule, breaks_content, breaks_seq_rule, breaks_after_end, unlawful_head, unlawful_frame, unlawful_seq, unlawful_item, is_lawful, IsLawful}
 use Rattle.beep_logged.specs.Logged.{IsLogged}
 use Rattle.beep_logged.proofs.OctetLemmas.{At, many, many-append, many-put}
 use Rattle.beep_logged.proofs.WholeLemmas.{header-ends, frame-ends, seq-ends}

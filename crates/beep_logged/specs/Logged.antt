@@ -2,17 +2,17 @@
 -- and what was written on it was lawful (RFC 3080, section 2.2.1; RFC 3081, section 3.1).
 -- A session keeps no log.
 use Rattle.std.specs.Prelude.{◌≡◌, ℕ, List, [], ◌∷◌, ◌++◌, None, Some}
-use Rattle.beep_frame.specs.declared.head.Head.{Head}
-use Rattle.beep_frame.specs.declared.rule.Rule.{Rule}
-use Rattle.beep_frame.specs.Frame.{framed}
-use Rattle.beep_frame.specs.Spelling.{spelling}
-use Rattle.beep_history.specs.declared.journal.Side.{Side}
-use Rattle.beep_history.specs.Journal.{Item}
-use Rattle.beep_journal.specs.Broken.{none_tunes}
-use Rattle.beep_journal.specs.Journal.{Past, Shows}
-use Rattle.beep_journal.specs.Log.{Moment, got}
-use Rattle.beep_lawful.specs.declared.terms.Terms.{Terms}
-use Rattle.beep_lawful.specs.Lawful.{IsLawfulLog}
+use Rattle.beep_peer.specs.beep_frame.specs.declared.head.Head.{Head}
+use Rattle.beep_peer.specs.beep_frame.specs.declared.rule.Rule.{Rule}
+use Rattle.beep_peer.specs.beep_frame.specs.Frame.{framed}
+use Rattle.beep_peer.specs.beep_frame.specs.Spelling.{spelling}
+use Rattle.beep_peer.specs.beep_history.specs.declared.journal.Side.{Side}
+use Rattle.beep_peer.specs.beep_history.specs.Journal.{Item}
+use Rattle.beep_peer.specs.beep_journal.specs.Broken.{none_tunes}
+use Rattle.beep_peer.specs.beep_journal.specs.Journal.{Past, Shows}
+use Rattle.beep_peer.specs.beep_journal.specs.Log.{Moment, got}
+use Rattle.beep_peer.specs.beep_lawful.specs.declared.terms.Terms.{Terms}
+use Rattle.beep_peer.specs.beep_lawful.specs.Lawful.{IsLawfulLog}
 
 -- ---- while a session goes on
 

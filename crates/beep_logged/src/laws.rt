@@ -2,24 +2,24 @@
 //! its contract is the fact.
 ghost use Rattle.std.specs.Prelude.{◌≡◌, ℕ, ◌++◌, ◌∷◌, [], List, true, false, None, Some, length};
 ghost use Rattle.std.specs.List.{list_any};
-ghost use Rattle.beep_frame.specs.declared.head.Head.{Head};
-ghost use Rattle.beep_frame.specs.declared.rule.Rule.{Rule};
-ghost use Rattle.beep_frame.specs.declared.seq.Seq.{Seq};
-ghost use Rattle.beep_frame.specs.Decoding.{DecoderState};
-ghost use Rattle.beep_frame.specs.Frame.{framed, seq_frame, IsFrame, IsSeq};
-ghost use Rattle.beep_frame.specs.Spelling.{spelling};
-ghost use Rattle.beep_history.specs.declared.journal.Side.{Side};
-ghost use Rattle.beep_history.specs.Journal.{Item, began, passed, told};
-ghost use Rattle.beep_journal.specs.Log.{Moment, got_all, put_all, none, over};
-ghost use Rattle.beep_journal.specs.Life.{is_released};
-ghost use Rattle.beep_journal.specs.Broken.{none_tunes, broken_content};
-ghost use Rattle.beep_journal.specs.Journal.{Past, Shows, spelled};
-ghost use Rattle.beep_channel.specs.Held.{Live};
-ghost use Rattle.beep_lawful.specs.declared.terms.Terms.{Terms};
-ghost use Rattle.beep_lawful.specs.Lawful.{IsLawful, IsLawfulLog};
-ghost use Rattle.beep_standing.specs.Standing.{Marks};
-ghost use Rattle.beep_hearing.specs.declared.ear.Ear.{Ear};
-ghost use Rattle.beep_hearing.specs.Hears.{IsFed, Waits, Join, ends_zero, Breaks};
+ghost use Rattle.beep_peer.specs.beep_frame.specs.declared.head.Head.{Head};
+ghost use Rattle.beep_peer.specs.beep_frame.specs.declared.rule.Rule.{Rule};
+ghost use Rattle.beep_peer.specs.beep_frame.specs.declared.seq.Seq.{Seq};
+ghost use Rattle.beep_peer.specs.beep_frame.specs.Decoding.{DecoderState};
+ghost use Rattle.beep_peer.specs.beep_frame.specs.Frame.{framed, seq_frame, IsFrame, IsSeq};
+ghost use Rattle.beep_peer.specs.beep_frame.specs.Spelling.{spelling};
+ghost use Rattle.beep_peer.specs.beep_history.specs.declared.journal.Side.{Side};
+ghost use Rattle.beep_peer.specs.beep_history.specs.Journal.{Item, began, passed, told};
+ghost use Rattle.beep_peer.specs.beep_journal.specs.Log.{Moment, got_all, put_all, none, over};
+ghost use Rattle.beep_peer.specs.beep_journal.specs.Life.{is_released};
+ghost use Rattle.beep_peer.specs.beep_journal.specs.Broken.{none_tunes, broken_content};
+ghost use Rattle.beep_peer.specs.beep_journal.specs.Journal.{Past, Shows, spelled};
+ghost use Rattle.beep_peer.specs.beep_channel.specs.Held.{Live};
+ghost use Rattle.beep_peer.specs.beep_lawful.specs.declared.terms.Terms.{Terms};
+ghost use Rattle.beep_peer.specs.beep_lawful.specs.Lawful.{IsLawful, IsLawfulLog};
+ghost use Rattle.beep_peer.specs.beep_standing.specs.Standing.{Marks};
+ghost use Rattle.beep_peer.specs.beep_hearing.specs.declared.ear.Ear.{Ear};
+ghost use Rattle.beep_peer.specs.beep_hearing.specs.Hears.{IsFed, Waits, Join, ends_zero, Breaks};
 ghost use Rattle.beep_logged.specs.Logged.{IsLogged, IsLoggedWaiting, IsLoggedBroken, IsSound};
 
 /// Before the first octet a log shows a session in which nothing has happened.

@@ -5,7 +5,7 @@ use Rattle.std.specs.Option.{option_map_or, option_to_list}
 use Rattle.std.proofs.lemmas.List.{map-set, get_or-map, length-map}
 use Rattle.std.proofs.lemmas.List.Edits.{map_over_more}
 use Rattle.beep_management.specs.declared.answers.Answer.{Answer}
-use Rattle.beep_channel.specs.Held.{Live}
+use Rattle.beep_asked.specs.beep_channel.specs.Held.{Live}
 use Rattle.beep_management.specs.Managed.{Prepared, one_without, octets_prepared, numbers_of, lowest}
 use Rattle.beep_management.specs.Values.{prepared_of}
 

@@ -1,10 +1,10 @@
 -- What a grant leaves of requests: what each says, and whether it is the implied one, stay.
 use Rattle.std.proofs.Common.{◌≡◌, ℕ, Bool, true, false, if◌then◌else◌, List, [], ◌∷◌, ◌++◌, length, map, reverse, Option, Some, None, refl, sym, ap, ◌∙◌, subst}
 use Rattle.std.proofs.lemmas.List.{length-map}
-use Rattle.beep_frame.specs.declared.kind.Kind.{Kind}
-use Rattle.beep_frame.specs.Frame.{same_kind}
-use Rattle.beep_mgmt.specs.Form.{Form, greeting, start, chosen, close, okay, fault}
-use Rattle.beep_journal.specs.Zero.{has_form}
+use Rattle.beep_asked.specs.beep_frame.specs.declared.kind.Kind.{Kind}
+use Rattle.beep_asked.specs.beep_frame.specs.Frame.{same_kind}
+use Rattle.beep_asked.specs.beep_mgmt.specs.Form.{Form, greeting, start, chosen, close, okay, fault}
+use Rattle.beep_asked.specs.beep_journal.specs.Zero.{has_form}
 use Rattle.beep_spoken.specs.Spoken.{Spoken}
 use Rattle.beep_asked.specs.Kept.{Kept, fits, clear_one, cleared_by, after_grant}
 use Rattle.beep_management.specs.Managed.{number_started, numbers_started, numbers_granted}

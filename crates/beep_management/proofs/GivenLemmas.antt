@@ -1,20 +1,20 @@
 -- What a message that is given to channel zero makes of what is kept.
 use Rattle.std.proofs.Common.{◌≡◌, ℕ, ◌+◌, ◌≤◌, ◌==◌, Bool, true, false, not, if◌then◌else◌, List, [], ◌∷◌, ◌++◌, length, map, reverse, Some, None, refl, sym, ap, ◌∙◌, arith, subst, append_assoc, append-nil, length-append}
 use Rattle.std.proofs.lemmas.List.{drop-append-le}
-use Rattle.beep_frame.specs.declared.kind.Kind.{Kind}
-use Rattle.beep_frame.specs.Frame.{is_msg, is_ans, is_reply}
-use Rattle.beep_mgmt.specs.Message.{message_said}
-use Rattle.beep_history.specs.declared.journal.Side.{Side}
-use Rattle.beep_history.specs.Journal.{Item}
-use Rattle.beep_history.specs.Marks.{Mark, octet, end, marks, mark_modulo_2_64}
-use Rattle.beep_exchange.specs.Given.{ends_reply}
-use Rattle.beep_outbox.specs.Queue.{Message, message_marks}
-use Rattle.beep_journal.specs.Zero.{zero_history}
-use Rattle.beep_journal.specs.Laws.{contents}
-use Rattle.beep_channel.specs.Held.{Live}
-use Rattle.beep_channel.specs.Stands.{Stands, IsCounted, ends_of, answers_after, answer_number}
-use Rattle.beep_channel.proofs.CountedLemmas.{ends-append, ends-part}
-use Rattle.beep_standing.specs.Standing.{Marks, with_marks}
+use Rattle.beep_asked.specs.beep_frame.specs.declared.kind.Kind.{Kind}
+use Rattle.beep_asked.specs.beep_frame.specs.Frame.{is_msg, is_ans, is_reply}
+use Rattle.beep_asked.specs.beep_mgmt.specs.Message.{message_said}
+use Rattle.beep_asked.specs.beep_history.specs.declared.journal.Side.{Side}
+use Rattle.beep_asked.specs.beep_history.specs.Journal.{Item}
+use Rattle.beep_asked.specs.beep_history.specs.Marks.{Mark, octet, end, marks, mark_modulo_2_64}
+use Rattle.beep_asked.specs.beep_exchange.specs.Given.{ends_reply}
+use Rattle.beep_asked.specs.beep_outbox.specs.Queue.{Message, message_marks}
+use Rattle.beep_asked.specs.beep_journal.specs.Zero.{zero_history}
+use Rattle.beep_asked.specs.beep_journal.specs.Laws.{contents}
+use Rattle.beep_asked.specs.beep_channel.specs.Held.{Live}
+use Rattle.beep_asked.specs.beep_channel.specs.Stands.{Stands, IsCounted, ends_of, answers_after, answer_number}
+use Rattle.beep_asked.specs.beep_channel.proofs.CountedLemmas.{ends-append, ends-part}
+use Rattle.beep_asked.specs.beep_standing.specs.Standing.{Marks, with_marks}
 use Rattle.beep_spoken.specs.Spoken.{Spoken, text_of, kinds_of}
 use Rattle.beep_spoken.proofs.SpokenLemmas.{spoken-more}
 use Rattle.beep_asked.specs.Kept.{Kept, Queue}

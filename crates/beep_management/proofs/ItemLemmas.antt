@@ -1,19 +1,19 @@
 -- What items that end no message of channel zero leave of what is kept.
 use Rattle.std.proofs.Common.{◌≡◌, ℕ, ◌+◌, ◌==◌, Bool, true, false, not, ◌&&◌, if◌then◌else◌, List, [], ◌∷◌, ◌++◌, length, map, drop, reverse, Some, refl, sym, ap, ◌∙◌, arith, subst, append-nil}
-use Rattle.beep_frame.specs.declared.head.Head.{Head}
-use Rattle.beep_frame.specs.declared.kind.Kind.{Kind}
-use Rattle.beep_frame.specs.declared.seq.Seq.{Seq}
-use Rattle.beep_frame.specs.declared.tag.Tag.{Tag}
-use Rattle.beep_frame.specs.Frame.{is_msg, same_kind}
-use Rattle.beep_history.specs.declared.journal.Side.{Side}
-use Rattle.beep_history.specs.Journal.{Item, began, passed, told}
-use Rattle.beep_history.specs.Marks.{Mark, marks, frame_marks, tag_of, carries}
-use Rattle.beep_exchange.specs.Given.{ends_reply}
-use Rattle.beep_journal.specs.Zero.{channel_of, zero_history}
-use Rattle.beep_journal.specs.Laws.{contents, completed}
-use Rattle.beep_channel.specs.Stands.{ends_of}
-use Rattle.beep_channel.proofs.CountedLemmas.{ends-append, ends-part}
-use Rattle.beep_standing.specs.Standing.{Marks, no_marks}
+use Rattle.beep_asked.specs.beep_frame.specs.declared.head.Head.{Head}
+use Rattle.beep_asked.specs.beep_frame.specs.declared.kind.Kind.{Kind}
+use Rattle.beep_asked.specs.beep_frame.specs.declared.seq.Seq.{Seq}
+use Rattle.beep_asked.specs.beep_frame.specs.declared.tag.Tag.{Tag}
+use Rattle.beep_asked.specs.beep_frame.specs.Frame.{is_msg, same_kind}
+use Rattle.beep_asked.specs.beep_history.specs.declared.journal.Side.{Side}
+use Rattle.beep_asked.specs.beep_history.specs.Journal.{Item, began, passed, told}
+use Rattle.beep_asked.specs.beep_history.specs.Marks.{Mark, marks, frame_marks, tag_of, carries}
+use Rattle.beep_asked.specs.beep_exchange.specs.Given.{ends_reply}
+use Rattle.beep_asked.specs.beep_journal.specs.Zero.{channel_of, zero_history}
+use Rattle.beep_asked.specs.beep_journal.specs.Laws.{contents, completed}
+use Rattle.beep_asked.specs.beep_channel.specs.Stands.{ends_of}
+use Rattle.beep_asked.specs.beep_channel.proofs.CountedLemmas.{ends-append, ends-part}
+use Rattle.beep_asked.specs.beep_standing.specs.Standing.{Marks, no_marks}
 use Rattle.beep_spoken.specs.Spoken.{Spoken, AreSpoken}
 use Rattle.beep_asked.specs.Kept.{Kept, implied_request, fits}
 use Rattle.beep_asked.specs.Asked.{AreWaiting}

@@ -2,9 +2,9 @@
 use Rattle.std.proofs.Common.{◌≡◌, ℕ, zero, suc, ◌<◌, Bool, true, false, not, if◌then◌else◌, List, [], ◌∷◌, ◌++◌, length, map, drop, reverse, slice_get, Some, refl, sym, ap, ◌∙◌, arith, subst, append_assoc}
 use Rattle.std.proofs.lemmas.List.{reverse-append, length-reverse, map-append}
 use Rattle.std.proofs.lemmas.List.Elements.{filter-append}
-use Rattle.beep_frame.specs.declared.kind.Kind.{Kind}
-use Rattle.beep_frame.specs.Frame.{is_msg, is_ans, same_kind}
-use Rattle.beep_channel.specs.Held.{Live}
+use Rattle.beep_asked.specs.beep_frame.specs.declared.kind.Kind.{Kind}
+use Rattle.beep_asked.specs.beep_frame.specs.Frame.{is_msg, is_ans, same_kind}
+use Rattle.beep_asked.specs.beep_channel.specs.Held.{Live}
 use Rattle.beep_spoken.specs.Spoken.{Spoken}
 use Rattle.beep_asked.specs.Kept.{Kept, fits}
 use Rattle.beep_management.specs.Managed.{Prepared, number_started, numbers_started, numbers_granted, requests_among, replies_among}

@@ -1,13 +1,13 @@
 -- What a grant makes of lives, done to the channels.
 use Rattle.std.proofs.Common.{◌≡◌, ℕ, ◌==◌, nat_lt, Bool, true, false, not, ◌&&◌, ◌||◌, if◌then◌else◌, List, [], ◌∷◌, Option, Some, None, sym, ap, ◌∙◌, subst}
-use Rattle.beep_mgmt.specs.Form.{Form, greeting, start, chosen, close, okay, fault}
-use Rattle.beep_history.specs.Journal.{Item}
-use Rattle.beep_journal.specs.Lives.{is_live}
-use Rattle.beep_journal.specs.Zero.{channel_of, events}
-use Rattle.beep_channel.specs.Held.{Live}
-use Rattle.beep_standing.specs.Standing.{Marks, AreLive, AreLiveBy, with_marks}
-use Rattle.beep_standing.specs.Moving.{MovesNone, BeginsWhere, EndsWhere}
-use Rattle.beep_standing.proofs.LivesLemmas.{lives-stay, life-begins, life-ends}
+use Rattle.beep_asked.specs.beep_mgmt.specs.Form.{Form, greeting, start, chosen, close, okay, fault}
+use Rattle.beep_asked.specs.beep_history.specs.Journal.{Item}
+use Rattle.beep_asked.specs.beep_journal.specs.Lives.{is_live}
+use Rattle.beep_asked.specs.beep_journal.specs.Zero.{channel_of, events}
+use Rattle.beep_asked.specs.beep_channel.specs.Held.{Live}
+use Rattle.beep_asked.specs.beep_standing.specs.Standing.{Marks, AreLive, AreLiveBy, with_marks}
+use Rattle.beep_asked.specs.beep_standing.specs.Moving.{MovesNone, BeginsWhere, EndsWhere}
+use Rattle.beep_asked.specs.beep_standing.proofs.LivesLemmas.{lives-stay, life-begins, life-ends}
 use Rattle.beep_asked.specs.Kept.{Kept}
 use Rattle.beep_asked.specs.Asked.{SaysLive}
 use Rattle.beep_asked.specs.Granting.{IsGrantedAs, IsGranted}

@@ -1,21 +1,21 @@
 -- What a whole message of the peer makes of what is kept.
 use Rattle.std.proofs.Common.{◌≡◌, ℕ, ◌+◌, ◌-◌, ◌<◌, ◌≤◌, ◌==◌, nat_lt, Bool, true, false, not, if◌then◌else◌, List, [], ◌∷◌, ◌++◌, length, reverse, Option, Some, refl, sym, ap, ◌∙◌, arith, subst, append_assoc, append-nil, length-append}
 use Rattle.std.proofs.lemmas.Bool.Decides.{nat_tests}
-use Rattle.beep_frame.specs.declared.head.Head.{Head}
-use Rattle.beep_frame.specs.Frame.{is_msg}
-use Rattle.beep_mgmt.specs.Form.{Form}
-use Rattle.beep_mgmt.specs.Message.{message_said}
-use Rattle.beep_history.specs.declared.journal.Side.{Side}
-use Rattle.beep_history.specs.Journal.{Item, passed}
-use Rattle.beep_history.specs.Marks.{marks, requests, previous, carries}
-use Rattle.beep_history.specs.Broken.{under_way}
-use Rattle.beep_history.proofs.PassedLemmas.{sound}
-use Rattle.beep_history.proofs.SoundLemmas.{is_open}
-use Rattle.beep_journal.specs.Zero.{zero_history, events, gathered, asked}
-use Rattle.beep_journal.specs.Laws.{contents}
-use Rattle.beep_channel.specs.Held.{Live}
-use Rattle.beep_channel.specs.Stands.{ends_of}
-use Rattle.beep_standing.specs.Standing.{Marks}
+use Rattle.beep_asked.specs.beep_frame.specs.declared.head.Head.{Head}
+use Rattle.beep_asked.specs.beep_frame.specs.Frame.{is_msg}
+use Rattle.beep_asked.specs.beep_mgmt.specs.Form.{Form}
+use Rattle.beep_asked.specs.beep_mgmt.specs.Message.{message_said}
+use Rattle.beep_asked.specs.beep_history.specs.declared.journal.Side.{Side}
+use Rattle.beep_asked.specs.beep_history.specs.Journal.{Item, passed}
+use Rattle.beep_asked.specs.beep_history.specs.Marks.{marks, requests, previous, carries}
+use Rattle.beep_asked.specs.beep_history.specs.Broken.{under_way}
+use Rattle.beep_asked.specs.beep_history.proofs.PassedLemmas.{sound}
+use Rattle.beep_asked.specs.beep_history.proofs.SoundLemmas.{is_open}
+use Rattle.beep_asked.specs.beep_journal.specs.Zero.{zero_history, events, gathered, asked}
+use Rattle.beep_asked.specs.beep_journal.specs.Laws.{contents}
+use Rattle.beep_asked.specs.beep_channel.specs.Held.{Live}
+use Rattle.beep_asked.specs.beep_channel.specs.Stands.{ends_of}
+use Rattle.beep_asked.specs.beep_standing.specs.Standing.{Marks}
 use Rattle.beep_spoken.specs.Spoken.{Spoken}
 use Rattle.beep_asked.specs.Kept.{Kept, Queue, new_kept, fits, grants, after_grant}
 use Rattle.beep_asked.specs.Asked.{AreWaiting, EndsRequest, EndsReply, SaysLive}

@@ -1,14 +1,14 @@
 -- What is kept stands for the same, whatever room it has and whatever its answers wait for.
 use Rattle.std.proofs.Common.{◌≡◌, ℕ, ◌+◌, ◌≤◌, ◌++◌, Bool, true, false, List, [], ◌∷◌, length, reverse, Option, Some, None, refl, sym, ap, ◌∙◌, subst}
 use Rattle.std.proofs.lemmas.List.{length-map}
-use Rattle.beep_mgmt.specs.Form.{Form, greeting, start, chosen, close, okay, fault}
-use Rattle.beep_history.specs.declared.journal.Side.{Side}
-use Rattle.beep_history.specs.Journal.{Item}
-use Rattle.beep_journal.specs.Zero.{zero_history}
-use Rattle.beep_channel.specs.Held.{Live}
-use Rattle.beep_channel.specs.Stands.{ends_of}
-use Rattle.beep_exchange.specs.Given.{ends_reply}
-use Rattle.beep_standing.specs.Standing.{Marks}
+use Rattle.beep_asked.specs.beep_mgmt.specs.Form.{Form, greeting, start, chosen, close, okay, fault}
+use Rattle.beep_asked.specs.beep_history.specs.declared.journal.Side.{Side}
+use Rattle.beep_asked.specs.beep_history.specs.Journal.{Item}
+use Rattle.beep_asked.specs.beep_journal.specs.Zero.{zero_history}
+use Rattle.beep_asked.specs.beep_channel.specs.Held.{Live}
+use Rattle.beep_asked.specs.beep_channel.specs.Stands.{ends_of}
+use Rattle.beep_asked.specs.beep_exchange.specs.Given.{ends_reply}
+use Rattle.beep_asked.specs.beep_standing.specs.Standing.{Marks}
 use Rattle.beep_spoken.specs.Spoken.{Spoken}
 use Rattle.beep_asked.specs.Kept.{Kept}
 use Rattle.beep_asked.specs.Asked.{AreWaiting}

@@ -1,23 +1,23 @@
 -- What the last frame of an own message of channel zero makes of what is kept.
 use Rattle.std.proofs.Common.{◌≡◌, ℕ, suc, ◌+◌, ◌<◌, ◌≤◌, ◌==◌, Bool, true, false, ◌&&◌, if◌then◌else◌, List, [], ◌∷◌, ◌++◌, length, drop, reverse, Option, Some, None, is_some, refl, sym, ap, ◌∙◌, arith, subst, append_assoc, length-append}
 use Rattle.std.proofs.lemmas.Option.{slice_get_within}
-use Rattle.beep_frame.specs.declared.head.Head.{Head}
-use Rattle.beep_frame.specs.declared.kind.Kind.{Kind}
-use Rattle.beep_frame.specs.Frame.{is_msg, is_ans, same_kind}
-use Rattle.beep_mgmt.specs.Form.{Form}
-use Rattle.beep_mgmt.specs.Message.{message_said}
-use Rattle.beep_history.specs.declared.journal.Side.{Side}
-use Rattle.beep_history.specs.Journal.{Item, began, passed}
-use Rattle.beep_history.specs.Marks.{marks}
-use Rattle.beep_history.specs.Broken.{KeepsExchangeRules}
-use Rattle.beep_outbox.specs.Queue.{marks_of}
-use Rattle.beep_journal.specs.Zero.{zero_history, zero_events, events, gathered}
-use Rattle.beep_journal.specs.Laws.{contents}
-use Rattle.beep_channel.specs.Held.{Live}
-use Rattle.beep_channel.specs.Stands.{Stands, ends_of}
-use Rattle.beep_lives.specs.Lives.{live_at}
-use Rattle.beep_standing.specs.Standing.{Marks, AreLive}
-use Rattle.beep_standing.specs.Moving.{MovesNone}
+use Rattle.beep_asked.specs.beep_frame.specs.declared.head.Head.{Head}
+use Rattle.beep_asked.specs.beep_frame.specs.declared.kind.Kind.{Kind}
+use Rattle.beep_asked.specs.beep_frame.specs.Frame.{is_msg, is_ans, same_kind}
+use Rattle.beep_asked.specs.beep_mgmt.specs.Form.{Form}
+use Rattle.beep_asked.specs.beep_mgmt.specs.Message.{message_said}
+use Rattle.beep_asked.specs.beep_history.specs.declared.journal.Side.{Side}
+use Rattle.beep_asked.specs.beep_history.specs.Journal.{Item, began, passed}
+use Rattle.beep_asked.specs.beep_history.specs.Marks.{marks}
+use Rattle.beep_asked.specs.beep_history.specs.Broken.{KeepsExchangeRules}
+use Rattle.beep_asked.specs.beep_outbox.specs.Queue.{marks_of}
+use Rattle.beep_asked.specs.beep_journal.specs.Zero.{zero_history, zero_events, events, gathered}
+use Rattle.beep_asked.specs.beep_journal.specs.Laws.{contents}
+use Rattle.beep_asked.specs.beep_channel.specs.Held.{Live}
+use Rattle.beep_asked.specs.beep_channel.specs.Stands.{Stands, ends_of}
+use Rattle.beep_asked.specs.beep_lives.specs.Lives.{live_at}
+use Rattle.beep_asked.specs.beep_standing.specs.Standing.{Marks, AreLive}
+use Rattle.beep_asked.specs.beep_standing.specs.Moving.{MovesNone}
 use Rattle.beep_spoken.specs.Spoken.{Spoken, IsSaid}
 use Rattle.beep_spoken.proofs.SpokenLemmas.{next-said}
 use Rattle.beep_asked.specs.Kept.{Kept, Queue, new_kept, fits, grants, after_grant}

@@ -5,11 +5,11 @@
 use Rattle.std.specs.List.{list_any}
 use Rattle.std.specs.Option.{option_map_or}
 use Rattle.std.specs.Prelude.{ℕ, ◌+◌, ◌==◌, min, Bool, not, if◌then◌else◌, List, [], ◌∷◌, ◌++◌, length, map, filter, flat_map, Option, None, Some}
-use Rattle.beep_frame.specs.declared.kind.Kind.{Kind}
-use Rattle.beep_frame.specs.Frame.{is_msg, same_kind}
-use Rattle.beep_mgmt.specs.Form.{Form, greeting, start, chosen, close, okay, fault}
+use Rattle.beep_asked.specs.beep_frame.specs.declared.kind.Kind.{Kind}
+use Rattle.beep_asked.specs.beep_frame.specs.Frame.{is_msg, same_kind}
+use Rattle.beep_asked.specs.beep_mgmt.specs.Form.{Form, greeting, start, chosen, close, okay, fault}
 use Rattle.beep_asked.specs.Kept.{Kept, Queue}
-use Rattle.beep_channel.specs.Held.{Live}
+use Rattle.beep_asked.specs.beep_channel.specs.Held.{Live}
 use Rattle.beep_spoken.specs.Spoken.{Spoken}
 use Rattle.beep_management.specs.declared.wait.Wait.{Wait}
 

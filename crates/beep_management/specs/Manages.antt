@@ -2,17 +2,17 @@
 -- section 2.3.1).
 -- The code keeps neither a journal nor what it gave: it knows what waits alone.
 use Rattle.std.specs.Prelude.{◌≡◌, ℕ, ◌+◌, ◌≤◌, ◌==◌, true, false, List, [], ◌∷◌, ◌++◌, length, drop, reverse, Some}
-use Rattle.beep_frame.specs.Frame.{is_msg, is_ans}
-use Rattle.beep_mgmt.specs.Message.{message_said}
-use Rattle.beep_history.specs.declared.journal.Side.{Side}
-use Rattle.beep_history.specs.Journal.{Item}
-use Rattle.beep_history.specs.Marks.{marks}
-use Rattle.beep_journal.specs.Zero.{zero_history}
-use Rattle.beep_journal.specs.Laws.{contents}
-use Rattle.beep_exchange.specs.Given.{ends_reply}
-use Rattle.beep_channel.specs.Held.{Live}
-use Rattle.beep_channel.specs.Stands.{Stands, ends_of}
-use Rattle.beep_standing.specs.Standing.{Marks}
+use Rattle.beep_asked.specs.beep_frame.specs.Frame.{is_msg, is_ans}
+use Rattle.beep_asked.specs.beep_mgmt.specs.Message.{message_said}
+use Rattle.beep_asked.specs.beep_history.specs.declared.journal.Side.{Side}
+use Rattle.beep_asked.specs.beep_history.specs.Journal.{Item}
+use Rattle.beep_asked.specs.beep_history.specs.Marks.{marks}
+use Rattle.beep_asked.specs.beep_journal.specs.Zero.{zero_history}
+use Rattle.beep_asked.specs.beep_journal.specs.Laws.{contents}
+use Rattle.beep_asked.specs.beep_exchange.specs.Given.{ends_reply}
+use Rattle.beep_asked.specs.beep_channel.specs.Held.{Live}
+use Rattle.beep_asked.specs.beep_channel.specs.Stands.{Stands, ends_of}
+use Rattle.beep_asked.specs.beep_standing.specs.Standing.{Marks}
 use Rattle.beep_spoken.specs.Spoken.{Spoken, text_of, AreSpoken}
 use Rattle.beep_asked.specs.Kept.{Kept, fits}
 use Rattle.beep_asked.specs.Asked.{AreWaiting}

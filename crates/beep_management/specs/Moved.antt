@@ -2,11 +2,11 @@
 -- 2.3.1.2 and 2.3.1.3).
 -- The code asks which numbers are live, and keeps no moment.
 use Rattle.std.specs.Prelude.{◌≡◌, ℕ, nat_lt, Bool, true, false, not, ◌&&◌, if◌then◌else◌, List, [], Option, None, Some, is_some}
-use Rattle.beep_mgmt.specs.Form.{Form, greeting, start, chosen, close, okay, fault}
-use Rattle.beep_channel.specs.Held.{Live}
-use Rattle.beep_lives.specs.Lives.{live_at}
-use Rattle.beep_lives.specs.Edits.{Joins, Leaves}
-use Rattle.beep_standing.specs.Standing.{Marks, with_marks}
+use Rattle.beep_asked.specs.beep_mgmt.specs.Form.{Form, greeting, start, chosen, close, okay, fault}
+use Rattle.beep_asked.specs.beep_channel.specs.Held.{Live}
+use Rattle.beep_asked.specs.beep_lives.specs.Lives.{live_at}
+use Rattle.beep_asked.specs.beep_lives.specs.Edits.{Joins, Leaves}
+use Rattle.beep_asked.specs.beep_standing.specs.Standing.{Marks, with_marks}
 use Rattle.beep_management.specs.Manages.{IsFresh}
 
 -- the numbers that are live, by the channels

@@ -2,8 +2,8 @@
 -- A call speaks of what it did alone; what that makes of a journal is said by laws.
 use Rattle.std.specs.Prelude.{◌≡◌, ℕ, ◌≤◌, Bool, if◌then◌else◌, List, [], ◌∷◌, ◌++◌, length, Option, None, Some}
 use Rattle.std.specs.Option.{option_to_list}
-use Rattle.beep_mgmt.specs.Form.{Form, greeting, start, chosen, close, okay, fault}
-use Rattle.beep_channel.specs.Held.{Live}
+use Rattle.beep_asked.specs.beep_mgmt.specs.Form.{Form, greeting, start, chosen, close, okay, fault}
+use Rattle.beep_asked.specs.beep_channel.specs.Held.{Live}
 use Rattle.beep_asked.specs.Kept.{Kept, Queue, new_kept, after_grant}
 use Rattle.beep_management.specs.Managed.{Prepared, Managed, number_started, without}
 

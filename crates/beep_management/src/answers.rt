@@ -2,14 +2,14 @@
 ghost use Rattle.std.specs.Prelude.{◌≡◌, ◌∷◌, ◌++◌, ◌+◌, ◌<◌, ◌≤◌, [], length, Some, None, option_map, OnOk, IsOk, IfSome, IfNone};
 ghost use Rattle.std.specs.Option.{option_copied, option_to_list};
 ghost use Rattle.std.specs.VecDeque.{deque_len, deque_capacity};
-ghost use Rattle.beep_octets.specs.Numbers.{numbers_64};
+ghost use Rattle.beep_asked.specs.beep_octets.specs.Numbers.{numbers_64};
 ghost use Rattle.beep_management.specs.Managed.{wait_without, one_without, first_of, octets_prepared};
 ghost use Rattle.beep_management.specs.Managed.{without as all_without};
 ghost use Rattle.beep_management.specs.Values.{prepared_of, all_prepared};
 
 use crate::wait::Wait;
-use beep_frame::Kind;
-use beep_octets::{NoMemory, Octets};
+use beep_asked::beep_frame::Kind;
+use beep_asked::beep_octets::{NoMemory, Octets};
 use std::alloc::Global;
 use std::collections::VecDeque;
 use std::marker::Model;

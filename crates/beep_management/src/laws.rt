@@ -1,20 +1,20 @@
 //! What each item, and each message that is given, makes of what is kept: each function does
 //! nothing, and its contract is the fact.
 ghost use Rattle.std.specs.Prelude.{◌≡◌, ℕ, ◌<◌, ◌≤◌, ◌==◌, ◌++◌, ◌∷◌, [], List, length, map, Bool, true, false, Some, None};
-ghost use Rattle.beep_frame.specs.declared.kind.Kind.{Kind};
-ghost use Rattle.beep_frame.specs.declared.head.Head.{Head};
-ghost use Rattle.beep_frame.specs.declared.seq.Seq.{Seq};
-ghost use Rattle.beep_frame.specs.Frame.{is_msg, is_reply, is_ans, same_kind};
-ghost use Rattle.beep_history.specs.declared.journal.Side.{Side};
-ghost use Rattle.beep_history.specs.Journal.{Item, began, passed, told};
-ghost use Rattle.beep_history.specs.Marks.{marks, mark_modulo_2_64};
-ghost use Rattle.beep_mgmt.specs.Message.{message_said};
-ghost use Rattle.beep_outbox.specs.Queue.{Message, message_marks};
-ghost use Rattle.beep_journal.specs.Zero.{zero_history, events, gathered, channel_of};
-ghost use Rattle.beep_channel.specs.Held.{Live};
-ghost use Rattle.beep_channel.specs.Stands.{Stands};
-ghost use Rattle.beep_standing.specs.Standing.{Marks, no_marks, with_marks, AreLive, AreLiveBy};
-ghost use Rattle.beep_standing.specs.Moving.{MovesNone};
+ghost use Rattle.beep_asked.specs.beep_frame.specs.declared.kind.Kind.{Kind};
+ghost use Rattle.beep_asked.specs.beep_frame.specs.declared.head.Head.{Head};
+ghost use Rattle.beep_asked.specs.beep_frame.specs.declared.seq.Seq.{Seq};
+ghost use Rattle.beep_asked.specs.beep_frame.specs.Frame.{is_msg, is_reply, is_ans, same_kind};
+ghost use Rattle.beep_asked.specs.beep_history.specs.declared.journal.Side.{Side};
+ghost use Rattle.beep_asked.specs.beep_history.specs.Journal.{Item, began, passed, told};
+ghost use Rattle.beep_asked.specs.beep_history.specs.Marks.{marks, mark_modulo_2_64};
+ghost use Rattle.beep_asked.specs.beep_mgmt.specs.Message.{message_said};
+ghost use Rattle.beep_asked.specs.beep_outbox.specs.Queue.{Message, message_marks};
+ghost use Rattle.beep_asked.specs.beep_journal.specs.Zero.{zero_history, events, gathered, channel_of};
+ghost use Rattle.beep_asked.specs.beep_channel.specs.Held.{Live};
+ghost use Rattle.beep_asked.specs.beep_channel.specs.Stands.{Stands};
+ghost use Rattle.beep_asked.specs.beep_standing.specs.Standing.{Marks, no_marks, with_marks, AreLive, AreLiveBy};
+ghost use Rattle.beep_asked.specs.beep_standing.specs.Moving.{MovesNone};
 ghost use Rattle.beep_spoken.specs.Spoken.{Spoken, text_of};
 ghost use Rattle.beep_asked.specs.Kept.{Kept, Queue, implied_request, new_kept, fits, grants, after_grant};
 ghost use Rattle.beep_asked.specs.Asked.{SaysLive, EndsRequest, EndsReply};

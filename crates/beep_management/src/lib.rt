@@ -13,3 +13,10 @@ mod wait;
 pub use answers::Answer;
 pub use management::{Answered, Management};
 pub use wait::Wait;
+
+// Crates below, which are named through this one.
+pub use beep_asked;
+pub use beep_asked::{
+    beep_channel, beep_chars, beep_decide, beep_frame, beep_history, beep_inbox, beep_journal,
+    beep_lives, beep_mgmt, beep_octets, beep_outbox, beep_seq, beep_text, beep_turns,
+};

@@ -1,8 +1,8 @@
 //! What an end keeps of channel zero beside the channel itself.
 ghost use Rattle.std.specs.Prelude.{◌≡◌, ◌∷◌, ◌++◌, ◌+◌, ◌<◌, ◌≤◌, ◌||◌, [], length, min, true, None, Some, IfOk, IfSome, IfNone, OnOk, OnErr, if◌then◌else◌};
 ghost use Rattle.std.specs.Option.{option_copied, option_map, option_map_or, option_to_list};
-ghost use Rattle.beep_octets.specs.Numbers.{numbers_32, numbers_64};
-ghost use Rattle.beep_frame.specs.declared.kind.Kind.{Kind as KindValue};
+ghost use Rattle.beep_asked.specs.beep_octets.specs.Numbers.{numbers_32, numbers_64};
+ghost use Rattle.beep_asked.specs.beep_frame.specs.declared.kind.Kind.{Kind as KindValue};
 ghost use Rattle.beep_asked.specs.Kept.{implied_request, oldest, after_grant};
 ghost use Rattle.beep_asked.specs.Request.{kept_of};
 ghost use Rattle.beep_management.specs.declared.wait.Wait.{Wait as WaitValue};
@@ -15,12 +15,12 @@ use crate::answers::{Answer, Answers};
 use crate::naming::names_live;
 use crate::starting::Starting;
 use crate::wait::Wait;
+use beep_asked::beep_channel::Channel;
+use beep_asked::beep_frame::Kind;
+use beep_asked::beep_lives::Lives;
+use beep_asked::beep_mgmt::Mgmt;
+use beep_asked::beep_octets::{NoMemory, Octets};
 use beep_asked::{Request, Waiting};
-use beep_channel::Channel;
-use beep_frame::Kind;
-use beep_lives::Lives;
-use beep_mgmt::Mgmt;
-use beep_octets::{NoMemory, Octets};
 use std::alloc::Global;
 use std::marker::Model;
 

@@ -5,8 +5,8 @@ ghost use Rattle.beep_asked.specs.Request.{kept_of};
 ghost use Rattle.beep_management.specs.Moved.{is_live_in};
 
 use beep_asked::Request;
-use beep_lives::Lives;
-use beep_mgmt::Mgmt;
+use beep_asked::beep_lives::Lives;
+use beep_asked::beep_mgmt::Mgmt;
 
 /// Whether a request is a close of a number above 0 that is live.
 pub(crate) fn names_live(request: &Request, lives: &Lives) -> bool

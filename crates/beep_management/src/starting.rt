@@ -3,8 +3,8 @@ ghost use Rattle.std.specs.Prelude.{◌≡◌, ◌∷◌, ◌++◌, ◌<◌, [],
 ghost use Rattle.std.specs.Option.{option_to_list};
 ghost use Rattle.beep_management.specs.Managed.{has_number};
 
-use beep_channel::Channel;
-use beep_octets::NoMemory;
+use beep_asked::beep_channel::Channel;
+use beep_asked::beep_octets::NoMemory;
 use std::alloc::Global;
 use std::collections::VecDeque;
 use std::marker::Model;

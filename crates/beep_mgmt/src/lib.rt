@@ -7,6 +7,7 @@
 
 mod build;
 mod canonical;
+mod codes;
 mod form;
 pub mod laws;
 mod limits;
@@ -20,6 +21,7 @@ mod sized;
 mod text;
 mod write;
 
+pub use codes::{BAD_PARAMETERS, BAD_SYNTAX, BUSY, INVALID, NOT_IMPLEMENTED, NOT_TAKEN, SUCCESS};
 pub use limits::{MAX_CODE, MAX_CONTENT};
 pub use mgmt::Mgmt;
 pub use profile::{Encoding, Profile};

@@ -1,22 +1,22 @@
 -- What each act leaves of a session.
 use Rattle.std.proofs.Common.{◌≡◌, ℕ, ◌&&◌, not, Bool, true, false, if◌then◌else◌, List, [], Option, None, Some, min, refl, sym, ap, subst, arith}
-use Rattle.beep_frame.specs.declared.kind.Kind.{Kind}
-use Rattle.beep_mgmt.specs.Message.{message_text}
-use Rattle.beep_answering.specs.Sent.{closing_of}
-use Rattle.beep_peer.specs.declared.peer.Peer.{Peer}
-use Rattle.beep_peer.specs.declared.refusals.StartError.{StartError}
-use Rattle.beep_peer.specs.declared.refusals.ReleaseError.{ReleaseError}
-use Rattle.beep_history.specs.Journal.{Item}
-use Rattle.beep_standing.specs.Standing.{Marks}
-use Rattle.beep_speaking.specs.declared.emit.Emit.{Emit}
-use Rattle.beep_inbox.specs.declared.part.Part.{Part}
-use Rattle.beep_peer.specs.Calls.{Speaks}
-use Rattle.beep_peer.specs.Peering.{IsPeer, is_over}
-use Rattle.beep_peer.specs.Acts.{either_cause, IsUnchanged}
-use Rattle.beep_session.specs.Session.{Held}
-use Rattle.beep_session.specs.Channels.{IsStill, Gives}
-use Rattle.beep_session.specs.Lawfully.{KeepsUpright}
-use Rattle.beep_session.specs.Acts.{start_text}
+use Rattle.beep_two_sessions.specs.beep_frame.specs.declared.kind.Kind.{Kind}
+use Rattle.beep_two_sessions.specs.beep_mgmt.specs.Message.{message_text}
+use Rattle.beep_two_sessions.specs.beep_answering.specs.Sent.{closing_of}
+use Rattle.beep_two_sessions.specs.beep_peer.specs.declared.peer.Peer.{Peer}
+use Rattle.beep_two_sessions.specs.beep_peer.specs.declared.refusals.StartError.{StartError}
+use Rattle.beep_two_sessions.specs.beep_peer.specs.declared.refusals.ReleaseError.{ReleaseError}
+use Rattle.beep_two_sessions.specs.beep_history.specs.Journal.{Item}
+use Rattle.beep_two_sessions.specs.beep_standing.specs.Standing.{Marks}
+use Rattle.beep_two_sessions.specs.beep_speaking.specs.declared.emit.Emit.{Emit}
+use Rattle.beep_two_sessions.specs.beep_inbox.specs.declared.part.Part.{Part}
+use Rattle.beep_two_sessions.specs.beep_peer.specs.Calls.{Speaks}
+use Rattle.beep_two_sessions.specs.beep_peer.specs.Peering.{IsPeer, is_over}
+use Rattle.beep_two_sessions.specs.beep_peer.specs.Acts.{either_cause, IsUnchanged}
+use Rattle.beep_two_sessions.specs.beep_session.specs.Session.{Held}
+use Rattle.beep_two_sessions.specs.beep_session.specs.Channels.{IsStill, Gives}
+use Rattle.beep_two_sessions.specs.beep_session.specs.Lawfully.{KeepsUpright}
+use Rattle.beep_two_sessions.specs.beep_session.specs.Acts.{start_text}
 use Rattle.beep_schedule.specs.declared.event.Act.{Act}
 use Rattle.beep_two_sessions.specs.End.{End, Doing as OneDoing, goes, EndStands, StandsAs}
 use Rattle.beep_two_sessions.specs.Acts.{Act as Deed, gives, asks, rests, LeadsTo}
@@ -81,7 +81,7 @@ same old new e = rested (subst (λ (s : Held). IsStill old s) (sym e) (record { 
 
 asked : (n : ℕ) (octets : List ℕ) (old new : Held) (answer : Answer) → Asks n octets old new answer → Doing old new (if is_done answer then gives n Kind.Msg octets else rests)
 asked n octets old new Answer.Done a = absurd a
-asked n octets old new (Answer.Told k) a = gave n Kind.Msg octets (open_goes n old a.0) a.3
+asked n octets old new (Answer.Numbered k) a = gave n Kind.Msg octets (open_goes n old a.0) a.3
 asked n octets old new Answer.NoChannel a = same old new a.1
 asked n octets old new Answer.NotOwed a = absurd a
 asked n octets old new Answer.Answering a = absurd a
@@ -93,7 +93,7 @@ asked n octets old new (Answer.Release cause) a = absurd a
 
 replied : (kind : Kind) (n : ℕ) (octets : List ℕ) (old new : Held) (answer : Answer) → Replies kind n octets old new answer → Doing old new (if is_done answer then gives n kind octets else rests)
 replied kind n octets old new Answer.Done a = gave n kind octets (channel_goes n old a.0) a.3
-replied kind n octets old new (Answer.Told k) a = absurd a
+replied kind n octets old new (Answer.Numbered k) a = absurd a
 replied kind n octets old new Answer.NoChannel a = same old new a.1
 replied kind n octets old new Answer.NotOwed a = same old new a.2
 replied kind n octets old new Answer.Answering a = same old new a.3
@@ -105,7 +105,7 @@ replied kind n octets old new (Answer.Release cause) a = absurd a
 
 answered : (n : ℕ) (octets : List ℕ) (old new : Held) (answer : Answer) → Answers n octets old new answer → Doing old new (if is_done answer then gives n Kind.Ans octets else rests)
 answered n octets old new Answer.Done a = absurd a
-answered n octets old new (Answer.Told k) a = gave n Kind.Ans octets (channel_goes n old a.0) a.3
+answered n octets old new (Answer.Numbered k) a = gave n Kind.Ans octets (channel_goes n old a.0) a.3
 answered n octets old new Answer.NoChannel a = same old new a.1
 answered n octets old new Answer.NotOwed a = same old new a.2
 answered n octets old new Answer.Answering a = absurd a
@@ -117,7 +117,7 @@ answered n octets old new (Answer.Release cause) a = absurd a
 
 ended : (n : ℕ) (old new : Held) (answer : Answer) → Ends n old new answer → Doing old new (if is_done answer then gives n Kind.Nul [] else rests)
 ended n old new Answer.Done a = gave n Kind.Nul [] (channel_goes n old a.0) a.2
-ended n old new (Answer.Told k) a = absurd a
+ended n old new (Answer.Numbered k) a = absurd a
 ended n old new Answer.NoChannel a = same old new a.1
 ended n old new Answer.NotOwed a = same old new a.2
 ended n old new Answer.Answering a = absurd a
@@ -129,7 +129,7 @@ ended n old new (Answer.Release cause) a = absurd a
 
 closes : (n : ℕ) (old new : Held) (answer : Answer) → ClosesChannel n old new answer → Doing old new (if is_done answer then asks (message_text (closing_of n)) else rests)
 closes n old new Answer.Done a = gave_zero (message_text (closing_of n)) (open_goes n old a.0) (a.2.closes, a.2.same)
-closes n old new (Answer.Told k) a = absurd a
+closes n old new (Answer.Numbered k) a = absurd a
 closes n old new Answer.NoChannel a = same old new a.1
 closes n old new Answer.NotOwed a = absurd a
 closes n old new Answer.Answering a = absurd a
@@ -141,7 +141,7 @@ closes n old new (Answer.Release cause) a = absurd a
 
 started : (uri : List ℕ) (n : ℕ) (old new : Held) (answer : Answer) → Starts uri n old new answer → Doing old new (if is_done answer then asks (start_text n (listed uri)) else rests)
 started uri n old new Answer.Done a = gave_zero (start_text n (listed uri)) (first_goes (is_over old.peer) StartError.Ended _ _ (either_first _ _ a.0)) a.1
-started uri n old new (Answer.Told k) a = absurd a
+started uri n old new (Answer.Numbered k) a = absurd a
 started uri n old new Answer.NoChannel a = absurd a
 started uri n old new Answer.NotOwed a = absurd a
 started uri n old new Answer.Answering a = absurd a
@@ -153,7 +153,7 @@ started uri n old new (Answer.Release cause) a = absurd a
 
 released : (old new : Held) (answer : Answer) → Releases old new answer → Doing old new (if is_done answer then asks (message_text (closing_of 0)) else rests)
 released old new Answer.Done a = gave_zero (message_text (closing_of 0)) (first_goes (is_over old.peer) ReleaseError.Ended _ _ a.0) a.1
-released old new (Answer.Told k) a = absurd a
+released old new (Answer.Numbered k) a = absurd a
 released old new Answer.NoChannel a = absurd a
 released old new Answer.NotOwed a = absurd a
 released old new Answer.Answering a = absurd a

@@ -1,15 +1,15 @@
 -- The world of two sessions that begin.
 use Rattle.std.proofs.Common.{◌≡◌, ℕ, ◌≤◌, List, [], None, refl, sym, ap, ◌∙◌, subst, arith}
-use Rattle.beep_journal.specs.declared.role.Role.{Role}
-use Rattle.beep_text.specs.Said.{element_said}
-use Rattle.beep_mgmt.specs.Message.{message_said}
-use Rattle.beep_journal.specs.Lives.{lives}
-use Rattle.beep_journal.specs.Zero.{events}
-use Rattle.beep_decide.specs.Numbers.{other_role}
-use Rattle.beep_session.specs.declared.limits.Limits.{Limits}
-use Rattle.beep_session.specs.Session.{Held}
+use Rattle.beep_two_sessions.specs.beep_journal.specs.declared.role.Role.{Role}
+use Rattle.beep_two_sessions.specs.beep_text.specs.Said.{element_said}
+use Rattle.beep_two_sessions.specs.beep_mgmt.specs.Message.{message_said}
+use Rattle.beep_two_sessions.specs.beep_journal.specs.Lives.{lives}
+use Rattle.beep_two_sessions.specs.beep_journal.specs.Zero.{events}
+use Rattle.beep_two_sessions.specs.beep_decide.specs.Numbers.{other_role}
+use Rattle.beep_two_sessions.specs.beep_session.specs.declared.limits.Limits.{Limits}
+use Rattle.beep_two_sessions.specs.beep_session.specs.Session.{Held}
 use Rattle.beep_schedule.specs.declared.event.End.{End}
-use Rattle.beep_tally.specs.declared.account.Account.{Account}
+use Rattle.beep_report.specs.beep_tally.specs.declared.account.Account.{Account}
 use Rattle.beep_two_sessions.specs.End.{End as OneEnd, goes, end_of_new, Begins}
 use Rattle.beep_two_sessions.specs.Still.{GreetsShortly}
 use Rattle.beep_pair.specs.Totals.{view_of, AreOfLives}

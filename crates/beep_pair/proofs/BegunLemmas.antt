@@ -1,14 +1,14 @@
 -- A life that begins, and those that begin and end in one step, in the accounts of all lives.
 use Rattle.std.proofs.Common.{◌≡◌, ◌⊎◌, inl, inr, ℕ, zero, suc, ◌+◌, ◌%◌, ◌^◌, ◌<◌, ◌≤◌, ◌==◌, nat_lt, Bool, true, false, not, ◌&&◌, ◌||◌, if◌then◌else◌, List, [], ◌∷◌, Option, Some, None, refl, sym, ap, ap₂, ◌∙◌, subst, arith}
 use Rattle.std.proofs.lemmas.Bool.Decides.{nat_tests}
-use Rattle.beep_frame.specs.Modulo.{modulo_2_64}
-use Rattle.beep_history.specs.Marks.{Mark}
-use Rattle.beep_journal.proofs.MomentLemmas.{same-number, equal-number}
+use Rattle.beep_two_sessions.specs.beep_frame.specs.Modulo.{modulo_2_64}
+use Rattle.beep_two_sessions.specs.beep_history.specs.Marks.{Mark}
+use Rattle.beep_two_sessions.specs.beep_journal.proofs.MomentLemmas.{same-number, equal-number}
 use Rattle.beep_schedule.specs.declared.event.End.{End}
-use Rattle.beep_tally.specs.Accounts.{stage_at, staged_at, is_before_stage, no_flow, fresh, goes_before, next_life, begun_from, with_begun, is_in, with_ended, with_each_ended, with_each_begun, lives_noted}
-use Rattle.beep_tally.specs.declared.account.Flow.{Flow}
-use Rattle.beep_tally.specs.declared.account.Stage.{Stage}
-use Rattle.beep_tally.specs.declared.account.Account.{Account}
+use Rattle.beep_report.specs.beep_tally.specs.Accounts.{stage_at, staged_at, is_before_stage, no_flow, fresh, goes_before, next_life, begun_from, with_begun, is_in, with_ended, with_each_ended, with_each_begun, lives_noted}
+use Rattle.beep_report.specs.beep_tally.specs.declared.account.Flow.{Flow}
+use Rattle.beep_report.specs.beep_tally.specs.declared.account.Stage.{Stage}
+use Rattle.beep_report.specs.beep_tally.specs.declared.account.Account.{Account}
 use Rattle.beep_pair.specs.Ends.{other_end}
 use Rattle.beep_pair.specs.Totals.{flow_of, flow_from, account_at, AreInOrder, View, stage_of, IsOfLife, IsAccount, AreOfLives}
 use Rattle.beep_pair.proofs.TotalLemmas.{staged-number, staged-life, staged-here, staged-there, staged-flow, stage-before, stage-live, stage-over, without, ended-lives}

@@ -4,38 +4,38 @@ use Rattle.std.specs.List.{range_with_len, list_any}
 use Rattle.std.proofs.lemmas.List.{length-map}
 use Rattle.std.proofs.lemmas.List.FromFn.{length-range_with_len}
 use Rattle.std.proofs.lemmas.Bool.Decides.{nat_tests}
-use Rattle.beep_frame.specs.declared.head.Head.{Head}
-use Rattle.beep_frame.specs.declared.kind.Kind.{Kind}
-use Rattle.beep_frame.specs.declared.seq.Seq.{Seq}
-use Rattle.beep_frame.specs.declared.tag.Tag.{Tag}
-use Rattle.beep_frame.specs.Frame.{Frame, framed, seq_frame}
-use Rattle.beep_history.specs.declared.journal.Side.{Side}
-use Rattle.beep_history.specs.Journal.{Item, passed, began, told}
-use Rattle.beep_history.specs.Marks.{Mark, octet, end}
-use Rattle.beep_journal.specs.Lives.{Event as Moment, lives, is_live}
-use Rattle.beep_journal.specs.Zero.{events}
-use Rattle.beep_journal.specs.Life.{life_now, is_there}
-use Rattle.beep_channel.specs.Held.{Live}
-use Rattle.beep_channel.specs.Stands.{ends_of}
-use Rattle.beep_channel.proofs.CountedLemmas.{ends-part}
-use Rattle.beep_inbox.specs.declared.part.Part.{Part}
-use Rattle.beep_inbox.specs.Laws.{part_marks}
-use Rattle.beep_outbox.specs.Queue.{Message, message_marks}
-use Rattle.beep_lives.specs.Lives.{numbers, IsAscendingFrom}
-use Rattle.beep_standing.specs.Standing.{Marks, AreLiveBy}
-use Rattle.beep_standing.specs.Due.{octets_among}
-use Rattle.beep_peer.specs.declared.peer.Peer.{Peer}
-use Rattle.beep_peer.specs.Standing.{rest_of, live_above}
-use Rattle.beep_peer.proofs.HeardLemmas.{live-rest}
-use Rattle.beep_peer.proofs.GainLemmas.{gained-events}
-use Rattle.beep_giving.specs.Giving.{next_message}
-use Rattle.beep_hearing.specs.Hears.{ends_zero}
-use Rattle.beep_session.specs.declared.event.Event.{Event}
-use Rattle.beep_session.specs.Session.{Held}
+use Rattle.beep_two_sessions.specs.beep_frame.specs.declared.head.Head.{Head}
+use Rattle.beep_two_sessions.specs.beep_frame.specs.declared.kind.Kind.{Kind}
+use Rattle.beep_two_sessions.specs.beep_frame.specs.declared.seq.Seq.{Seq}
+use Rattle.beep_two_sessions.specs.beep_frame.specs.declared.tag.Tag.{Tag}
+use Rattle.beep_two_sessions.specs.beep_frame.specs.Frame.{Frame, framed, seq_frame}
+use Rattle.beep_two_sessions.specs.beep_history.specs.declared.journal.Side.{Side}
+use Rattle.beep_two_sessions.specs.beep_history.specs.Journal.{Item, passed, began, told}
+use Rattle.beep_two_sessions.specs.beep_history.specs.Marks.{Mark, octet, end}
+use Rattle.beep_two_sessions.specs.beep_journal.specs.Lives.{Event as Moment, lives, is_live}
+use Rattle.beep_two_sessions.specs.beep_journal.specs.Zero.{events}
+use Rattle.beep_two_sessions.specs.beep_journal.specs.Life.{life_now, is_there}
+use Rattle.beep_two_sessions.specs.beep_channel.specs.Held.{Live}
+use Rattle.beep_two_sessions.specs.beep_channel.specs.Stands.{ends_of}
+use Rattle.beep_two_sessions.specs.beep_channel.proofs.CountedLemmas.{ends-part}
+use Rattle.beep_two_sessions.specs.beep_inbox.specs.declared.part.Part.{Part}
+use Rattle.beep_two_sessions.specs.beep_inbox.specs.Laws.{part_marks}
+use Rattle.beep_two_sessions.specs.beep_outbox.specs.Queue.{Message, message_marks}
+use Rattle.beep_two_sessions.specs.beep_lives.specs.Lives.{numbers, IsAscendingFrom}
+use Rattle.beep_two_sessions.specs.beep_standing.specs.Standing.{Marks, AreLiveBy}
+use Rattle.beep_two_sessions.specs.beep_standing.specs.Due.{octets_among}
+use Rattle.beep_two_sessions.specs.beep_peer.specs.declared.peer.Peer.{Peer}
+use Rattle.beep_two_sessions.specs.beep_peer.specs.Standing.{rest_of, live_above}
+use Rattle.beep_two_sessions.specs.beep_peer.proofs.HeardLemmas.{live-rest}
+use Rattle.beep_two_sessions.specs.beep_peer.proofs.GainLemmas.{gained-events}
+use Rattle.beep_two_sessions.specs.beep_giving.specs.Giving.{next_message}
+use Rattle.beep_two_sessions.specs.beep_hearing.specs.Hears.{ends_zero}
+use Rattle.beep_two_sessions.specs.beep_session.specs.declared.event.Event.{Event}
+use Rattle.beep_two_sessions.specs.beep_session.specs.Session.{Held}
 use Rattle.beep_schedule.specs.declared.event.End.{End}
 use Rattle.beep_schedule.specs.declared.event.Act.{Act}
-use Rattle.beep_tally.specs.Accounts.{is_in, one_if, with_given, with_taken, lives_noted}
-use Rattle.beep_tally.specs.declared.account.Account.{Account}
+use Rattle.beep_report.specs.beep_tally.specs.Accounts.{is_in, one_if, with_given, with_taken, lives_noted}
+use Rattle.beep_report.specs.beep_tally.specs.declared.account.Account.{Account}
 use Rattle.beep_two_sessions.specs.End.{End as OneEnd, Doing, goes, waits, StandsAs, Awaits}
 use Rattle.beep_two_sessions.specs.Acts.{Act as Deed, gives, asks, settles, sends, pauses, rests, given_marks, HasGiven, HasAsked, HasTaken, HasSettled, HasSent, HasTold, SendsAs, GetsAs, UsesNone, HasRested, Does}
 use Rattle.beep_two_sessions.specs.World.{World as Two, Move, IsReached}
@@ -262,22 +262,22 @@ module _ (at : End) (n len fill : ℕ) (one new : OneEnd) (session : Held) (thei
   done Act.Close bare a d = asked-lives at one new theirs accounts none all _ d
   done Act.Release bare a d = asked-lives at one new theirs accounts none all _ d
 
-  told-so : (act : Act) (number : ℕ) → Acts act n (message_from fill len) one.session session (Answer.Told number) → Does (deed_of act n (message_from fill len)) one new
-      → AreOfLives at (view_of new) theirs (acted at act n len (Answer.Told number) accounts)
-  told-so Act.Start number a d = absurd a
-  told-so Act.Ask number a d = message Kind.Msg d
-  told-so Act.Reply number a d = absurd a
-  told-so Act.Refuse number a d = absurd a
-  told-so Act.Answer number a d = message Kind.Ans d
-  told-so Act.Done number a d = absurd a
-  told-so Act.Close number a d = absurd a
-  told-so Act.Release number a d = absurd a
+  numbered-so : (act : Act) (number : ℕ) → Acts act n (message_from fill len) one.session session (Answer.Numbered number) → Does (deed_of act n (message_from fill len)) one new
+      → AreOfLives at (view_of new) theirs (acted at act n len (Answer.Numbered number) accounts)
+  numbered-so Act.Start number a d = absurd a
+  numbered-so Act.Ask number a d = message Kind.Msg d
+  numbered-so Act.Reply number a d = absurd a
+  numbered-so Act.Refuse number a d = absurd a
+  numbered-so Act.Answer number a d = message Kind.Ans d
+  numbered-so Act.Done number a d = absurd a
+  numbered-so Act.Close number a d = absurd a
+  numbered-so Act.Release number a d = absurd a
 
 pub acted-lives : (at : End) (act : Act) (n len fill : ℕ) (answer : Answer) (one new : OneEnd) (session : Held) (theirs : View) (accounts : List Account) → (act ≡ Act.Done → len ≡ 0)
     → Acts act n (message_from fill len) one.session session answer → Does (if is_done answer then deed_of act n (message_from fill len) else rests) one new
     → IsEmptyView theirs → AreOfLives at (view_of one) theirs accounts → AreOfLives at (view_of new) theirs (acted at act n len answer accounts)
 acted-lives at act n len fill Answer.Done one new session theirs accounts bare a d none all = done at n len fill one new session theirs accounts none all act bare a d
-acted-lives at act n len fill (Answer.Told number) one new session theirs accounts bare a d none all = told-so at n len fill one new session theirs accounts none all act number a d
+acted-lives at act n len fill (Answer.Numbered number) one new session theirs accounts bare a d none all = numbered-so at n len fill one new session theirs accounts none all act number a d
 acted-lives at act n len fill Answer.NoChannel one new session theirs accounts bare a d none all = refused at n len fill one new session theirs accounts none all act Answer.NoChannel refl d
 acted-lives at act n len fill Answer.NotOwed one new session theirs accounts bare a d none all = refused at n len fill one new session theirs accounts none all act Answer.NotOwed refl d
 acted-lives at act n len fill Answer.Answering one new session theirs accounts bare a d none all = refused at n len fill one new session theirs accounts none all act Answer.Answering refl d

@@ -2,18 +2,18 @@
 use Rattle.std.proofs.Common.{◌≡◌, ◌⊎◌, inl, inr, ℕ, ◌+◌, ◌-◌, ◌≤◌, ◌==◌, nat_lt, Bool, true, false, not, ◌&&◌, ◌||◌, List, [], ◌∷◌, ◌++◌, length, take, drop, get_or, Option, Some, None, is_some, refl, ap, ap₂, sym, subst, ◌∙◌, arith, append_assoc, append-nil, eqb-true}
 use Rattle.std.proofs.lemmas.Bool.Decides.{nat_tests}
 use Rattle.std.proofs.lemmas.List.{take_rest}
-use Rattle.beep_journal.specs.Life.{is_there}
-use Rattle.beep_speaking.specs.declared.emit.Emit.{Emit}
-use Rattle.beep_inbox.specs.declared.part.Part.{Part}
-use Rattle.beep_inbox.specs.Runs.{Run, marks_of as untaken_marks}
-use Rattle.beep_channel.specs.Held.{Live}
-use Rattle.beep_lives.specs.Lives.{live_at, numbers, IsAscendingFrom}
-use Rattle.beep_giving.specs.Looks.{inbox_of}
-use Rattle.beep_peer.specs.Peering.{is_over}
-use Rattle.beep_peer.specs.Standing.{live_above, rest_of}
-use Rattle.beep_peer.proofs.HeardLemmas.{live-rest}
-use Rattle.beep_session.specs.Session.{Held}
-use Rattle.beep_session.specs.Looks.{IsTakenAt}
+use Rattle.beep_two_sessions.specs.beep_journal.specs.Life.{is_there}
+use Rattle.beep_two_sessions.specs.beep_speaking.specs.declared.emit.Emit.{Emit}
+use Rattle.beep_two_sessions.specs.beep_inbox.specs.declared.part.Part.{Part}
+use Rattle.beep_two_sessions.specs.beep_inbox.specs.Runs.{Run, marks_of as untaken_marks}
+use Rattle.beep_two_sessions.specs.beep_channel.specs.Held.{Live}
+use Rattle.beep_two_sessions.specs.beep_lives.specs.Lives.{live_at, numbers, IsAscendingFrom}
+use Rattle.beep_two_sessions.specs.beep_giving.specs.Looks.{inbox_of}
+use Rattle.beep_two_sessions.specs.beep_peer.specs.Peering.{is_over}
+use Rattle.beep_two_sessions.specs.beep_peer.specs.Standing.{live_above, rest_of}
+use Rattle.beep_two_sessions.specs.beep_peer.proofs.HeardLemmas.{live-rest}
+use Rattle.beep_two_sessions.specs.beep_session.specs.Session.{Held}
+use Rattle.beep_two_sessions.specs.beep_session.specs.Looks.{IsTakenAt}
 use Rattle.beep_schedule.specs.declared.event.End.{End}
 use Rattle.beep_two_sessions.specs.End.{End as OneEnd}
 use Rattle.beep_two_sessions.specs.Acts.{HasTaken}

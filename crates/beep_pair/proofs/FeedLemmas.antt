@@ -3,17 +3,17 @@ use Rattle.std.proofs.Common.{◌≡◌, ℕ, ◌<◌, ◌||◌, ◌&&◌, not, 
 use Rattle.std.proofs.Math.Logic.{∥∥₁_elim, ∥∥₁_map}
 use Rattle.std.proofs.lemmas.Grind.{merely}
 use denote.Struct.Props.{props}
-use Rattle.beep_frame.specs.declared.head.Head.{Head}
-use Rattle.beep_history.specs.Journal.{Item}
-use Rattle.beep_hearing.specs.declared.stopped.Stopped.{Stopped}
-use Rattle.beep_standing.specs.Standing.{Marks}
-use Rattle.beep_peer.specs.declared.peer.Peer.{Peer}
-use Rattle.beep_peer.specs.Peering.{WaitsIn, IsGoing, is_over, zero_waits}
-use Rattle.beep_session.specs.declared.event.Event.{Event}
-use Rattle.beep_session.specs.Session.{Held}
-use Rattle.beep_session.specs.Feeds.{Feeds}
+use Rattle.beep_two_sessions.specs.beep_frame.specs.declared.head.Head.{Head}
+use Rattle.beep_two_sessions.specs.beep_history.specs.Journal.{Item}
+use Rattle.beep_two_sessions.specs.beep_hearing.specs.declared.stopped.Stopped.{Stopped}
+use Rattle.beep_two_sessions.specs.beep_standing.specs.Standing.{Marks}
+use Rattle.beep_two_sessions.specs.beep_peer.specs.declared.peer.Peer.{Peer}
+use Rattle.beep_two_sessions.specs.beep_peer.specs.Peering.{WaitsIn, IsGoing, is_over, zero_waits}
+use Rattle.beep_two_sessions.specs.beep_session.specs.declared.event.Event.{Event}
+use Rattle.beep_two_sessions.specs.beep_session.specs.Session.{Held}
+use Rattle.beep_two_sessions.specs.beep_session.specs.Feeds.{Feeds}
 use Rattle.beep_schedule.specs.declared.event.End.{End}
-use Rattle.beep_tally.specs.declared.account.Account.{Account}
+use Rattle.beep_report.specs.beep_tally.specs.declared.account.Account.{Account}
 use Rattle.beep_pair.specs.Sessions.{IsReady, Feeding, Settling, settles, breaks, IsWaitingSome, HearsOnce, quiet, message, is_short}
 use Rattle.beep_pair.proofs.ActLemmas.{Kept}
 use Rattle.beep_pair.proofs.ReadyLemmas.{SomePeer, same_ready, same_role, going-quiet}

@@ -4,18 +4,18 @@ use Rattle.std.specs.Prelude.{nat_le}
 use Rattle.std.specs.Str.{is_utf8, chars}
 use lib.Utf8.{encode}
 use Rattle.std.proofs.lemmas.Bool.Decides.{nat_tests}
-use Rattle.beep_frame.specs.declared.kind.Kind.{Kind}
-use Rattle.beep_history.specs.Marks.{octet, end}
-use Rattle.beep_mgmt.specs.Message.{message_text}
-use Rattle.beep_decide.specs.Decide.{PlainOffer}
-use Rattle.beep_exchange.specs.Given.{ends_reply}
-use Rattle.beep_seq.specs.declared.limits.TheConstants.{INITIAL_WINDOW}
-use Rattle.beep_outbox.specs.Queue.{Message, message_marks}
-use Rattle.beep_channel.specs.Stands.{ends_of}
-use Rattle.beep_standing.specs.Standing.{Marks}
-use Rattle.beep_standing.specs.Due.{octets_among}
-use Rattle.beep_answering.specs.Sent.{greeting_of}
-use Rattle.beep_session.specs.Session.{Held}
+use Rattle.beep_two_sessions.specs.beep_frame.specs.declared.kind.Kind.{Kind}
+use Rattle.beep_two_sessions.specs.beep_history.specs.Marks.{octet, end}
+use Rattle.beep_two_sessions.specs.beep_mgmt.specs.Message.{message_text}
+use Rattle.beep_two_sessions.specs.beep_decide.specs.Decide.{PlainOffer}
+use Rattle.beep_two_sessions.specs.beep_exchange.specs.Given.{ends_reply}
+use Rattle.beep_two_sessions.specs.beep_seq.specs.declared.limits.TheConstants.{INITIAL_WINDOW}
+use Rattle.beep_two_sessions.specs.beep_outbox.specs.Queue.{Message, message_marks}
+use Rattle.beep_two_sessions.specs.beep_channel.specs.Stands.{ends_of}
+use Rattle.beep_two_sessions.specs.beep_standing.specs.Standing.{Marks}
+use Rattle.beep_two_sessions.specs.beep_standing.specs.Due.{octets_among}
+use Rattle.beep_two_sessions.specs.beep_answering.specs.Sent.{greeting_of}
+use Rattle.beep_two_sessions.specs.beep_session.specs.Session.{Held}
 use Rattle.beep_two_sessions.specs.End.{end_of_new}
 use Rattle.beep_two_sessions.specs.Still.{GreetsShortly}
 use Rattle.beep_pair.specs.Acts.{pair_uri}

@@ -1,25 +1,25 @@
 -- What an end that reads makes of a world: it finds no broken rule.
 use Rattle.std.proofs.Common.{◌≡◌, ◌||◌, ◌&&◌, not, inl, inr, ℕ, ◌+◌, ◌≤◌, Bool, true, false, List, [], ◌∷◌, ◌++◌, take, drop, Option, None, Some, is_some, refl, sym, ap, ap₂, ◌∙◌, subst, arith, append_assoc, append-nil, length-take}
 use Rattle.std.proofs.lemmas.List.{take-take, drop-take, take-append-drop}
-use Rattle.beep_frame.specs.declared.head.Head.{Head}
-use Rattle.beep_frame.specs.declared.rule.Rule.{Rule}
-use Rattle.beep_frame.specs.Frame.{is_msg}
-use Rattle.beep_history.specs.declared.journal.Side.{Side}
-use Rattle.beep_history.specs.Journal.{Item}
-use Rattle.beep_journal.specs.Zero.{zero_history, completes_form}
-use Rattle.beep_standing.specs.Standing.{Marks}
-use Rattle.beep_hearing.specs.Hears.{Breaks}
-use Rattle.beep_hearing.specs.declared.stopped.Stopped.{Stopped}
-use Rattle.beep_peer.specs.declared.peer.Peer.{Peer}
-use Rattle.beep_peer.specs.Peering.{IsPeer, WaitsIn, is_over, zero_waits}
-use Rattle.beep_session.specs.declared.event.Event.{Event}
-use Rattle.beep_session.specs.Session.{Held}
-use Rattle.beep_session.specs.Channels.{IsOfPeer}
-use Rattle.beep_session.specs.Lawfully.{terms_of, FeedsLawfully}
+use Rattle.beep_two_sessions.specs.beep_frame.specs.declared.head.Head.{Head}
+use Rattle.beep_two_sessions.specs.beep_frame.specs.declared.rule.Rule.{Rule}
+use Rattle.beep_two_sessions.specs.beep_frame.specs.Frame.{is_msg}
+use Rattle.beep_two_sessions.specs.beep_history.specs.declared.journal.Side.{Side}
+use Rattle.beep_two_sessions.specs.beep_history.specs.Journal.{Item}
+use Rattle.beep_two_sessions.specs.beep_journal.specs.Zero.{zero_history, completes_form}
+use Rattle.beep_two_sessions.specs.beep_standing.specs.Standing.{Marks}
+use Rattle.beep_two_sessions.specs.beep_hearing.specs.Hears.{Breaks}
+use Rattle.beep_two_sessions.specs.beep_hearing.specs.declared.stopped.Stopped.{Stopped}
+use Rattle.beep_two_sessions.specs.beep_peer.specs.declared.peer.Peer.{Peer}
+use Rattle.beep_two_sessions.specs.beep_peer.specs.Peering.{IsPeer, WaitsIn, is_over, zero_waits}
+use Rattle.beep_two_sessions.specs.beep_session.specs.declared.event.Event.{Event}
+use Rattle.beep_two_sessions.specs.beep_session.specs.Session.{Held}
+use Rattle.beep_two_sessions.specs.beep_session.specs.Channels.{IsOfPeer}
+use Rattle.beep_two_sessions.specs.beep_session.specs.Lawfully.{terms_of, FeedsLawfully}
 use Rattle.beep_schedule.specs.declared.event.End.{End}
-use Rattle.beep_peer.specs.Standing.{live_above}
-use Rattle.beep_tally.specs.Accounts.{lives_noted}
-use Rattle.beep_tally.specs.declared.account.Account.{Account}
+use Rattle.beep_two_sessions.specs.beep_peer.specs.Standing.{live_above}
+use Rattle.beep_report.specs.beep_tally.specs.Accounts.{lives_noted}
+use Rattle.beep_report.specs.beep_tally.specs.declared.account.Account.{Account}
 use Rattle.beep_two_sessions.specs.End.{End as OneEnd, Doing, goes, waits, StandsAs, StandsSo, StandsUnbroken, Awaits}
 use Rattle.beep_two_sessions.specs.Acts.{gets, settles, Does, GetsAs, HasGained, HasMessage}
 use Rattle.beep_two_sessions.specs.World.{World as Two, Move, IsReached, first_of}

@@ -1,6 +1,6 @@
 -- Steps that lead on, one after another.
 use Rattle.std.proofs.Common.{◌≡◌, ℕ, List, refl, sym, ap, ◌∙◌, subst}
-use Rattle.beep_session.specs.Session.{Held}
+use Rattle.beep_two_sessions.specs.beep_session.specs.Session.{Held}
 use Rattle.beep_schedule.specs.declared.event.End.{End}
 use Rattle.beep_pair.specs.Sessions.{Sessions}
 use Rattle.beep_pair.specs.World.{World, kept_of, wire_to, session_of, held_at, octets_to, IsWorld, Leads}

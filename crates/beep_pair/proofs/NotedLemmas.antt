@@ -1,10 +1,10 @@
 -- The lives that begin and end in one step, in the accounts of all lives.
 use Rattle.std.proofs.Common.{◌≡◌, ℕ, ◌+◌, ◌<◌, ◌≤◌, ◌==◌, Bool, true, false, not, ◌&&◌, ◌||◌, if◌then◌else◌, List, [], ◌∷◌, Option, Some, None, refl, sym, ap, ap₂, ◌∙◌, subst, arith}
-use Rattle.beep_history.specs.Marks.{Mark}
-use Rattle.beep_journal.proofs.MomentLemmas.{equal-number}
+use Rattle.beep_two_sessions.specs.beep_history.specs.Marks.{Mark}
+use Rattle.beep_two_sessions.specs.beep_journal.proofs.MomentLemmas.{equal-number}
 use Rattle.beep_schedule.specs.declared.event.End.{End}
-use Rattle.beep_tally.specs.Accounts.{is_in, with_ended, with_begun, with_each_ended, with_each_begun, lives_noted}
-use Rattle.beep_tally.specs.declared.account.Account.{Account}
+use Rattle.beep_report.specs.beep_tally.specs.Accounts.{is_in, with_ended, with_begun, with_each_ended, with_each_begun, lives_noted}
+use Rattle.beep_report.specs.beep_tally.specs.declared.account.Account.{Account}
 use Rattle.beep_pair.specs.Totals.{flow_of, account_at, View, stage_of, IsAccount, AreOfLives}
 use Rattle.beep_pair.proofs.TotalLemmas.{without, ended-lives}
 use Rattle.beep_pair.proofs.BegunLemmas.{with_one, begun-lives}

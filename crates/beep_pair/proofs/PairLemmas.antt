@@ -4,15 +4,15 @@ use Rattle.std.specs.declared.result.Result.{Result}
 use Rattle.std.specs.Bool.{IsTrue}
 use Rattle.std.proofs.lemmas.Bool.Decides.{nat_tests}
 use Rattle.std.specs.Prelude.{IfOk, OnOk}
-use Rattle.beep_speaking.specs.declared.emit.Emit.{Emit}
-use Rattle.beep_inbox.specs.declared.part.Part.{Part}
-use Rattle.beep_peer.specs.Peering.{is_over}
-use Rattle.beep_session.specs.Session.{Held}
-use Rattle.beep_session.specs.Lawfully.{KeepsUpright}
+use Rattle.beep_two_sessions.specs.beep_speaking.specs.declared.emit.Emit.{Emit}
+use Rattle.beep_two_sessions.specs.beep_inbox.specs.declared.part.Part.{Part}
+use Rattle.beep_two_sessions.specs.beep_peer.specs.Peering.{is_over}
+use Rattle.beep_two_sessions.specs.beep_session.specs.Session.{Held}
+use Rattle.beep_two_sessions.specs.beep_session.specs.Lawfully.{KeepsUpright}
 use Rattle.beep_schedule.specs.declared.event.End.{End}
 use Rattle.beep_schedule.specs.declared.event.Act.{Act}
 use Rattle.beep_schedule.specs.Events.{is_above, is_act}
-use Rattle.beep_tally.specs.declared.account.Account.{Account}
+use Rattle.beep_report.specs.beep_tally.specs.declared.account.Account.{Account}
 use Rattle.beep_report.specs.declared.answer.Answer.{Answer}
 use Rattle.beep_pair.specs.Sessions.{Sessions, Acts, acted, message_from, SendsOnto, Gets, TakesPart, counted_take}
 use Rattle.beep_pair.specs.World.{kept_of, held_at, octets_to, Leads}

@@ -3,16 +3,16 @@ use Rattle.std.proofs.Common.{◌≡◌, ℕ, ◌||◌, ◌&&◌, not, Bool, tru
 use Rattle.std.proofs.Math.Logic.{∥∥₁_elim, ∥∥₁_map}
 use Rattle.std.proofs.lemmas.Grind.{merely}
 use denote.Struct.Props.{props}
-use Rattle.beep_history.specs.Journal.{Item}
-use Rattle.beep_hearing.specs.declared.ear.Ear.{Ear}
-use Rattle.beep_hearing.specs.Hears.{Hears}
-use Rattle.beep_standing.specs.Standing.{Marks, no_marks}
-use Rattle.beep_peer.specs.declared.peer.Peer.{Peer}
-use Rattle.beep_peer.specs.Peering.{IsPeer, IsGoing, is_over, zero_waits}
-use Rattle.beep_peer.specs.Calls.{Begins}
-use Rattle.beep_session.specs.declared.limits.Limits.{Limits}
-use Rattle.beep_session.specs.Session.{Held}
-use Rattle.beep_session.specs.Channels.{IsOfPeer, IsStill}
+use Rattle.beep_two_sessions.specs.beep_history.specs.Journal.{Item}
+use Rattle.beep_two_sessions.specs.beep_hearing.specs.declared.ear.Ear.{Ear}
+use Rattle.beep_two_sessions.specs.beep_hearing.specs.Hears.{Hears}
+use Rattle.beep_two_sessions.specs.beep_standing.specs.Standing.{Marks, no_marks}
+use Rattle.beep_two_sessions.specs.beep_peer.specs.declared.peer.Peer.{Peer}
+use Rattle.beep_two_sessions.specs.beep_peer.specs.Peering.{IsPeer, IsGoing, is_over, zero_waits}
+use Rattle.beep_two_sessions.specs.beep_peer.specs.Calls.{Begins}
+use Rattle.beep_two_sessions.specs.beep_session.specs.declared.limits.Limits.{Limits}
+use Rattle.beep_two_sessions.specs.beep_session.specs.Session.{Held}
+use Rattle.beep_two_sessions.specs.beep_session.specs.Channels.{IsOfPeer, IsStill}
 use Rattle.beep_pair.specs.Sessions.{IsReady}
 
 abbrev pub SomePeer : ℕ → Peer → Type 0

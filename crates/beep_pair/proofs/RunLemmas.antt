@@ -5,12 +5,12 @@ use Rattle.std.specs.Result.{IfOk}
 use Rattle.std.specs.Bool.{IsTrue}
 use Rattle.std.specs.Prelude.{slice_get}
 use Rattle.std.specs.List.{flat_map}
-use Rattle.beep_octets.specs.Held.{Held as Octets}
-use Rattle.beep_session.specs.declared.limits.Limits.{Limits}
+use Rattle.beep_two_sessions.specs.beep_octets.specs.Held.{Held as Octets}
+use Rattle.beep_two_sessions.specs.beep_session.specs.declared.limits.Limits.{Limits}
 use Rattle.beep_schedule.specs.declared.event.PairEvent.{PairEvent}
 use Rattle.beep_schedule.specs.Events.{is_event, AreEvents}
 use Rattle.beep_schedule.specs.Generated.{generated_events}
-use Rattle.beep_tally.specs.declared.account.Account.{Account}
+use Rattle.beep_report.specs.beep_tally.specs.declared.account.Account.{Account}
 use Rattle.beep_report.specs.Summary.{summary_of}
 use Rattle.beep_report.specs.Texts.{account_lines, still_line, ending_text}
 use Rattle.beep_pair.specs.Sessions.{Sessions}
@@ -30,17 +30,17 @@ pub none_made : (events : List PairEvent) (first : World) (before : List ℕ) �
 none_made events first before = record { text = []; runs = begins; after_is = sym (append-nil before) }
 
 pub one_made : (events : List PairEvent) (first : World) (i : ℕ) (event : PairEvent) (before between after : List ℕ) (now next : World) (line : List ℕ) → slice_get events i ≡ Some event → SoFar events i before between first now → Tells event [] line now next → after ≡ between ++ line → SoFar events (i + 1) before after first next
-one_made events first i event before between after now next line at so_far told e =
+one_made events first i event before between after now next line at so_far gained e =
     let items : take (i + 1) events ≡ take i events ++ event ∷ [] = ap (λ n. take n events) (add-one i) ∙ (some_at events i event at).1 in
     record {
-      text = so_far.text ++ told.line;
-      runs = subst (λ xs. Runs first xs (so_far.text ++ told.line) next) (sym items) (goes (take i events) so_far.text told.line event now next so_far.runs told.steps);
-      after_is = e ∙ ap (λ t. between ++ t) told.after_is ∙ ap (λ t. t ++ told.line) so_far.after_is ∙ append_assoc before so_far.text told.line;
+      text = so_far.text ++ gained.line;
+      runs = subst (λ xs. Runs first xs (so_far.text ++ gained.line) next) (sym items) (goes (take i events) so_far.text gained.line event now next so_far.runs gained.steps);
+      after_is = e ∙ ap (λ t. between ++ t) gained.after_is ∙ ap (λ t. t ++ gained.line) so_far.after_is ∙ append_assoc before so_far.text gained.line;
     }
 
-pub told-so : (event same : PairEvent) (before after : List ℕ) (old new : World) (line : List ℕ) → event ≡ same → Steps event old line new → after ≡ before ++ line
+pub steps-so : (event same : PairEvent) (before after : List ℕ) (old new : World) (line : List ℕ) → event ≡ same → Steps event old line new → after ≡ before ++ line
     → Tells same before after old new
-told-so event same before after old new line e s k = record { line = line; steps = subst (λ x. Steps x old line new) e s; after_is = k }
+steps-so event same before after old new line e s k = record { line = line; steps = subst (λ x. Steps x old line new) e s; after_is = k }
 
 pub event_valid : (events : List PairEvent) (i : ℕ) (event : PairEvent) → AreEvents events → slice_get events i ≡ Some event → IsTrue (is_event event)
 event_valid [] zero event are at = absurd (let d : None ≡ Some event = at in cc)

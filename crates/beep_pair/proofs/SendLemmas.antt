@@ -1,15 +1,15 @@
 -- What an end that acts, sends or takes makes of a world.
 use Rattle.std.proofs.Common.{◌≡◌, ℕ, min, Bool, true, false, if◌then◌else◌, List, [], ◌++◌, length, Option, None, Some, refl, sym, ap, ◌∙◌, subst, append-nil}
-use Rattle.beep_frame.specs.Frame.{Frame, framed, seq_frame}
-use Rattle.beep_peer.specs.Peering.{is_over}
-use Rattle.beep_speaking.specs.declared.emit.Emit.{Emit}
-use Rattle.beep_inbox.specs.declared.part.Part.{Part}
-use Rattle.beep_upright.specs.Frames.{AreFrames}
-use Rattle.beep_session.specs.Session.{Held}
-use Rattle.beep_session.specs.Lawfully.{KeepsUpright}
+use Rattle.beep_two_sessions.specs.beep_frame.specs.Frame.{Frame, framed, seq_frame}
+use Rattle.beep_two_sessions.specs.beep_peer.specs.Peering.{is_over}
+use Rattle.beep_two_sessions.specs.beep_speaking.specs.declared.emit.Emit.{Emit}
+use Rattle.beep_two_sessions.specs.beep_inbox.specs.declared.part.Part.{Part}
+use Rattle.beep_two_sessions.specs.beep_upright.specs.Frames.{AreFrames}
+use Rattle.beep_two_sessions.specs.beep_session.specs.Session.{Held}
+use Rattle.beep_two_sessions.specs.beep_session.specs.Lawfully.{KeepsUpright}
 use Rattle.beep_schedule.specs.declared.event.End.{End}
 use Rattle.beep_schedule.specs.declared.event.Act.{Act}
-use Rattle.beep_tally.specs.declared.account.Account.{Account}
+use Rattle.beep_report.specs.beep_tally.specs.declared.account.Account.{Account}
 use Rattle.beep_two_sessions.specs.End.{End as OneEnd, goes, StandsAs}
 use Rattle.beep_two_sessions.specs.Acts.{Act as Deed, takes, sends, pauses, rests, used_by, sent_by, Does, SendsAs, LeadsTo}
 use Rattle.beep_two_sessions.specs.World.{World as Two}
@@ -19,8 +19,8 @@ use Rattle.beep_pair.specs.Sessions.{Acts, acted, message_from, Sends, SendsOnto
 use Rattle.beep_pair.specs.Ends.{other_end}
 use Rattle.beep_pair.specs.World.{World, end_of, wire_to, session_of, DoesAt, IsWorld}
 use Rattle.beep_pair.specs.Steps.{is_done, deed_of, DoesStep, SentAt, SendsStep, TakesStep}
-use Rattle.beep_tally.specs.Accounts.{lives_noted}
-use Rattle.beep_peer.specs.Standing.{live_above}
+use Rattle.beep_report.specs.beep_tally.specs.Accounts.{lives_noted}
+use Rattle.beep_two_sessions.specs.beep_peer.specs.Standing.{live_above}
 use Rattle.beep_two_sessions.proofs.BookLemmas.{BookedEnd}
 use Rattle.beep_pair.specs.Totals.{View, view_of, AreOfLives}
 use Rattle.beep_pair.proofs.NotedLemmas.{IsEmptyView}

@@ -1,12 +1,12 @@
 -- What holds of a world that steps lead to.
 use Rattle.std.proofs.Common.{◌≡◌, ◌↔◌, inl, inr, ℕ, ◌+◌, ◌<◌, ◌≤◌, ◌==◌, Option, Some, None, Bool, true, false, not, ◌&&◌, ◌||◌, refl, sym, ap, ◌∙◌, arith}
 use Rattle.std.specs.List.{list_any}
-use Rattle.beep_journal.specs.Life.{history}
-use Rattle.beep_lives.specs.Lives.{can_send, owes_seq}
-use Rattle.beep_standing.specs.Due.{has_due, has_ready}
-use Rattle.beep_standing.proofs.DueLemmas.{channel-due, channel-ready, none-by}
-use Rattle.beep_peer.specs.Peering.{is_over, is_greeted}
-use Rattle.beep_session.specs.Looks.{IsTakenAt}
+use Rattle.beep_two_sessions.specs.beep_journal.specs.Life.{history}
+use Rattle.beep_two_sessions.specs.beep_lives.specs.Lives.{can_send, owes_seq}
+use Rattle.beep_two_sessions.specs.beep_standing.specs.Due.{has_due, has_ready}
+use Rattle.beep_two_sessions.specs.beep_standing.proofs.DueLemmas.{channel-due, channel-ready, none-by}
+use Rattle.beep_two_sessions.specs.beep_peer.specs.Peering.{is_over, is_greeted}
+use Rattle.beep_two_sessions.specs.beep_session.specs.Looks.{IsTakenAt}
 use Rattle.beep_two_sessions.specs.End.{End as OneEnd, goes, StandsAs, NothingIsDue}
 use Rattle.beep_two_sessions.specs.Still.{HasNothingLeft, IsStillEnd, IsStill as AreStill}
 use Rattle.beep_two_sessions.proofs.MoveLemmas.{stands-a, stands-b}
@@ -17,8 +17,8 @@ use Rattle.beep_two_sessions.proofs.ReplyLemmas.{replies-at-a, replies-at-b}
 use Rattle.beep_two_sessions.proofs.GreetLemmas.{greeted-a, greeted-b}
 use Rattle.beep_schedule.specs.declared.event.End.{End}
 use Rattle.beep_pair.specs.World.{World, kept_of, IsWorld}
-use Rattle.beep_tally.specs.declared.account.Account.{Account}
-use Rattle.beep_pair.specs.Totals.{account_at, view_of, IsTold, AreTotals, IsAccount}
+use Rattle.beep_report.specs.beep_tally.specs.declared.account.Account.{Account}
+use Rattle.beep_pair.specs.Totals.{account_at, view_of, IsAccountOf, AreTotals, IsAccount}
 use Rattle.beep_pair.specs.Report.{IsStill, IsKept, may_send}
 use Rattle.beep_pair.proofs.WorldLemmas.{stands-now}
 use Rattle.beep_pair.proofs.DrainLemmas.{taken-inbox}
@@ -76,7 +76,7 @@ still-world world w s = record {
 totals-of : (world : World) → IsWorld world → AreTotals world.two world.accounts
 totals-of world w = record { order = w.lives.order; each = λ n p above. by n p (apart n above) (account_at n p world.accounts) (w.lives.each n p (apart n above)) }
   where
-    by : (n p : ℕ) → (n == 0) ≡ false → (o : Option Account) → IsAccount End.A (view_of world.two.a) (view_of world.two.b) n p o → IsTold world.two n (p + 1) o
+    by : (n p : ℕ) → (n == 0) ≡ false → (o : Option Account) → IsAccount End.A (view_of world.two.a) (view_of world.two.b) n p o → IsAccountOf world.two n (p + 1) o
     by n p above None a =
         let x = books w.moves world.two w.reached in
         let less_a = a.0 in

@@ -2,14 +2,14 @@
 use Rattle.std.proofs.Common.{◌≡◌, ℕ, ◌<◌, ◌≤◌, nat_lt, Bool, true, false, if◌then◌else◌, List, [], ◌∷◌, length, take, drop, Option, None, Some, refl, sym, ap, ◌∙◌, subst, arith, length-append, length-take, length-drop}
 use Rattle.std.proofs.lemmas.Bool.Decides.{nat_tests}
 use Rattle.std.specs.Prelude.{IfSome, IfNone}
-use Rattle.beep_inbox.specs.declared.part.Part.{Part}
-use Rattle.beep_inbox.specs.Runs.{Run, left_runs}
-use Rattle.beep_inbox.specs.Untaken.{IsTaken}
-use Rattle.beep_lives.specs.Lives.{live_at}
-use Rattle.beep_giving.specs.Looks.{inbox_of}
-use Rattle.beep_session.specs.Session.{Held}
-use Rattle.beep_session.specs.Channels.{Takes}
-use Rattle.beep_session.specs.Lawfully.{KeepsUpright}
+use Rattle.beep_two_sessions.specs.beep_inbox.specs.declared.part.Part.{Part}
+use Rattle.beep_two_sessions.specs.beep_inbox.specs.Runs.{Run, left_runs}
+use Rattle.beep_two_sessions.specs.beep_inbox.specs.Untaken.{IsTaken}
+use Rattle.beep_two_sessions.specs.beep_lives.specs.Lives.{live_at}
+use Rattle.beep_two_sessions.specs.beep_giving.specs.Looks.{inbox_of}
+use Rattle.beep_two_sessions.specs.beep_session.specs.Session.{Held}
+use Rattle.beep_two_sessions.specs.beep_session.specs.Channels.{Takes}
+use Rattle.beep_two_sessions.specs.beep_session.specs.Lawfully.{KeepsUpright}
 use Rattle.beep_pair.specs.Acts.{has_channel}
 use Rattle.beep_pair.specs.Sessions.{IsLess, TakesPart}
 

@@ -1,21 +1,21 @@
 -- What is given, taken and ended in a life, in the accounts of all lives.
 use Rattle.std.proofs.Common.{◌≡◌, ℕ, zero, suc, ◌+◌, ◌%◌, ◌^◌, ◌<◌, ◌≤◌, ◌==◌, nat_lt, Bool, true, false, not, ◌&&◌, ◌||◌, if◌then◌else◌, List, [], ◌∷◌, ◌++◌, map, Option, Some, None, refl, sym, ap, ap₂, ◌∙◌, subst, arith}
 use Rattle.std.proofs.lemmas.Bool.Decides.{nat_tests}
-use Rattle.beep_frame.specs.Modulo.{modulo_2_64}
-use Rattle.beep_frame.specs.declared.kind.Kind.{Kind}
-use Rattle.beep_history.specs.Marks.{Mark, octet, end}
-use Rattle.beep_journal.proofs.MomentLemmas.{same-number, equal-number}
-use Rattle.beep_channel.specs.Stands.{ends_of}
-use Rattle.beep_channel.proofs.CountedLemmas.{ends-append}
-use Rattle.beep_standing.specs.Due.{octets_among}
+use Rattle.beep_two_sessions.specs.beep_frame.specs.Modulo.{modulo_2_64}
+use Rattle.beep_two_sessions.specs.beep_frame.specs.declared.kind.Kind.{Kind}
+use Rattle.beep_two_sessions.specs.beep_history.specs.Marks.{Mark, octet, end}
+use Rattle.beep_two_sessions.specs.beep_journal.proofs.MomentLemmas.{same-number, equal-number}
+use Rattle.beep_two_sessions.specs.beep_channel.specs.Stands.{ends_of}
+use Rattle.beep_two_sessions.specs.beep_channel.proofs.CountedLemmas.{ends-append}
+use Rattle.beep_two_sessions.specs.beep_standing.specs.Due.{octets_among}
 use Rattle.beep_two_sessions.specs.End.{Book, with_more}
 use Rattle.beep_two_sessions.proofs.ZeroMarkLemmas.{among-append}
 use Rattle.beep_schedule.specs.declared.event.End.{End}
-use Rattle.beep_tally.specs.Accounts.{stage_at, staged_at, is_live_stage, is_live_at, one_if, counted, given_by, taken_by, give_at, take_at, end_at, with_given, with_taken, with_ended}
-use Rattle.beep_tally.specs.declared.account.Count.{Count}
-use Rattle.beep_tally.specs.declared.account.Flow.{Flow}
-use Rattle.beep_tally.specs.declared.account.Stage.{Stage}
-use Rattle.beep_tally.specs.declared.account.Account.{Account}
+use Rattle.beep_report.specs.beep_tally.specs.Accounts.{stage_at, staged_at, is_live_stage, is_live_at, one_if, counted, given_by, taken_by, give_at, take_at, end_at, with_given, with_taken, with_ended}
+use Rattle.beep_report.specs.beep_tally.specs.declared.account.Count.{Count}
+use Rattle.beep_report.specs.beep_tally.specs.declared.account.Flow.{Flow}
+use Rattle.beep_report.specs.beep_tally.specs.declared.account.Stage.{Stage}
+use Rattle.beep_report.specs.beep_tally.specs.declared.account.Account.{Account}
 use Rattle.beep_pair.specs.Ends.{other_end}
 use Rattle.beep_pair.specs.Totals.{count_of, flow_of, flow_from, account_at, AreInOrder, View, stage_of, IsOfLife, IsAccount, AreOfLives}
 

@@ -2,8 +2,8 @@
 use Rattle.std.proofs.Common.{◌≡◌, Ok, Err, sym, subst}
 use Rattle.std.specs.declared.result.Result.{Result}
 use Rattle.std.specs.Prelude.{OnOk}
-use Rattle.beep_session.specs.Session.{Held}
-use Rattle.beep_session.specs.Lawfully.{KeepsUpright}
+use Rattle.beep_two_sessions.specs.beep_session.specs.Session.{Held}
+use Rattle.beep_two_sessions.specs.beep_session.specs.Lawfully.{KeepsUpright}
 
 pub upright-over : (a b old new : Held) → a ≡ old → new ≡ b → KeepsUpright a b → KeepsUpright old new
 upright-over a b old new first last u = subst (λ s. KeepsUpright s new) first (subst (λ s. KeepsUpright a s) (sym last) u)

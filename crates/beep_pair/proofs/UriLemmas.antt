@@ -3,10 +3,10 @@ use Rattle.std.proofs.Common.{◌≡◌, ℕ, Bool, true, false, ◌&&◌, List,
 use Rattle.std.specs.List.{list_all}
 use Rattle.std.specs.Str.{chars}
 use Rattle.std.proofs.lemmas.Str.{chars-IsAscii}
-use Rattle.beep_decide.specs.declared.decision.Offer.{Offer}
-use Rattle.beep_answering.specs.Sent.{is_uri}
-use Rattle.beep_decide.specs.Plain.{plain_offer}
-use Rattle.beep_decide.specs.Decide.{PlainOffer}
+use Rattle.beep_two_sessions.specs.beep_decide.specs.declared.decision.Offer.{Offer}
+use Rattle.beep_two_sessions.specs.beep_answering.specs.Sent.{is_uri}
+use Rattle.beep_two_sessions.specs.beep_decide.specs.Plain.{plain_offer}
+use Rattle.beep_two_sessions.specs.beep_decide.specs.Decide.{PlainOffer}
 use Rattle.beep_pair.specs.Acts.{pair_uri}
 use Rattle.beep_pair.specs.Command.{pair_offers}
 

@@ -1,9 +1,9 @@
 -- What a deed of one end makes of a world.
 use Rattle.std.proofs.Common.{◌≡◌, ℕ, List, ◌∷◌, ◌++◌, refl, sym, ap, ◌∙◌, subst}
-use Rattle.beep_upright.specs.Frames.{AreFrames}
-use Rattle.beep_session.specs.Session.{Held}
+use Rattle.beep_two_sessions.specs.beep_upright.specs.Frames.{AreFrames}
+use Rattle.beep_two_sessions.specs.beep_session.specs.Session.{Held}
 use Rattle.beep_schedule.specs.declared.event.End.{End}
-use Rattle.beep_tally.specs.declared.account.Account.{Account}
+use Rattle.beep_report.specs.beep_tally.specs.declared.account.Account.{Account}
 use Rattle.beep_two_sessions.specs.End.{End as OneEnd, Doing, goes, StandsAs, StandsSo, StandsUnbroken}
 use Rattle.beep_two_sessions.specs.Acts.{Act as Deed, used_by, sent_by, Does, LeadsTo}
 use Rattle.beep_two_sessions.specs.World.{World as Two, Move, IsReached, first_of}

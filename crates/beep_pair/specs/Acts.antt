@@ -2,23 +2,23 @@
 -- 2.3.1).
 -- Each is said by what the session stood for and stands for then: no journal is kept.
 use Rattle.std.specs.Prelude.{◌≡◌, ℕ, nat_lt, Bool, true, false, not, ◌&&◌, List, [], ◌∷◌, length, None, Some, is_some, codes}
-use Rattle.beep_frame.specs.declared.kind.Kind.{Kind}
-use Rattle.beep_frame.specs.Frame.{is_msg}
-use Rattle.beep_frame.specs.Modulo.{modulo_2_64}
-use Rattle.beep_history.specs.Journal.{Item}
-use Rattle.beep_channel.specs.Stands.{ends_of}
-use Rattle.beep_lives.specs.Lives.{live_at}
-use Rattle.beep_standing.specs.Standing.{Marks}
-use Rattle.beep_mgmt.specs.Message.{message_text}
-use Rattle.beep_mgmt.specs.Form.{PlainProfile}
-use Rattle.beep_answering.specs.Sent.{closing_of, plain_listed}
-use Rattle.beep_peer.specs.Peering.{IsPeer, is_over}
-use Rattle.beep_peer.specs.Acts.{close_refusal, release_refusal}
-use Rattle.beep_giving.specs.Giving.{ask_refusal_at, reply_refusal_at}
-use Rattle.beep_giving.specs.Looks.{owes_of, answers_of}
-use Rattle.beep_session.specs.Session.{Held}
-use Rattle.beep_session.specs.Channels.{is_closing, next_answer, IsOfPeer, IsStill, Gives, Closes}
-use Rattle.beep_session.specs.Acts.{AsksZero, start_text, refusal_of_start}
+use Rattle.beep_two_sessions.specs.beep_frame.specs.declared.kind.Kind.{Kind}
+use Rattle.beep_two_sessions.specs.beep_frame.specs.Frame.{is_msg}
+use Rattle.beep_two_sessions.specs.beep_frame.specs.Modulo.{modulo_2_64}
+use Rattle.beep_two_sessions.specs.beep_history.specs.Journal.{Item}
+use Rattle.beep_two_sessions.specs.beep_channel.specs.Stands.{ends_of}
+use Rattle.beep_two_sessions.specs.beep_lives.specs.Lives.{live_at}
+use Rattle.beep_two_sessions.specs.beep_standing.specs.Standing.{Marks}
+use Rattle.beep_two_sessions.specs.beep_mgmt.specs.Message.{message_text}
+use Rattle.beep_two_sessions.specs.beep_mgmt.specs.Form.{PlainProfile}
+use Rattle.beep_two_sessions.specs.beep_answering.specs.Sent.{closing_of, plain_listed}
+use Rattle.beep_two_sessions.specs.beep_peer.specs.Peering.{IsPeer, is_over}
+use Rattle.beep_two_sessions.specs.beep_peer.specs.Acts.{close_refusal, release_refusal}
+use Rattle.beep_two_sessions.specs.beep_giving.specs.Giving.{ask_refusal_at, reply_refusal_at}
+use Rattle.beep_two_sessions.specs.beep_giving.specs.Looks.{owes_of, answers_of}
+use Rattle.beep_two_sessions.specs.beep_session.specs.Session.{Held}
+use Rattle.beep_two_sessions.specs.beep_session.specs.Channels.{is_closing, next_answer, IsOfPeer, IsStill, Gives, Closes}
+use Rattle.beep_two_sessions.specs.beep_session.specs.Acts.{AsksZero, start_text, refusal_of_start}
 use Rattle.beep_report.specs.declared.answer.Answer.{Answer}
 
 -- the profile that both ends offer
@@ -56,7 +56,7 @@ IsPosition n session position = (fed rest : List ℕ) (journal : List Item) (giv
     → position ≡ modulo_2_64 (ends_of is_msg (given n))
 
 abbrev pub Asks : ℕ → List ℕ → Held → Held → Answer → Type 0
-Asks n octets old new (Answer.Told position) = (has_open n old ≡ true)
+Asks n octets old new (Answer.Numbered position) = (has_open n old ≡ true)
     × (ask_refusal_at old.peer n (length octets) ≡ None) × IsPosition n old position
     × Gives n Kind.Msg octets old new
 Asks n octets old new Answer.NoChannel = (has_open n old ≡ false) × (new ≡ old)
@@ -83,7 +83,7 @@ Replies kind n octets old new answer = ⊥
 
 -- one answer
 abbrev pub Answers : ℕ → List ℕ → Held → Held → Answer → Type 0
-Answers n octets old new (Answer.Told number) = (has_channel n old ≡ true)
+Answers n octets old new (Answer.Numbered number) = (has_channel n old ≡ true)
     × (is_owed n old ≡ true) × (number ≡ next_answer n old) × Gives n Kind.Ans octets old new
 Answers n octets old new Answer.NoChannel = (has_channel n old ≡ false) × (new ≡ old)
 Answers n octets old new Answer.NotOwed =

@@ -1,13 +1,13 @@
 -- Two ends before a schedule is run, and the whole work of the command: the text of a schedule, and
 -- its report.
 use Rattle.std.specs.Prelude.{◌≡◌, ℕ, false, List, [], ◌∷◌, length}
-use Rattle.beep_journal.specs.declared.role.Role.{Role}
-use Rattle.beep_decide.specs.Decide.{PlainOffer}
-use Rattle.beep_standing.specs.Standing.{Marks, no_marks}
-use Rattle.beep_hearing.specs.Hears.{SameAbove}
-use Rattle.beep_session.specs.declared.limits.Limits.{Limits}
-use Rattle.beep_session.specs.Session.{Held, AreLimits}
-use Rattle.beep_session.specs.Lawfully.{IsLawfulSession}
+use Rattle.beep_two_sessions.specs.beep_journal.specs.declared.role.Role.{Role}
+use Rattle.beep_two_sessions.specs.beep_decide.specs.Decide.{PlainOffer}
+use Rattle.beep_two_sessions.specs.beep_standing.specs.Standing.{Marks, no_marks}
+use Rattle.beep_two_sessions.specs.beep_hearing.specs.Hears.{SameAbove}
+use Rattle.beep_two_sessions.specs.beep_session.specs.declared.limits.Limits.{Limits}
+use Rattle.beep_two_sessions.specs.beep_session.specs.Session.{Held, AreLimits}
+use Rattle.beep_two_sessions.specs.beep_session.specs.Lawfully.{IsLawfulSession}
 use Rattle.beep_schedule.specs.declared.event.PairEvent.{PairEvent}
 use Rattle.beep_schedule.specs.Schedule.{Says}
 use Rattle.beep_schedule.specs.Refused.{IsBadAt}

@@ -1,10 +1,10 @@
 -- What the parts of a drain do, with the lines that they append.
 use Rattle.std.specs.Prelude.{◌≡◌, ◌⊎◌, ℕ, ◌≤◌, ◌==◌, true, false, Bool, not, ◌&&◌, List, [], ◌∷◌, ◌++◌, Some}
 use Rattle.std.specs.List.{list_any}
-use Rattle.beep_journal.specs.Life.{is_there}
-use Rattle.beep_speaking.specs.declared.emit.Emit.{Emit}
-use Rattle.beep_inbox.specs.declared.part.Part.{Part}
-use Rattle.beep_peer.specs.Peering.{is_over}
+use Rattle.beep_two_sessions.specs.beep_journal.specs.Life.{is_there}
+use Rattle.beep_two_sessions.specs.beep_speaking.specs.declared.emit.Emit.{Emit}
+use Rattle.beep_two_sessions.specs.beep_inbox.specs.declared.part.Part.{Part}
+use Rattle.beep_two_sessions.specs.beep_peer.specs.Peering.{is_over}
 use Rattle.beep_schedule.specs.declared.event.End.{End}
 use Rattle.beep_schedule.specs.declared.limits.TheConstants.{MAX_COUNT}
 use Rattle.beep_pair.specs.World.{World, end_of, session_of}

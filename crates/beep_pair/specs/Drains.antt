@@ -1,12 +1,12 @@
 -- What a drain does, and when it ends (docs/FORMATS.md, "Schedules").
 -- The code goes round and round; here is what was done in all, and what holds then.
 use Rattle.std.specs.Prelude.{◌≡◌, ◌⊎◌, ℕ, ◌+◌, ◌≤◌, ◌==◌, true, false, Bool, ◌&&◌, List, [], ◌++◌, map, Some}
-use Rattle.beep_speaking.specs.declared.emit.Emit.{Emit}
-use Rattle.beep_inbox.specs.declared.part.Part.{Part}
-use Rattle.beep_peer.specs.Peering.{is_over}
-use Rattle.beep_history.specs.declared.journal.Side.{Side}
-use Rattle.beep_history.specs.Marks.{marks, mark_modulo_2_64}
-use Rattle.beep_journal.specs.Life.{history, is_there}
+use Rattle.beep_two_sessions.specs.beep_speaking.specs.declared.emit.Emit.{Emit}
+use Rattle.beep_two_sessions.specs.beep_inbox.specs.declared.part.Part.{Part}
+use Rattle.beep_two_sessions.specs.beep_peer.specs.Peering.{is_over}
+use Rattle.beep_two_sessions.specs.beep_history.specs.declared.journal.Side.{Side}
+use Rattle.beep_two_sessions.specs.beep_history.specs.Marks.{marks, mark_modulo_2_64}
+use Rattle.beep_two_sessions.specs.beep_journal.specs.Life.{history, is_there}
 use Rattle.beep_two_sessions.specs.End.{End as OneEnd}
 use Rattle.beep_schedule.specs.declared.event.End.{End}
 use Rattle.beep_schedule.specs.declared.limits.TheConstants.{MAX_COUNT}

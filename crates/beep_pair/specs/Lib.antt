@@ -10,3 +10,7 @@ pub mod Report
 pub mod Command
 -- What proofs alone need: the rounds of a drain.
 pub mod Draining
+-- Crates below, which are named through this one.
+pub use Rattle.beep_two_sessions.specs.beep_decide
+pub use Rattle.beep_two_sessions.specs.beep_session
+pub use Rattle.beep_two_sessions

@@ -2,17 +2,17 @@
 -- "Reports of schedules").
 use Rattle.std.specs.Prelude.{◌≡◌, ◌↔◌, ◌⊎◌, ℕ, ◌<◌, Bool, true, false, not, ◌&&◌, ◌||◌, List, [], ◌∷◌, ◌++◌, Option}
 use Rattle.std.specs.List.{list_any}
-use Rattle.beep_frame.specs.Frame.{is_msg}
-use Rattle.beep_journal.specs.Life.{is_released}
-use Rattle.beep_journal.specs.Lives.{has_ended}
-use Rattle.beep_journal.specs.Zero.{events}
-use Rattle.beep_channel.specs.Stands.{ends_of}
-use Rattle.beep_lives.specs.Lives.{can_send, owes_seq}
-use Rattle.beep_speaking.specs.declared.emit.Emit.{Emit}
-use Rattle.beep_inbox.specs.declared.part.Part.{Part}
-use Rattle.beep_peer.specs.Peering.{is_over, is_greeted}
-use Rattle.beep_session.specs.Session.{Held}
-use Rattle.beep_session.specs.Looks.{IsTakenAt}
+use Rattle.beep_two_sessions.specs.beep_frame.specs.Frame.{is_msg}
+use Rattle.beep_two_sessions.specs.beep_journal.specs.Life.{is_released}
+use Rattle.beep_two_sessions.specs.beep_journal.specs.Lives.{has_ended}
+use Rattle.beep_two_sessions.specs.beep_journal.specs.Zero.{events}
+use Rattle.beep_two_sessions.specs.beep_channel.specs.Stands.{ends_of}
+use Rattle.beep_two_sessions.specs.beep_lives.specs.Lives.{can_send, owes_seq}
+use Rattle.beep_two_sessions.specs.beep_speaking.specs.declared.emit.Emit.{Emit}
+use Rattle.beep_two_sessions.specs.beep_inbox.specs.declared.part.Part.{Part}
+use Rattle.beep_two_sessions.specs.beep_peer.specs.Peering.{is_over, is_greeted}
+use Rattle.beep_two_sessions.specs.beep_session.specs.Session.{Held}
+use Rattle.beep_two_sessions.specs.beep_session.specs.Looks.{IsTakenAt}
 use Rattle.beep_schedule.specs.declared.event.PairEvent.{PairEvent}
 use Rattle.beep_two_sessions.specs.End.{StandsUnbroken}
 use Rattle.beep_two_sessions.specs.Kept.{IsPrefix, IsTakenInOrder, AreReplies}

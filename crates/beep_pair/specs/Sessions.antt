@@ -3,36 +3,36 @@
 -- Each speaks of every journal for which the session stood: none is kept.
 use Rattle.std.specs.Prelude.{◌≡◌, ℕ, ◌+◌, ◌%◌, ◌<◌, ◌≤◌, nat_lt, min, map, if◌then◌else◌, Bool, true, false, List, [], ◌∷◌, ◌++◌, length, take, drop, Option, None, Some}
 use Rattle.std.specs.List.{range_with_len}
-use Rattle.beep_frame.specs.declared.kind.Kind.{Kind}
-use Rattle.beep_frame.specs.declared.rule.Rule.{Rule}
-use Rattle.beep_frame.specs.declared.head.Head.{Head}
-use Rattle.beep_frame.specs.Frame.{is_msg}
-use Rattle.beep_history.specs.declared.journal.Side.{Side}
-use Rattle.beep_history.specs.Journal.{Item, passed}
-use Rattle.beep_journal.specs.declared.role.Role.{Role}
-use Rattle.beep_journal.specs.Zero.{zero_history, completes_form}
-use Rattle.beep_lives.specs.Lives.{live_at}
-use Rattle.beep_standing.specs.Standing.{Marks}
-use Rattle.beep_speaking.specs.declared.emit.Emit.{Emit}
-use Rattle.beep_inbox.specs.declared.part.Part.{Part}
-use Rattle.beep_inbox.specs.Runs.{Run, octets_of}
-use Rattle.beep_upright.specs.Upright.{IsUpright}
-use Rattle.beep_upright.specs.Frames.{AreFrames, IsFramed}
-use Rattle.beep_peer.specs.Peering.{IsPeer, WaitsIn, IsGoing, is_over, zero_waits}
-use Rattle.beep_peer.specs.Calls.{Speaks, Settles}
-use Rattle.beep_peer.specs.Lawfully.{SpeaksLawfully}
-use Rattle.beep_peer.specs.Standing.{live_above}
-use Rattle.beep_giving.specs.Looks.{inbox_of}
-use Rattle.beep_session.specs.declared.event.Event.{Event}
-use Rattle.beep_session.specs.Session.{Held}
-use Rattle.beep_session.specs.Channels.{IsOfPeer, Takes}
-use Rattle.beep_session.specs.Events.{is_going}
-use Rattle.beep_session.specs.Feeds.{Feeds}
-use Rattle.beep_session.specs.Lawfully.{terms_of, IsLawfulSession, KeepsUpright, FeedsLawfully}
+use Rattle.beep_two_sessions.specs.beep_frame.specs.declared.kind.Kind.{Kind}
+use Rattle.beep_two_sessions.specs.beep_frame.specs.declared.rule.Rule.{Rule}
+use Rattle.beep_two_sessions.specs.beep_frame.specs.declared.head.Head.{Head}
+use Rattle.beep_two_sessions.specs.beep_frame.specs.Frame.{is_msg}
+use Rattle.beep_two_sessions.specs.beep_history.specs.declared.journal.Side.{Side}
+use Rattle.beep_two_sessions.specs.beep_history.specs.Journal.{Item, passed}
+use Rattle.beep_two_sessions.specs.beep_journal.specs.declared.role.Role.{Role}
+use Rattle.beep_two_sessions.specs.beep_journal.specs.Zero.{zero_history, completes_form}
+use Rattle.beep_two_sessions.specs.beep_lives.specs.Lives.{live_at}
+use Rattle.beep_two_sessions.specs.beep_standing.specs.Standing.{Marks}
+use Rattle.beep_two_sessions.specs.beep_speaking.specs.declared.emit.Emit.{Emit}
+use Rattle.beep_two_sessions.specs.beep_inbox.specs.declared.part.Part.{Part}
+use Rattle.beep_two_sessions.specs.beep_inbox.specs.Runs.{Run, octets_of}
+use Rattle.beep_two_sessions.specs.beep_upright.specs.Upright.{IsUpright}
+use Rattle.beep_two_sessions.specs.beep_upright.specs.Frames.{AreFrames, IsFramed}
+use Rattle.beep_two_sessions.specs.beep_peer.specs.Peering.{IsPeer, WaitsIn, IsGoing, is_over, zero_waits}
+use Rattle.beep_two_sessions.specs.beep_peer.specs.Calls.{Speaks, Settles}
+use Rattle.beep_two_sessions.specs.beep_peer.specs.Lawfully.{SpeaksLawfully}
+use Rattle.beep_two_sessions.specs.beep_peer.specs.Standing.{live_above}
+use Rattle.beep_two_sessions.specs.beep_giving.specs.Looks.{inbox_of}
+use Rattle.beep_two_sessions.specs.beep_session.specs.declared.event.Event.{Event}
+use Rattle.beep_two_sessions.specs.beep_session.specs.Session.{Held}
+use Rattle.beep_two_sessions.specs.beep_session.specs.Channels.{IsOfPeer, Takes}
+use Rattle.beep_two_sessions.specs.beep_session.specs.Events.{is_going}
+use Rattle.beep_two_sessions.specs.beep_session.specs.Feeds.{Feeds}
+use Rattle.beep_two_sessions.specs.beep_session.specs.Lawfully.{terms_of, IsLawfulSession, KeepsUpright, FeedsLawfully}
 use Rattle.beep_schedule.specs.declared.event.End.{End}
 use Rattle.beep_schedule.specs.declared.event.Act.{Act}
-use Rattle.beep_tally.specs.declared.account.Account.{Account}
-use Rattle.beep_tally.specs.Accounts.{lives_noted, with_given, with_taken}
+use Rattle.beep_report.specs.beep_tally.specs.declared.account.Account.{Account}
+use Rattle.beep_report.specs.beep_tally.specs.Accounts.{lives_noted, with_given, with_taken}
 use Rattle.beep_report.specs.declared.answer.Answer.{Answer}
 use Rattle.beep_pair.specs.Acts.{pair_uri, has_channel, Asks, Replies, Answers, Ends, ClosesChannel, Starts, Releases}
 
@@ -82,7 +82,7 @@ Acts Act.Release n octets old new answer = Releases old new answer
 
 -- a message was given in a channel above zero
 abbrev pub is_given : Act → Answer → Bool
-is_given act (Answer.Told number) = true
+is_given act (Answer.Numbered number) = true
 is_given Act.Reply Answer.Done = true
 is_given Act.Refuse Answer.Done = true
 is_given Act.Done Answer.Done = true

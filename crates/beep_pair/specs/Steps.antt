@@ -2,14 +2,14 @@
 -- 3.1).
 -- Each is what the call of a session answers, and what the end did by it.
 use Rattle.std.specs.Prelude.{◌≡◌, ℕ, Bool, true, false, if◌then◌else◌, List, [], ◌++◌, length, take, drop, Option, None, Some}
-use Rattle.beep_frame.specs.declared.kind.Kind.{Kind}
-use Rattle.beep_frame.specs.Frame.{framed, seq_frame}
-use Rattle.beep_mgmt.specs.Message.{message_text}
-use Rattle.beep_answering.specs.Sent.{closing_of}
-use Rattle.beep_speaking.specs.declared.emit.Emit.{Emit}
-use Rattle.beep_inbox.specs.declared.part.Part.{Part}
-use Rattle.beep_session.specs.declared.event.Event.{Event}
-use Rattle.beep_session.specs.Acts.{start_text}
+use Rattle.beep_two_sessions.specs.beep_frame.specs.declared.kind.Kind.{Kind}
+use Rattle.beep_two_sessions.specs.beep_frame.specs.Frame.{framed, seq_frame}
+use Rattle.beep_two_sessions.specs.beep_mgmt.specs.Message.{message_text}
+use Rattle.beep_two_sessions.specs.beep_answering.specs.Sent.{closing_of}
+use Rattle.beep_two_sessions.specs.beep_speaking.specs.declared.emit.Emit.{Emit}
+use Rattle.beep_two_sessions.specs.beep_inbox.specs.declared.part.Part.{Part}
+use Rattle.beep_two_sessions.specs.beep_session.specs.declared.event.Event.{Event}
+use Rattle.beep_two_sessions.specs.beep_session.specs.Acts.{start_text}
 use Rattle.beep_schedule.specs.declared.event.End.{End}
 use Rattle.beep_schedule.specs.declared.event.Act.{Act}
 use Rattle.beep_two_sessions.specs.Acts.{Act as Deed, gives, asks, takes, settles, sends, pauses, gets, rests}
@@ -24,7 +24,7 @@ use Rattle.beep_pair.specs.World.{World, wire_to, session_of, DoesAt}
 
 abbrev pub is_done : Answer → Bool
 is_done Answer.Done = true
-is_done (Answer.Told number) = true
+is_done (Answer.Numbered number) = true
 is_done Answer.NoChannel = false
 is_done Answer.NotOwed = false
 is_done Answer.Answering = false

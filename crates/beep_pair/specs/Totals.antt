@@ -2,20 +2,20 @@
 -- 2.3.1).
 -- The code keeps a few numbers of each life; here they are those of whole lists of marks.
 use Rattle.std.specs.Prelude.{◌≡◌, ℕ, zero, suc, ◌+◌, ◌<◌, ◌≤◌, ◌==◌, nat_lt, Bool, true, false, ◌&&◌, if◌then◌else◌, List, [], ◌∷◌, Option, None, Some}
-use Rattle.beep_frame.specs.Modulo.{modulo_2_64}
-use Rattle.beep_history.specs.Marks.{Mark}
-use Rattle.beep_journal.specs.Lives.{lives, is_live}
-use Rattle.beep_journal.specs.Zero.{events}
-use Rattle.beep_channel.specs.Stands.{ends_of}
-use Rattle.beep_standing.specs.Due.{octets_among}
+use Rattle.beep_two_sessions.specs.beep_frame.specs.Modulo.{modulo_2_64}
+use Rattle.beep_two_sessions.specs.beep_history.specs.Marks.{Mark}
+use Rattle.beep_two_sessions.specs.beep_journal.specs.Lives.{lives, is_live}
+use Rattle.beep_two_sessions.specs.beep_journal.specs.Zero.{events}
+use Rattle.beep_two_sessions.specs.beep_channel.specs.Stands.{ends_of}
+use Rattle.beep_two_sessions.specs.beep_standing.specs.Due.{octets_among}
 use Rattle.beep_two_sessions.specs.End.{End as OneEnd, Book}
 use Rattle.beep_two_sessions.specs.World.{World as Two}
 use Rattle.beep_schedule.specs.declared.event.End.{End}
-use Rattle.beep_tally.specs.Accounts.{stage_at}
-use Rattle.beep_tally.specs.declared.account.Count.{Count}
-use Rattle.beep_tally.specs.declared.account.Flow.{Flow}
-use Rattle.beep_tally.specs.declared.account.Stage.{Stage}
-use Rattle.beep_tally.specs.declared.account.Account.{Account}
+use Rattle.beep_report.specs.beep_tally.specs.Accounts.{stage_at}
+use Rattle.beep_report.specs.beep_tally.specs.declared.account.Count.{Count}
+use Rattle.beep_report.specs.beep_tally.specs.declared.account.Flow.{Flow}
+use Rattle.beep_report.specs.beep_tally.specs.declared.account.Stage.{Stage}
+use Rattle.beep_report.specs.beep_tally.specs.declared.account.Account.{Account}
 use Rattle.beep_pair.specs.Ends.{other_end}
 
 -- ---- counts
@@ -55,11 +55,11 @@ AreInOrder low (account ∷ accounts) =
 -- ---- the totals
 
 -- the account of a life counts what was given and taken in it; of a life that has none nothing was
-abbrev pub IsTold : Two → ℕ → ℕ → Option Account → Type 0
-IsTold two number count None =
+abbrev pub IsAccountOf : Two → ℕ → ℕ → Option Account → Type 0
+IsAccountOf two number count None =
     (two.a.gave number count ≡ []) × (two.b.took number count ≡ [])
     × (two.b.gave number count ≡ []) × (two.a.took number count ≡ [])
-IsTold two number count (Some account) = (account.life ≡ modulo_2_64 count)
+IsAccountOf two number count (Some account) = (account.life ≡ modulo_2_64 count)
     × (account.from_a ≡ flow_of (two.a.gave number count) (two.b.took number count))
     × (account.from_b ≡ flow_of (two.b.gave number count) (two.a.took number count))
 
@@ -67,7 +67,7 @@ IsTold two number count (Some account) = (account.life ≡ modulo_2_64 count)
 pub record AreTotals (two : Two) (accounts : List Account) : Type 0 where
   pub order : AreInOrder 1 accounts
   pub each : (number place : ℕ) → 0 < number
-      → IsTold two number (place + 1) (account_at number place accounts)
+      → IsAccountOf two number (place + 1) (account_at number place accounts)
 
 -- ---- the lives, as an end has them
 

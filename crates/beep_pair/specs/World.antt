@@ -4,8 +4,8 @@
 -- taken.
 use Rattle.std.specs.Prelude.{◌≡◌, ℕ, List, ◌++◌}
 use Rattle.beep_schedule.specs.declared.event.End.{End}
-use Rattle.beep_tally.specs.declared.account.Account.{Account}
-use Rattle.beep_session.specs.Session.{Held}
+use Rattle.beep_report.specs.beep_tally.specs.declared.account.Account.{Account}
+use Rattle.beep_two_sessions.specs.beep_session.specs.Session.{Held}
 use Rattle.beep_two_sessions.specs.End.{End as OneEnd, goes}
 use Rattle.beep_two_sessions.specs.Acts.{Act as Deed, used_by, sent_by, Does}
 use Rattle.beep_two_sessions.specs.World.{World as Two, Move, a_does, b_does, IsReached, first_of}

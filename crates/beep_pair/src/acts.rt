@@ -1,18 +1,20 @@
 //! The acts of a schedule at one end (RFC 3080, sections 2.1 and 2.3.1).
 ghost use Rattle.std.specs.Prelude.{◌≡◌, ◌<◌, [], true, false, length, IfOk, OnOk};
-ghost use Rattle.beep_frame.specs.declared.kind.Kind.{Kind as KindValue};
-ghost use Rattle.beep_decide.specs.Numbers.{may_start};
-ghost use Rattle.beep_answering.specs.Sent.{is_uri};
-ghost use Rattle.beep_peer.specs.Peering.{zero_waits};
-ghost use Rattle.beep_session.specs.Lawfully.{KeepsUpright};
+ghost use Rattle.beep_two_sessions.specs.beep_frame.specs.declared.kind.Kind.{Kind as KindValue};
+ghost use Rattle.beep_two_sessions.specs.beep_decide.specs.Numbers.{may_start};
+ghost use Rattle.beep_two_sessions.specs.beep_answering.specs.Sent.{is_uri};
+ghost use Rattle.beep_two_sessions.specs.beep_peer.specs.Peering.{zero_waits};
+ghost use Rattle.beep_two_sessions.specs.beep_session.specs.Lawfully.{KeepsUpright};
 ghost use Rattle.beep_pair.specs.Acts.{Asks, Replies, Answers, Ends, ClosesChannel, Starts, Releases};
 
-use beep_channel::AskError;
-use beep_chars::Text;
-use beep_octets::NoMemory;
-use beep_outbox::GiveError;
 use beep_report::Answer;
-use beep_session::{CloseError, Duty, ReleaseError, Session, StartError, one_profile};
+use beep_two_sessions::beep_channel::AskError;
+use beep_two_sessions::beep_chars::Text;
+use beep_two_sessions::beep_octets::NoMemory;
+use beep_two_sessions::beep_outbox::GiveError;
+use beep_two_sessions::beep_session::{
+    CloseError, Duty, ReleaseError, Session, StartError, one_profile,
+};
 use std::alloc::Global;
 
 /// Starts a channel with the profile of this URI.
@@ -57,7 +59,7 @@ pub(crate) fn ask(session: &mut Session, n: u32, octets: &[u8]) -> Result<Answer
         return Ok(Answer::NoChannel);
     };
     match channel.ask(octets) {
-        Ok(position) => Ok(Answer::Told(position)),
+        Ok(position) => Ok(Answer::Numbered(position)),
         Err(AskError::NoMemory) => Err(NoMemory),
         Err(cause) => Ok(Answer::Ask(cause)),
     }
@@ -134,7 +136,7 @@ pub(crate) fn answer(session: &mut Session, n: u32, octets: &[u8]) -> Result<Ans
         Some(Duty::Begun(answering)) => answering,
     };
     match answering.answer(octets) {
-        Ok(number) => Ok(Answer::Told(u64::from(number))),
+        Ok(number) => Ok(Answer::Numbered(u64::from(number))),
         Err(GiveError::NoMemory) => Err(NoMemory),
         Err(cause) => Ok(Answer::Give(cause)),
     }

@@ -1,6 +1,6 @@
 //! The whole work of running a schedule, over values.
 ghost use Rattle.std.specs.Prelude.{◌≤◌, [], length, IfOk, OnOk};
-ghost use Rattle.beep_session.specs.Session.{AreLimits};
+ghost use Rattle.beep_two_sessions.specs.beep_session.specs.Session.{AreLimits};
 ghost use Rattle.beep_schedule.specs.declared.limits.TheConstants.{MAX_SCHEDULE};
 ghost use Rattle.beep_schedule.specs.Events.{AreEvents};
 ghost use Rattle.beep_pair.specs.Sessions.{AreReady};
@@ -9,10 +9,10 @@ ghost use Rattle.beep_pair.specs.Report.{Reported};
 ghost use Rattle.beep_pair.specs.Command.{Becomes, ReportsEvents, Summed, SumsEvents, Sums};
 
 use crate::pair::Pair;
-use beep_octets::{NoMemory, Octets};
 use beep_report::put_summary;
 use beep_schedule::{Schedule, ScheduleError, generated, read_schedule};
-use beep_session::Limits;
+use beep_two_sessions::beep_octets::{NoMemory, Octets};
+use beep_two_sessions::beep_session::Limits;
 use std::alloc::Global;
 
 /// What became of a schedule's text.
@@ -119,6 +119,3 @@ fn summed_on(
     )?;
     Ok(out)
 }
-
-#[cfg(test)]
-mod tests;

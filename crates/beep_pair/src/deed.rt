@@ -1,19 +1,19 @@
 //! The acts of an end, by their names.
 ghost use Rattle.std.specs.Prelude.{◌≡◌, ◌<◌, true, length, IfOk, OnOk};
 ghost use Rattle.beep_schedule.specs.declared.event.Act.{Act as ActValue};
-ghost use Rattle.beep_decide.specs.Numbers.{may_start};
-ghost use Rattle.beep_answering.specs.Sent.{is_uri};
-ghost use Rattle.beep_session.specs.Lawfully.{KeepsUpright};
+ghost use Rattle.beep_two_sessions.specs.beep_decide.specs.Numbers.{may_start};
+ghost use Rattle.beep_two_sessions.specs.beep_answering.specs.Sent.{is_uri};
+ghost use Rattle.beep_two_sessions.specs.beep_session.specs.Lawfully.{KeepsUpright};
 ghost use Rattle.beep_pair.specs.Acts.{pair_uri};
 ghost use Rattle.beep_pair.specs.Sessions.{IsReady, Acts, acted, is_given as was_given};
 
 use crate::acts::{answer, ask, close, done, refuse, release, reply, start};
-use beep_chars::Text;
-use beep_octets::NoMemory;
 use beep_report::Answer;
+use beep_report::beep_tally::Accounts;
 use beep_schedule::{Act, End};
-use beep_session::Session;
-use beep_tally::Accounts;
+use beep_two_sessions::beep_chars::Text;
+use beep_two_sessions::beep_octets::NoMemory;
+use beep_two_sessions::beep_session::Session;
 use std::alloc::Global;
 
 /// What an end does: its act, the channel, and the octets of its message.
@@ -113,7 +113,7 @@ pub(crate) fn is_given(act: Act, answer: &Answer) -> bool
     ensures { result ≡ was_given act answer.now }
 {
     match answer {
-        Answer::Told(_) => true,
+        Answer::Numbered(_) => true,
         Answer::Done => matches!(act, Act::Reply | Act::Refuse | Act::Done),
         Answer::NoChannel
         | Answer::NotOwed

@@ -6,10 +6,10 @@ ghost use Rattle.beep_pair.specs.Drains.{is_nothing as was_nothing};
 
 use crate::lives::live_numbers;
 use crate::pair::Pair;
-use beep_octets::{NoMemory, Octets};
 use beep_report::put_drain_line;
 use beep_schedule::{End, MAX_COUNT};
-use beep_speaking::Emit;
+use beep_two_sessions::beep_octets::{NoMemory, Octets};
+use beep_two_sessions::beep_speaking::Emit;
 
 impl Pair {
     ghost use Rattle.beep_pair.specs.Sessions.{AreReady};

@@ -1,13 +1,13 @@
 //! What an end does with the octets that come to it.
 ghost use Rattle.std.specs.Prelude.{◌≡◌, ◌<◌, ◌≤◌, true, length, IfOk, OnOk};
-ghost use Rattle.beep_peer.specs.Peering.{is_over, zero_waits};
+ghost use Rattle.beep_two_sessions.specs.beep_peer.specs.Peering.{is_over, zero_waits};
 ghost use Rattle.beep_pair.specs.Sessions.{IsReady, Settling, SettlesAt, HearsOnce, Gets, goes_on as may_go, is_short as was_short};
 
 use crate::lives::live_numbers;
-use beep_octets::NoMemory;
+use beep_report::beep_tally::{Accounts, note_lives};
 use beep_schedule::End;
-use beep_session::{Event, Session, SettleError};
-use beep_tally::{Accounts, note_lives};
+use beep_two_sessions::beep_octets::NoMemory;
+use beep_two_sessions::beep_session::{Event, Session, SettleError};
 use std::alloc::Global;
 
 /// What a feed used, and whether the next octets may be fed.

@@ -16,6 +16,10 @@ mod uri;
 mod wire;
 
 pub use beep_report::Answer;
-pub use beep_session::Limits;
+pub use beep_two_sessions::beep_session::Limits;
 pub use command::{Outcome, report, summary};
 pub use pair::Pair;
+
+// Crates below, which are named through this one.
+pub use beep_schedule;
+pub use beep_two_sessions::{beep_journal, beep_octets, beep_session};

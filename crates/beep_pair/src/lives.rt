@@ -1,9 +1,9 @@
 //! Which channels of a session live.
 ghost use Rattle.std.specs.Prelude.{◌≡◌, IfOk};
-ghost use Rattle.beep_peer.specs.Standing.{live_above};
+ghost use Rattle.beep_two_sessions.specs.beep_peer.specs.Standing.{live_above};
 
-use beep_octets::NoMemory;
-use beep_session::Session;
+use beep_two_sessions::beep_octets::NoMemory;
+use beep_two_sessions::beep_session::Session;
 use std::alloc::Global;
 
 /// The numbers of the live channels above zero, ascending.

@@ -2,7 +2,7 @@
 ghost use Rattle.std.specs.Prelude.{◌≡◌, OnOk};
 ghost use Rattle.beep_pair.specs.Sessions.{message_from, octet_from};
 
-use beep_octets::{NoMemory, Octets};
+use beep_two_sessions::beep_octets::{NoMemory, Octets};
 
 /// Makes the message of so many octets, the first of them `fill` and each other one more than the
 /// one before, modulo 256.

@@ -1,9 +1,9 @@
 //! Two sessions and the two wires between them.
 ghost use Rattle.std.specs.Prelude.{◌≡◌, ◌↔◌, ◌⊎◌, ◌<◌, ◌≤◌, ◌++◌, [], true, length, take, drop, IsTrue, IfSome, IfOk, OnOk};
-ghost use Rattle.beep_lives.specs.Lives.{live_at};
-ghost use Rattle.beep_peer.specs.Peering.{is_over};
-ghost use Rattle.beep_giving.specs.Looks.{inbox_of};
-ghost use Rattle.beep_session.specs.Session.{AreLimits};
+ghost use Rattle.beep_two_sessions.specs.beep_lives.specs.Lives.{live_at};
+ghost use Rattle.beep_two_sessions.specs.beep_peer.specs.Peering.{is_over};
+ghost use Rattle.beep_two_sessions.specs.beep_giving.specs.Looks.{inbox_of};
+ghost use Rattle.beep_two_sessions.specs.beep_session.specs.Session.{AreLimits};
 ghost use Rattle.beep_schedule.specs.declared.limits.TheConstants.{MAX_COUNT, MAX_FRAME};
 ghost use Rattle.beep_schedule.specs.Events.{is_event, is_act, AreEvents, is_from_to};
 ghost use Rattle.beep_pair.specs.Sessions.{IsReady, Gets};
@@ -16,18 +16,18 @@ use crate::speak::send;
 use crate::take::take_on;
 use crate::uri::pair_text;
 use crate::wire::Wire;
-use beep_answering::Offers;
-use beep_decide::Offer;
-use beep_inbox::Part;
-use beep_journal::Role;
-use beep_octets::{NoMemory, Octets};
+use beep_report::beep_tally::{Account, Accounts};
 use beep_report::{
     Answer, put_act_line, put_get_line, put_send_line, put_still, put_take_line, put_totals,
 };
 use beep_schedule::{Act, End, MAX_COUNT, PairEvent, Schedule};
-use beep_session::{Limits, Session};
-use beep_speaking::Emit;
-use beep_tally::{Account, Accounts};
+use beep_two_sessions::beep_answering::Offers;
+use beep_two_sessions::beep_decide::Offer;
+use beep_two_sessions::beep_inbox::Part;
+use beep_two_sessions::beep_journal::Role;
+use beep_two_sessions::beep_octets::{NoMemory, Octets};
+use beep_two_sessions::beep_session::{Limits, Session};
+use beep_two_sessions::beep_speaking::Emit;
 use std::alloc::Global;
 use std::marker::Model;
 
@@ -249,7 +249,7 @@ impl Pair {
     fn step(&mut self, event: PairEvent, line: &mut Octets) -> Result<(), NoMemory>
         requires ready { AreReady self.old }
         requires valid { IsTrue (is_event event) }
-        ensures told { OnOk result (Leads (Tells event line.old.octets line.new.octets) self.old
+        ensures appended { OnOk result (Leads (Tells event line.old.octets line.new.octets) self.old
             self.new) }
         ensures ready { OnOk result (AreReady self.new) }
     {

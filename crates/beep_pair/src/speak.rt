@@ -1,17 +1,17 @@
 //! What an end sends onto its wire.
 ghost use Rattle.std.specs.Prelude.{◌≡◌, ◌<◌, ◌≤◌, ◌++◌, false, IfOk, OnOk};
-ghost use Rattle.beep_settings.specs.declared.limits.TheConstants.{MAX_PIECE};
-ghost use Rattle.beep_peer.specs.Peering.{zero_waits};
+ghost use Rattle.beep_two_sessions.specs.beep_settings.specs.declared.limits.TheConstants.{MAX_PIECE};
+ghost use Rattle.beep_two_sessions.specs.beep_peer.specs.Peering.{zero_waits};
 ghost use Rattle.beep_pair.specs.Sessions.{IsReady, Sends, SendsOnto};
 
 use crate::lives::live_numbers;
 use crate::wire::Wire;
-use beep_frame::SPELL_ROOM;
-use beep_octets::{NoMemory, Octets};
+use beep_report::beep_tally::{Accounts, note_lives};
 use beep_schedule::End;
-use beep_session::{MAX_PIECE, Session};
-use beep_speaking::Emit;
-use beep_tally::{Accounts, note_lives};
+use beep_two_sessions::beep_frame::SPELL_ROOM;
+use beep_two_sessions::beep_octets::{NoMemory, Octets};
+use beep_two_sessions::beep_session::{MAX_PIECE, Session};
+use beep_two_sessions::beep_speaking::Emit;
 use std::alloc::Global;
 
 /// What goes out next, of at most `max` octets of payload.

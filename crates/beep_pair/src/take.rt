@@ -1,13 +1,13 @@
 //! What an end takes of what arrived.
 ghost use Rattle.std.specs.Prelude.{◌≡◌, ◌<◌, false, length};
-ghost use Rattle.beep_octets.specs.Numbers.{numbers_32};
-ghost use Rattle.beep_peer.specs.Peering.{zero_waits};
+ghost use Rattle.beep_two_sessions.specs.beep_octets.specs.Numbers.{numbers_32};
+ghost use Rattle.beep_two_sessions.specs.beep_peer.specs.Peering.{zero_waits};
 ghost use Rattle.beep_pair.specs.Sessions.{IsReady, TakesPart, counted_take};
 
-use beep_inbox::Part;
+use beep_report::beep_tally::Accounts;
 use beep_schedule::End;
-use beep_session::Session;
-use beep_tally::Accounts;
+use beep_two_sessions::beep_inbox::Part;
+use beep_two_sessions::beep_session::Session;
 
 /// Takes the first octets of the first untaken message of a channel, as many as `buf` holds.
 pub(crate) fn take_part(session: &mut Session, n: u32, buf: &mut [u8]) -> Option<Part>

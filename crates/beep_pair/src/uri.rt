@@ -1,10 +1,10 @@
 //! The profile that both ends offer.
 ghost use Rattle.std.specs.Prelude.{◌≡◌, true, IfOk};
-ghost use Rattle.beep_answering.specs.Sent.{is_uri};
+ghost use Rattle.beep_two_sessions.specs.beep_answering.specs.Sent.{is_uri};
 ghost use Rattle.beep_pair.specs.Acts.{pair_uri};
 
-use beep_chars::Text;
-use beep_octets::NoMemory;
+use beep_two_sessions::beep_chars::Text;
+use beep_two_sessions::beep_octets::NoMemory;
 use std::alloc::Global;
 
 const URI: &str = "http://beep.example/pair";

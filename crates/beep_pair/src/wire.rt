@@ -1,7 +1,7 @@
 //! The octets that one end sent and the other has not used.
 ghost use Rattle.std.specs.Prelude.{◌≡◌, ◌≤◌, ◌++◌, ◌==◌, [], length, take, drop, OnOk};
 
-use beep_octets::{NoMemory, Octets};
+use beep_two_sessions::beep_octets::{NoMemory, Octets};
 use std::alloc::Global;
 use std::marker::Model;
 

@@ -5,37 +5,37 @@ use Rattle.std.proofs.Math.Logic.{∥∥₁_elim}
 use denote.Struct.Props.{props}
 use Rattle.std.specs.Option.{option_map_or, option_to_list}
 use Rattle.std.proofs.lemmas.Option.{slice_get-get_or}
-use Rattle.beep_frame.specs.declared.head.Head.{Head}
-use Rattle.beep_frame.specs.declared.kind.Kind.{Kind}
-use Rattle.beep_frame.specs.Frame.{is_msg, is_ans, same_kind}
-use Rattle.beep_mgmt.specs.Form.{Form}
-use Rattle.beep_mgmt.specs.Message.{message_said}
-use Rattle.beep_history.specs.declared.journal.Side.{Side}
-use Rattle.beep_history.specs.Journal.{Item, passed}
-use Rattle.beep_journal.specs.Zero.{zero_history, zero_events, events, gathered, has_form, completes_form}
-use Rattle.beep_journal.specs.Life.{is_released}
-use Rattle.beep_channel.specs.Held.{Live}
-use Rattle.beep_turns.specs.declared.turns.TheConstants.{MAX_CHANNELS}
-use Rattle.beep_lives.specs.Lives.{numbers}
-use Rattle.beep_standing.specs.Standing.{Marks, AreLiveBy}
-use Rattle.beep_standing.specs.Moving.{MovesNone}
-use Rattle.beep_standing.proofs.LivesLemmas.{lives-stay}
-use Rattle.beep_decide.specs.Asks.{is_close_of}
+use Rattle.beep_upright.specs.beep_frame.specs.declared.head.Head.{Head}
+use Rattle.beep_upright.specs.beep_frame.specs.declared.kind.Kind.{Kind}
+use Rattle.beep_upright.specs.beep_frame.specs.Frame.{is_msg, is_ans, same_kind}
+use Rattle.beep_upright.specs.beep_mgmt.specs.Form.{Form}
+use Rattle.beep_upright.specs.beep_mgmt.specs.Message.{message_said}
+use Rattle.beep_upright.specs.beep_history.specs.declared.journal.Side.{Side}
+use Rattle.beep_upright.specs.beep_history.specs.Journal.{Item, passed}
+use Rattle.beep_upright.specs.beep_journal.specs.Zero.{zero_history, zero_events, events, gathered, has_form, completes_form}
+use Rattle.beep_upright.specs.beep_journal.specs.Life.{is_released}
+use Rattle.beep_upright.specs.beep_channel.specs.Held.{Live}
+use Rattle.beep_upright.specs.beep_turns.specs.declared.turns.TheConstants.{MAX_CHANNELS}
+use Rattle.beep_upright.specs.beep_lives.specs.Lives.{numbers}
+use Rattle.beep_upright.specs.beep_standing.specs.Standing.{Marks, AreLiveBy}
+use Rattle.beep_upright.specs.beep_standing.specs.Moving.{MovesNone}
+use Rattle.beep_upright.specs.beep_standing.proofs.LivesLemmas.{lives-stay}
+use Rattle.beep_upright.specs.beep_decide.specs.Asks.{is_close_of}
 use Rattle.beep_hearing.specs.Hears.{Passes, KeepsZeroRoom}
-use Rattle.beep_asked.specs.Kept.{Kept, oldest, others, fits, grants}
-use Rattle.beep_asked.specs.Asked.{AreWaiting, EndsReply}
-use Rattle.beep_asked.specs.Granting.{IsGranted}
-use Rattle.beep_asked.proofs.LawsLemmas.{reply-waits, reply-form, refusal-moves, refusal-releases, grant-moves, grant-releases}
-use Rattle.beep_management.specs.Managed.{Managed, number_started}
-use Rattle.beep_management.specs.Manages.{IsManaged, AreFresh}
-use Rattle.beep_management.specs.Moved.{Does, is_live_in, marks_after}
-use Rattle.beep_management.specs.Steps.{answers_after, TakesMine}
-use Rattle.beep_management.proofs.ClearLemmas.{granted-same}
-use Rattle.beep_management.proofs.ItemLemmas.{given-above}
-use Rattle.beep_management.proofs.LivesLemmas.{says-live, grant-done}
-use Rattle.beep_management.proofs.ReceivedLemmas.{oldest-starts, start-has-one, reply-refused, reply-granted}
-use Rattle.beep_management.proofs.SameLemmas.{room-same, waits-same}
-use Rattle.beep_management.proofs.SentLemmas.{has-zero}
+use Rattle.beep_upright.specs.beep_asked.specs.Kept.{Kept, oldest, others, fits, grants}
+use Rattle.beep_upright.specs.beep_asked.specs.Asked.{AreWaiting, EndsReply}
+use Rattle.beep_upright.specs.beep_asked.specs.Granting.{IsGranted}
+use Rattle.beep_upright.specs.beep_asked.proofs.LawsLemmas.{reply-waits, reply-form, refusal-moves, refusal-releases, grant-moves, grant-releases}
+use Rattle.beep_upright.specs.beep_management.specs.Managed.{Managed, number_started}
+use Rattle.beep_upright.specs.beep_management.specs.Manages.{IsManaged, AreFresh}
+use Rattle.beep_upright.specs.beep_management.specs.Moved.{Does, is_live_in, marks_after}
+use Rattle.beep_upright.specs.beep_management.specs.Steps.{answers_after, TakesMine}
+use Rattle.beep_upright.specs.beep_management.proofs.ClearLemmas.{granted-same}
+use Rattle.beep_upright.specs.beep_management.proofs.ItemLemmas.{given-above}
+use Rattle.beep_upright.specs.beep_management.proofs.LivesLemmas.{says-live, grant-done}
+use Rattle.beep_upright.specs.beep_management.proofs.ReceivedLemmas.{oldest-starts, start-has-one, reply-refused, reply-granted}
+use Rattle.beep_upright.specs.beep_management.proofs.SameLemmas.{room-same, waits-same}
+use Rattle.beep_upright.specs.beep_management.proofs.SentLemmas.{has-zero}
 use Rattle.beep_peer.specs.declared.peer.Peer.{Peer}
 use Rattle.beep_peer.specs.Peering.{AreFew, WaitsIn}
 use Rattle.beep_peer.specs.Calls.{IsDone}

@@ -3,26 +3,26 @@ use Rattle.std.proofs.Common.{◌≡◌, ℕ, ◌+◌, ◌≤◌, ◌==◌, Bool
 use Rattle.std.specs.Option.{option_to_list}
 use Rattle.std.proofs.lemmas.Bool.Decides.{nat_tests}
 use Rattle.std.proofs.lemmas.List.{append_cancel_left}
-use Rattle.beep_frame.specs.declared.kind.Kind.{Kind}
-use Rattle.beep_frame.specs.Frame.{is_msg}
-use Rattle.beep_mgmt.specs.Form.{Form, greeting, start, chosen, close, okay, fault}
-use Rattle.beep_history.specs.declared.journal.Side.{Side}
-use Rattle.beep_history.specs.Journal.{Item}
-use Rattle.beep_history.specs.Marks.{marks, requests}
-use Rattle.beep_journal.specs.Lives.{is_live}
-use Rattle.beep_journal.specs.Zero.{zero_history, events}
-use Rattle.beep_journal.specs.Life.{is_there}
-use Rattle.beep_outbox.specs.Queue.{message_marks}
-use Rattle.beep_channel.specs.Held.{Live}
-use Rattle.beep_channel.specs.Stands.{ends_of}
-use Rattle.beep_lives.specs.Lives.{live_at}
-use Rattle.beep_lawful.specs.declared.terms.Terms.{Terms}
-use Rattle.beep_standing.specs.Standing.{Marks, with_marks}
-use Rattle.beep_spoken.specs.Spoken.{kinds_of}
-use Rattle.beep_asked.specs.Kept.{Kept}
-use Rattle.beep_management.specs.Managed.{Managed, number_started}
-use Rattle.beep_management.specs.Manages.{AreFresh}
-use Rattle.beep_management.proofs.LivesLemmas.{says-live}
+use Rattle.beep_upright.specs.beep_frame.specs.declared.kind.Kind.{Kind}
+use Rattle.beep_upright.specs.beep_frame.specs.Frame.{is_msg}
+use Rattle.beep_upright.specs.beep_mgmt.specs.Form.{Form, greeting, start, chosen, close, okay, fault}
+use Rattle.beep_upright.specs.beep_history.specs.declared.journal.Side.{Side}
+use Rattle.beep_upright.specs.beep_history.specs.Journal.{Item}
+use Rattle.beep_upright.specs.beep_history.specs.Marks.{marks, requests}
+use Rattle.beep_upright.specs.beep_journal.specs.Lives.{is_live}
+use Rattle.beep_upright.specs.beep_journal.specs.Zero.{zero_history, events}
+use Rattle.beep_upright.specs.beep_journal.specs.Life.{is_there}
+use Rattle.beep_upright.specs.beep_outbox.specs.Queue.{message_marks}
+use Rattle.beep_upright.specs.beep_channel.specs.Held.{Live}
+use Rattle.beep_upright.specs.beep_channel.specs.Stands.{ends_of}
+use Rattle.beep_upright.specs.beep_lives.specs.Lives.{live_at}
+use Rattle.beep_upright.specs.beep_lawful.specs.declared.terms.Terms.{Terms}
+use Rattle.beep_upright.specs.beep_standing.specs.Standing.{Marks, with_marks}
+use Rattle.beep_upright.specs.beep_spoken.specs.Spoken.{kinds_of}
+use Rattle.beep_upright.specs.beep_asked.specs.Kept.{Kept}
+use Rattle.beep_upright.specs.beep_management.specs.Managed.{Managed, number_started}
+use Rattle.beep_upright.specs.beep_management.specs.Manages.{AreFresh}
+use Rattle.beep_upright.specs.beep_management.proofs.LivesLemmas.{says-live}
 use Rattle.beep_upright.specs.Turns.{kinds_at, reply_kinds}
 use Rattle.beep_upright.specs.Upright.{asked_at, asked_in, all_asked, AreReady, IsUpright}
 use Rattle.beep_upright.proofs.MoreLemmas.{request_kinds}

@@ -5,27 +5,27 @@ use Rattle.std.proofs.lemmas.Bool.Decides.{nat_tests}
 use Rattle.std.proofs.lemmas.List.{length-map}
 use Rattle.std.proofs.Math.Logic.{∥∥₁_elim}
 use denote.Struct.Props.{props}
-use Rattle.beep_frame.specs.declared.kind.Kind.{Kind}
-use Rattle.beep_history.specs.Journal.{Item}
-use Rattle.beep_history.specs.declared.limits.TheConstants.{MAX_REQUESTS}
-use Rattle.beep_mgmt.specs.Form.{Form}
-use Rattle.beep_mgmt.specs.Message.{message_text}
-use Rattle.beep_outbox.specs.declared.outbox.TheConstants.{MAX_UNLIMITED}
-use Rattle.beep_outbox.specs.Queue.{message_marks}
-use Rattle.beep_channel.specs.Held.{Held, Live, next_ask, ask_refusal}
-use Rattle.beep_turns.specs.declared.turns.TheConstants.{MAX_CHANNELS}
-use Rattle.beep_lives.specs.Lives.{live_at, numbers}
-use Rattle.beep_lives.specs.Edits.{Edits, Gives, KeepsHeld, UsesRoom}
-use Rattle.beep_lives.proofs.ListLemmas.{live-number}
-use Rattle.beep_standing.specs.Standing.{Marks, with_marks, AreLiveBy}
-use Rattle.beep_standing.proofs.SendLemmas.{given-joins, room-stays}
+use Rattle.beep_upright.specs.beep_frame.specs.declared.kind.Kind.{Kind}
+use Rattle.beep_upright.specs.beep_history.specs.Journal.{Item}
+use Rattle.beep_upright.specs.beep_history.specs.declared.limits.TheConstants.{MAX_REQUESTS}
+use Rattle.beep_upright.specs.beep_mgmt.specs.Form.{Form}
+use Rattle.beep_upright.specs.beep_mgmt.specs.Message.{message_text}
+use Rattle.beep_upright.specs.beep_outbox.specs.declared.outbox.TheConstants.{MAX_UNLIMITED}
+use Rattle.beep_upright.specs.beep_outbox.specs.Queue.{message_marks}
+use Rattle.beep_upright.specs.beep_channel.specs.Held.{Held, Live, next_ask, ask_refusal}
+use Rattle.beep_upright.specs.beep_turns.specs.declared.turns.TheConstants.{MAX_CHANNELS}
+use Rattle.beep_upright.specs.beep_lives.specs.Lives.{live_at, numbers}
+use Rattle.beep_upright.specs.beep_lives.specs.Edits.{Edits, Gives, KeepsHeld, UsesRoom}
+use Rattle.beep_upright.specs.beep_lives.proofs.ListLemmas.{live-number}
+use Rattle.beep_upright.specs.beep_standing.specs.Standing.{Marks, with_marks, AreLiveBy}
+use Rattle.beep_upright.specs.beep_standing.proofs.SendLemmas.{given-joins, room-stays}
 use Rattle.beep_hearing.specs.Hears.{HasZeroRoom}
 use Rattle.beep_hearing.proofs.RoomLemmas.{room-edit}
-use Rattle.beep_management.specs.Managed.{Managed, octets_prepared, number_started}
-use Rattle.beep_management.specs.Manages.{Manages, AreFresh}
-use Rattle.beep_management.specs.Steps.{KeepsQueue}
-use Rattle.beep_management.proofs.GivenLemmas.{request-given}
-use Rattle.beep_management.proofs.SameLemmas.{room-same}
+use Rattle.beep_upright.specs.beep_management.specs.Managed.{Managed, octets_prepared, number_started}
+use Rattle.beep_upright.specs.beep_management.specs.Manages.{Manages, AreFresh}
+use Rattle.beep_upright.specs.beep_management.specs.Steps.{KeepsQueue}
+use Rattle.beep_upright.specs.beep_management.proofs.GivenLemmas.{request-given}
+use Rattle.beep_upright.specs.beep_management.proofs.SameLemmas.{room-same}
 use Rattle.beep_peer.specs.declared.peer.Peer.{Peer}
 use Rattle.beep_peer.specs.Peering.{Holds, AreHeld}
 use Rattle.beep_answering.specs.Sent.{IsMessage}

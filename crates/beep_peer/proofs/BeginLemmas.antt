@@ -1,15 +1,15 @@
 -- A new peer is upright: its greeting is the first that goes.
 use Rattle.std.proofs.Common.{◌≡◌, ℕ, List, [], ◌∷◌, ◌++◌, append-nil, refl, sym, ap, ◌∙◌, subst}
-use Rattle.beep_frame.specs.declared.kind.Kind.{Kind}
-use Rattle.beep_history.specs.declared.journal.Side.{Side}
-use Rattle.beep_history.specs.Marks.{marks}
-use Rattle.beep_journal.specs.Zero.{zero_history}
-use Rattle.beep_outbox.specs.Queue.{message_marks}
-use Rattle.beep_lawful.specs.declared.terms.Terms.{Terms}
-use Rattle.beep_standing.specs.Standing.{no_marks}
-use Rattle.beep_spoken.specs.Spoken.{kinds_of}
-use Rattle.beep_asked.specs.Kept.{implied_request}
-use Rattle.beep_management.specs.Managed.{Managed}
+use Rattle.beep_upright.specs.beep_frame.specs.declared.kind.Kind.{Kind}
+use Rattle.beep_upright.specs.beep_history.specs.declared.journal.Side.{Side}
+use Rattle.beep_upright.specs.beep_history.specs.Marks.{marks}
+use Rattle.beep_upright.specs.beep_journal.specs.Zero.{zero_history}
+use Rattle.beep_upright.specs.beep_outbox.specs.Queue.{message_marks}
+use Rattle.beep_upright.specs.beep_lawful.specs.declared.terms.Terms.{Terms}
+use Rattle.beep_upright.specs.beep_standing.specs.Standing.{no_marks}
+use Rattle.beep_upright.specs.beep_spoken.specs.Spoken.{kinds_of}
+use Rattle.beep_upright.specs.beep_asked.specs.Kept.{implied_request}
+use Rattle.beep_upright.specs.beep_management.specs.Managed.{Managed}
 use Rattle.beep_upright.specs.Turns.{kinds_at}
 use Rattle.beep_upright.specs.Upright.{asked_at, AreReady, IsUpright}
 use Rattle.beep_upright.proofs.NewLemmas.{new-ready}

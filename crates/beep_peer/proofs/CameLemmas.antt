@@ -4,32 +4,32 @@ use Rattle.std.specs.Option.{option_to_list}
 use Rattle.std.specs.Prelude.{IsSome}
 use Rattle.std.proofs.Math.Logic.{∥∥₁_elim, ∥∥₁_map}
 use denote.Struct.Props.{props}
-use Rattle.beep_frame.specs.declared.head.Head.{Head}
-use Rattle.beep_frame.specs.Frame.{is_msg}
-use Rattle.beep_mgmt.specs.Form.{Form}
-use Rattle.beep_mgmt.specs.Message.{message_said}
-use Rattle.beep_history.specs.declared.journal.Side.{Side}
-use Rattle.beep_history.specs.Journal.{Item, passed}
-use Rattle.beep_journal.specs.Zero.{zero_history, zero_events, events}
-use Rattle.beep_journal.specs.Life.{is_released}
-use Rattle.beep_channel.specs.Held.{Live}
-use Rattle.beep_turns.specs.declared.turns.TheConstants.{MAX_CHANNELS}
-use Rattle.beep_lives.specs.Lives.{live_at, numbers, runs_of}
-use Rattle.beep_lives.specs.Edits.{Edits, KeepsHeld}
-use Rattle.beep_standing.specs.Standing.{Marks, AreLiveBy}
-use Rattle.beep_standing.specs.Moving.{MovesNone}
-use Rattle.beep_standing.proofs.LivesLemmas.{lives-stay}
-use Rattle.beep_standing.proofs.SendLemmas.{room-stays}
+use Rattle.beep_upright.specs.beep_frame.specs.declared.head.Head.{Head}
+use Rattle.beep_upright.specs.beep_frame.specs.Frame.{is_msg}
+use Rattle.beep_upright.specs.beep_mgmt.specs.Form.{Form}
+use Rattle.beep_upright.specs.beep_mgmt.specs.Message.{message_said}
+use Rattle.beep_upright.specs.beep_history.specs.declared.journal.Side.{Side}
+use Rattle.beep_upright.specs.beep_history.specs.Journal.{Item, passed}
+use Rattle.beep_upright.specs.beep_journal.specs.Zero.{zero_history, zero_events, events}
+use Rattle.beep_upright.specs.beep_journal.specs.Life.{is_released}
+use Rattle.beep_upright.specs.beep_channel.specs.Held.{Live}
+use Rattle.beep_upright.specs.beep_turns.specs.declared.turns.TheConstants.{MAX_CHANNELS}
+use Rattle.beep_upright.specs.beep_lives.specs.Lives.{live_at, numbers, runs_of}
+use Rattle.beep_upright.specs.beep_lives.specs.Edits.{Edits, KeepsHeld}
+use Rattle.beep_upright.specs.beep_standing.specs.Standing.{Marks, AreLiveBy}
+use Rattle.beep_upright.specs.beep_standing.specs.Moving.{MovesNone}
+use Rattle.beep_upright.specs.beep_standing.proofs.LivesLemmas.{lives-stay}
+use Rattle.beep_upright.specs.beep_standing.proofs.SendLemmas.{room-stays}
 use Rattle.beep_hearing.specs.Hears.{Passes, KeepsZeroRoom}
 use Rattle.beep_hearing.proofs.RoomLemmas.{room-edit}
-use Rattle.beep_asked.specs.Kept.{Kept, new_kept}
-use Rattle.beep_asked.proofs.LawsLemmas.{request-moves, request-releases}
-use Rattle.beep_management.specs.Managed.{Prepared, Managed}
-use Rattle.beep_management.specs.Manages.{Manages}
-use Rattle.beep_management.specs.Moved.{is_live_in}
-use Rattle.beep_management.specs.Steps.{KeepsQueue}
-use Rattle.beep_management.proofs.SameLemmas.{room-same}
-use Rattle.beep_management.proofs.ReceivedLemmas.{request-came}
+use Rattle.beep_upright.specs.beep_asked.specs.Kept.{Kept, new_kept}
+use Rattle.beep_upright.specs.beep_asked.proofs.LawsLemmas.{request-moves, request-releases}
+use Rattle.beep_upright.specs.beep_management.specs.Managed.{Prepared, Managed}
+use Rattle.beep_upright.specs.beep_management.specs.Manages.{Manages}
+use Rattle.beep_upright.specs.beep_management.specs.Moved.{is_live_in}
+use Rattle.beep_upright.specs.beep_management.specs.Steps.{KeepsQueue}
+use Rattle.beep_upright.specs.beep_management.proofs.SameLemmas.{room-same}
+use Rattle.beep_upright.specs.beep_management.proofs.ReceivedLemmas.{request-came}
 use Rattle.beep_peer.specs.declared.peer.Peer.{Peer}
 use Rattle.beep_answering.specs.Decided.{IsAnswer}
 use Rattle.beep_peer.specs.Peering.{AreFew, HasRoomFor, WaitsIn, IsWaiting}

@@ -1,18 +1,18 @@
 -- What was given and taken in each life, once a message of channel zero is done.
 use Rattle.std.proofs.Common.{◌≡◌, ℕ, ◌==◌, nat_lt, Bool, true, false, not, ◌&&◌, if◌then◌else◌, List, [], ◌∷◌, map, Option, Some, None, is_some, refl, sym, ap, ◌∙◌, append-nil, eqb-true}
-use Rattle.beep_frame.specs.declared.head.Head.{Head}
-use Rattle.beep_mgmt.specs.Form.{Form, greeting, start, chosen, close, okay, fault}
-use Rattle.beep_history.specs.declared.journal.Side.{Side}
-use Rattle.beep_history.specs.Journal.{Item, began, passed}
-use Rattle.beep_history.specs.Marks.{marks, mark_modulo_2_64}
-use Rattle.beep_journal.specs.Zero.{zero_history}
-use Rattle.beep_journal.specs.Life.{is_there}
-use Rattle.beep_journal.proofs.MomentLemmas.{above-zero}
-use Rattle.beep_channel.specs.Held.{Live}
-use Rattle.beep_lives.specs.Lives.{live_at}
-use Rattle.beep_standing.specs.Standing.{Marks, with_marks}
+use Rattle.beep_upright.specs.beep_frame.specs.declared.head.Head.{Head}
+use Rattle.beep_upright.specs.beep_mgmt.specs.Form.{Form, greeting, start, chosen, close, okay, fault}
+use Rattle.beep_upright.specs.beep_history.specs.declared.journal.Side.{Side}
+use Rattle.beep_upright.specs.beep_history.specs.Journal.{Item, began, passed}
+use Rattle.beep_upright.specs.beep_history.specs.Marks.{marks, mark_modulo_2_64}
+use Rattle.beep_upright.specs.beep_journal.specs.Zero.{zero_history}
+use Rattle.beep_upright.specs.beep_journal.specs.Life.{is_there}
+use Rattle.beep_upright.specs.beep_journal.proofs.MomentLemmas.{above-zero}
+use Rattle.beep_upright.specs.beep_channel.specs.Held.{Live}
+use Rattle.beep_upright.specs.beep_lives.specs.Lives.{live_at}
+use Rattle.beep_upright.specs.beep_standing.specs.Standing.{Marks, with_marks}
 use Rattle.beep_hearing.specs.Hears.{IsZeroTaken}
-use Rattle.beep_management.specs.Moved.{is_live_in, JoinsWhere, LeavesWhere, Does, marks_after}
+use Rattle.beep_upright.specs.beep_management.specs.Moved.{is_live_in, JoinsWhere, LeavesWhere, Does, marks_after}
 use Rattle.beep_peer.specs.Peering.{Carries}
 
 -- ---- lives

@@ -2,9 +2,9 @@
 use Rattle.std.proofs.Common.{◌≡◌, ℕ, ◌+◌, ◌<◌, ◌≤◌, ◌==◌, nat_lt, Bool, true, false, if◌then◌else◌, List, [], ◌∷◌, length, Option, None, Some, refl, sym, ap, ◌∙◌, arith, subst}
 use Rattle.std.proofs.lemmas.Bool.{eqb-true, eq-eqb, ltb-true, ltb-false}
 use Rattle.std.specs.Prelude.{is_some}
-use Rattle.beep_channel.specs.Held.{Live}
-use Rattle.beep_lives.specs.Lives.{live_at, IsAscendingFrom}
-use Rattle.beep_lives.proofs.ListLemmas.{below-none}
+use Rattle.beep_upright.specs.beep_channel.specs.Held.{Live}
+use Rattle.beep_upright.specs.beep_lives.specs.Lives.{live_at, IsAscendingFrom}
+use Rattle.beep_upright.specs.beep_lives.proofs.ListLemmas.{below-none}
 
 own-live : (c : Live) (cs : List Live) → is_some (live_at c.held.number (c ∷ cs)) ≡ true
 own-live c cs = rw (eq-eqb c.held.number c.held.number refl) refl

@@ -3,17 +3,17 @@ use Rattle.std.proofs.Common.{◌≡◌, ℕ, ◌==◌, ◌||◌, Bool, true, fa
 use Rattle.std.proofs.Math.Bool.{or_comm}
 use Rattle.std.proofs.lemmas.Bool.Decides.{nat_tests}
 use Rattle.std.proofs.lemmas.List.{length-map}
-use Rattle.beep_frame.specs.declared.head.Head.{Head}
-use Rattle.beep_history.specs.declared.journal.Side.{Side}
-use Rattle.beep_history.specs.Journal.{Item, passed}
-use Rattle.beep_journal.specs.Lives.{is_live}
-use Rattle.beep_journal.specs.Zero.{events}
-use Rattle.beep_journal.specs.Life.{is_there, is_released}
-use Rattle.beep_channel.specs.Held.{Live}
-use Rattle.beep_lives.specs.Lives.{numbers}
-use Rattle.beep_standing.specs.Standing.{Marks}
+use Rattle.beep_upright.specs.beep_frame.specs.declared.head.Head.{Head}
+use Rattle.beep_upright.specs.beep_history.specs.declared.journal.Side.{Side}
+use Rattle.beep_upright.specs.beep_history.specs.Journal.{Item, passed}
+use Rattle.beep_upright.specs.beep_journal.specs.Lives.{is_live}
+use Rattle.beep_upright.specs.beep_journal.specs.Zero.{events}
+use Rattle.beep_upright.specs.beep_journal.specs.Life.{is_there, is_released}
+use Rattle.beep_upright.specs.beep_channel.specs.Held.{Live}
+use Rattle.beep_upright.specs.beep_lives.specs.Lives.{numbers}
+use Rattle.beep_upright.specs.beep_standing.specs.Standing.{Marks}
 use Rattle.beep_hearing.specs.Hears.{Hears, SameAbove}
-use Rattle.beep_management.specs.Managed.{Prepared, Managed}
+use Rattle.beep_upright.specs.beep_management.specs.Managed.{Prepared, Managed}
 use Rattle.beep_peer.specs.declared.peer.Peer.{Peer}
 use Rattle.beep_peer.specs.Peering.{WaitsIn, Carries}
 use Rattle.beep_peer.specs.Calls.{AreLeft, LetsGo, IsDone, Settles}

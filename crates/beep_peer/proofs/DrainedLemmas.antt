@@ -2,12 +2,12 @@
 use Rattle.std.proofs.Common.{◌≡◌, ℕ, suc, zero, ◌+◌, ◌<◌, ◌≤◌, ◌==◌, Bool, true, false, if◌then◌else◌, List, [], ◌∷◌, ◌++◌, length, None, Some, refl, sym, ap, ◌∙◌, arith, eqb-true, append_assoc}
 use Rattle.std.specs.Prelude.{slice_get}
 use Rattle.std.proofs.lemmas.Bool.Decides.{nat_tests}
-use Rattle.beep_channel.specs.Held.{Live}
-use Rattle.beep_lives.specs.Lives.{live_at, numbers}
-use Rattle.beep_lives.specs.Edits.{Edits}
-use Rattle.beep_asked.specs.Kept.{asks_otherwise}
-use Rattle.beep_management.specs.declared.wait.Wait.{Wait}
-use Rattle.beep_management.specs.Managed.{Prepared, Managed}
+use Rattle.beep_upright.specs.beep_channel.specs.Held.{Live}
+use Rattle.beep_upright.specs.beep_lives.specs.Lives.{live_at, numbers}
+use Rattle.beep_upright.specs.beep_lives.specs.Edits.{Edits}
+use Rattle.beep_upright.specs.beep_asked.specs.Kept.{asks_otherwise}
+use Rattle.beep_upright.specs.beep_management.specs.declared.wait.Wait.{Wait}
+use Rattle.beep_upright.specs.beep_management.specs.Managed.{Prepared, Managed}
 use Rattle.beep_peer.specs.Waiting.{IsDrainedAt, HasCome, AllHaveCome, AreLetGo, KeepsAbove}
 
 -- ---- by place

@@ -6,29 +6,29 @@ use Rattle.std.proofs.lemmas.List.{length-map}
 use Rattle.std.proofs.Math.Logic.{∥∥₁_elim}
 use denote.Struct.Props.{props}
 use Rattle.std.specs.Option.{option_to_list}
-use Rattle.beep_frame.specs.declared.head.Head.{Head}
-use Rattle.beep_frame.specs.declared.seq.Seq.{Seq}
-use Rattle.beep_frame.specs.declared.tag.Tag.{Tag}
-use Rattle.beep_mgmt.specs.Form.{Form, greeting, start, chosen, close, okay, fault}
-use Rattle.beep_history.specs.declared.journal.Side.{Side}
-use Rattle.beep_history.specs.Journal.{Item, began}
-use Rattle.beep_history.specs.Marks.{Mark, octet, end, marks, tag_of, frame_marks, mark_modulo_2_64}
-use Rattle.beep_seq.specs.Receiving.{Receiver, full_of}
-use Rattle.beep_journal.specs.Zero.{zero_history}
-use Rattle.beep_journal.specs.Life.{history}
-use Rattle.beep_outbox.specs.Queue.{Message, message_marks, marks_of}
-use Rattle.beep_channel.specs.Held.{Held, Live, is_held_ready, queue_ready, next_reply, next_head, next_size, head_from, is_seq_due_of, told_held}
-use Rattle.beep_channel.specs.Fits.{as_number}
-use Rattle.beep_channel.specs.Stands.{Stands, SameIn}
-use Rattle.beep_lives.specs.Lives.{live_at, owes_seq, IsAscendingFrom}
-use Rattle.beep_lives.specs.Edits.{Edits, Sends, Tells, Gives}
-use Rattle.beep_standing.specs.Standing.{Marks, AreLiveBy}
-use Rattle.beep_asked.specs.Kept.{Kept}
-use Rattle.beep_management.specs.Managed.{Prepared, Managed, number_started, without}
-use Rattle.beep_management.specs.Manages.{IsFresh}
-use Rattle.beep_management.specs.Moved.{is_live_in, JoinsWhere, Does}
-use Rattle.beep_management.specs.Steps.{cleared_by, TakesTheirs, PassesAct}
-use Rattle.beep_speaking.specs.Emits.{IsReached}
+use Rattle.beep_upright.specs.beep_frame.specs.declared.head.Head.{Head}
+use Rattle.beep_upright.specs.beep_frame.specs.declared.seq.Seq.{Seq}
+use Rattle.beep_upright.specs.beep_frame.specs.declared.tag.Tag.{Tag}
+use Rattle.beep_upright.specs.beep_mgmt.specs.Form.{Form, greeting, start, chosen, close, okay, fault}
+use Rattle.beep_upright.specs.beep_history.specs.declared.journal.Side.{Side}
+use Rattle.beep_upright.specs.beep_history.specs.Journal.{Item, began}
+use Rattle.beep_upright.specs.beep_history.specs.Marks.{Mark, octet, end, marks, tag_of, frame_marks, mark_modulo_2_64}
+use Rattle.beep_upright.specs.beep_seq.specs.Receiving.{Receiver, full_of}
+use Rattle.beep_upright.specs.beep_journal.specs.Zero.{zero_history}
+use Rattle.beep_upright.specs.beep_journal.specs.Life.{history}
+use Rattle.beep_upright.specs.beep_outbox.specs.Queue.{Message, message_marks, marks_of}
+use Rattle.beep_upright.specs.beep_channel.specs.Held.{Held, Live, is_held_ready, queue_ready, next_reply, next_head, next_size, head_from, is_seq_due_of, told_held}
+use Rattle.beep_upright.specs.beep_channel.specs.Fits.{as_number}
+use Rattle.beep_upright.specs.beep_channel.specs.Stands.{Stands, SameIn}
+use Rattle.beep_upright.specs.beep_lives.specs.Lives.{live_at, owes_seq, IsAscendingFrom}
+use Rattle.beep_upright.specs.beep_lives.specs.Edits.{Edits, Sends, Tells, Gives}
+use Rattle.beep_upright.specs.beep_standing.specs.Standing.{Marks, AreLiveBy}
+use Rattle.beep_upright.specs.beep_asked.specs.Kept.{Kept}
+use Rattle.beep_upright.specs.beep_management.specs.Managed.{Prepared, Managed, number_started, without}
+use Rattle.beep_upright.specs.beep_management.specs.Manages.{IsFresh}
+use Rattle.beep_upright.specs.beep_management.specs.Moved.{is_live_in, JoinsWhere, Does}
+use Rattle.beep_upright.specs.beep_management.specs.Steps.{cleared_by, TakesTheirs, PassesAct}
+use Rattle.beep_upright.specs.beep_speaking.specs.Emits.{IsReached}
 use Rattle.beep_peer.specs.Peering.{Holds, AreHeld}
 use Rattle.beep_peer.specs.Left.{channel_left, channels_left, answers_left, left_to_say}
 use Rattle.beep_peer.proofs.LeftLemmas.{left-edit, left-joins, left-leaves}

@@ -1,12 +1,12 @@
 -- How many channels live, once one has joined or left.
 use Rattle.std.proofs.Common.{◌≡◌, ℕ, ◌+◌, ◌≤◌, ◌==◌, nat_lt, Bool, true, false, not, ◌&&◌, if◌then◌else◌, List, [], ◌∷◌, length, Option, Some, None, is_some, refl, sym, ap, ◌∙◌, arith, eqb-true}
-use Rattle.beep_mgmt.specs.Form.{Form, greeting, start, chosen, close, okay, fault}
-use Rattle.beep_journal.proofs.MomentLemmas.{same-number, apart-less}
-use Rattle.beep_channel.specs.Held.{Live}
-use Rattle.beep_lives.specs.Lives.{live_at, IsAscendingFrom}
-use Rattle.beep_lives.specs.Edits.{Joins, Leaves}
-use Rattle.beep_management.specs.Managed.{number_started}
-use Rattle.beep_management.specs.Moved.{is_live_in, JoinsWhere, LeavesWhere, Does}
+use Rattle.beep_upright.specs.beep_mgmt.specs.Form.{Form, greeting, start, chosen, close, okay, fault}
+use Rattle.beep_upright.specs.beep_journal.proofs.MomentLemmas.{same-number, apart-less}
+use Rattle.beep_upright.specs.beep_channel.specs.Held.{Live}
+use Rattle.beep_upright.specs.beep_lives.specs.Lives.{live_at, IsAscendingFrom}
+use Rattle.beep_upright.specs.beep_lives.specs.Edits.{Joins, Leaves}
+use Rattle.beep_upright.specs.beep_management.specs.Managed.{number_started}
+use Rattle.beep_upright.specs.beep_management.specs.Moved.{is_live_in, JoinsWhere, LeavesWhere, Does}
 
 -- ---- ascending lists
 

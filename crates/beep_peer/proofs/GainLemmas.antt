@@ -1,18 +1,18 @@
 -- What is kept of channel zero, over items of which none ends a message of it.
 use Rattle.std.proofs.Common.{◌≡◌, ℕ, ◌+◌, ◌≤◌, ◌==◌, Bool, true, false, ◌||◌, List, [], ◌∷◌, ◌++◌, length, refl, sym, ap, ◌∙◌, subst}
 use Rattle.std.specs.List.{list_any}
-use Rattle.beep_history.specs.Journal.{Item, began, passed, told}
-use Rattle.beep_journal.specs.Zero.{zero_history, zero_events, events, channel_of}
-use Rattle.beep_journal.specs.Lives.{Event, is_live, has_release}
-use Rattle.beep_journal.specs.Life.{is_released}
-use Rattle.beep_channel.specs.Held.{Live}
-use Rattle.beep_turns.specs.declared.turns.TheConstants.{MAX_CHANNELS}
-use Rattle.beep_standing.specs.Standing.{Marks, AreLiveBy}
+use Rattle.beep_upright.specs.beep_history.specs.Journal.{Item, began, passed, told}
+use Rattle.beep_upright.specs.beep_journal.specs.Zero.{zero_history, zero_events, events, channel_of}
+use Rattle.beep_upright.specs.beep_journal.specs.Lives.{Event, is_live, has_release}
+use Rattle.beep_upright.specs.beep_journal.specs.Life.{is_released}
+use Rattle.beep_upright.specs.beep_channel.specs.Held.{Live}
+use Rattle.beep_upright.specs.beep_turns.specs.declared.turns.TheConstants.{MAX_CHANNELS}
+use Rattle.beep_upright.specs.beep_standing.specs.Standing.{Marks, AreLiveBy}
 use Rattle.beep_hearing.specs.Hears.{ends_zero}
-use Rattle.beep_asked.proofs.LawsLemmas.{part-events}
-use Rattle.beep_management.specs.Managed.{Managed}
-use Rattle.beep_management.specs.Manages.{Manages}
-use Rattle.beep_management.proofs.ItemLemmas.{header-stays, seq-stays, above-stays, part-stays}
+use Rattle.beep_upright.specs.beep_asked.proofs.LawsLemmas.{part-events}
+use Rattle.beep_upright.specs.beep_management.specs.Managed.{Managed}
+use Rattle.beep_upright.specs.beep_management.specs.Manages.{Manages}
+use Rattle.beep_upright.specs.beep_management.proofs.ItemLemmas.{header-stays, seq-stays, above-stays, part-stays}
 use Rattle.beep_peer.specs.Peering.{AreFew}
 use Rattle.beep_peer.proofs.CountLemmas.{same-count}
 

@@ -1,26 +1,26 @@
 -- A frame that goes out leaves what is left to say ready to go.
 use Rattle.std.proofs.Common.{◌≡◌, ℕ, ◌≤◌, ◌==◌, Bool, true, false, not, ◌&&◌, if◌then◌else◌, List, [], ◌∷◌, ◌++◌, map, Some, refl, sym, ap, ◌∙◌, subst, arith}
-use Rattle.beep_frame.specs.declared.head.Head.{Head}
-use Rattle.beep_frame.specs.declared.kind.Kind.{Kind}
-use Rattle.beep_frame.specs.declared.tag.Tag.{Tag}
-use Rattle.beep_history.specs.declared.journal.Side.{Side}
-use Rattle.beep_history.specs.Journal.{Item, began, passed}
-use Rattle.beep_history.specs.Marks.{Mark, octet, end, frame_marks, tag_of, mark_modulo_2_64}
-use Rattle.beep_history.specs.Broken.{KeepsExchangeRules}
-use Rattle.beep_journal.specs.Zero.{zero_history}
-use Rattle.beep_journal.specs.Life.{history, life, life_now}
-use Rattle.beep_outbox.specs.Queue.{Message, marks_of}
-use Rattle.beep_channel.specs.Held.{Held, Live, is_held_ready, queue_ready, next_head, next_size, head_from}
-use Rattle.beep_channel.specs.Fits.{as_number}
-use Rattle.beep_channel.specs.Stands.{Stands, IsNext}
-use Rattle.beep_lives.specs.Lives.{live_at}
-use Rattle.beep_lives.specs.Edits.{Edits, Sends}
-use Rattle.beep_standing.specs.Standing.{Marks, AreLiveBy}
-use Rattle.beep_standing.proofs.DueLemmas.{sent-there, sent-next}
-use Rattle.beep_spoken.specs.Spoken.{kinds_of}
-use Rattle.beep_lawful.specs.declared.terms.Terms.{Terms}
-use Rattle.beep_management.specs.Managed.{Managed}
-use Rattle.beep_management.specs.Manages.{Manages}
+use Rattle.beep_upright.specs.beep_frame.specs.declared.head.Head.{Head}
+use Rattle.beep_upright.specs.beep_frame.specs.declared.kind.Kind.{Kind}
+use Rattle.beep_upright.specs.beep_frame.specs.declared.tag.Tag.{Tag}
+use Rattle.beep_upright.specs.beep_history.specs.declared.journal.Side.{Side}
+use Rattle.beep_upright.specs.beep_history.specs.Journal.{Item, began, passed}
+use Rattle.beep_upright.specs.beep_history.specs.Marks.{Mark, octet, end, frame_marks, tag_of, mark_modulo_2_64}
+use Rattle.beep_upright.specs.beep_history.specs.Broken.{KeepsExchangeRules}
+use Rattle.beep_upright.specs.beep_journal.specs.Zero.{zero_history}
+use Rattle.beep_upright.specs.beep_journal.specs.Life.{history, life, life_now}
+use Rattle.beep_upright.specs.beep_outbox.specs.Queue.{Message, marks_of}
+use Rattle.beep_upright.specs.beep_channel.specs.Held.{Held, Live, is_held_ready, queue_ready, next_head, next_size, head_from}
+use Rattle.beep_upright.specs.beep_channel.specs.Fits.{as_number}
+use Rattle.beep_upright.specs.beep_channel.specs.Stands.{Stands, IsNext}
+use Rattle.beep_upright.specs.beep_lives.specs.Lives.{live_at}
+use Rattle.beep_upright.specs.beep_lives.specs.Edits.{Edits, Sends}
+use Rattle.beep_upright.specs.beep_standing.specs.Standing.{Marks, AreLiveBy}
+use Rattle.beep_upright.specs.beep_standing.proofs.DueLemmas.{sent-there, sent-next}
+use Rattle.beep_upright.specs.beep_spoken.specs.Spoken.{kinds_of}
+use Rattle.beep_upright.specs.beep_lawful.specs.declared.terms.Terms.{Terms}
+use Rattle.beep_upright.specs.beep_management.specs.Managed.{Managed}
+use Rattle.beep_upright.specs.beep_management.specs.Manages.{Manages}
 use Rattle.beep_upright.specs.Turns.{kinds_in, kinds_at}
 use Rattle.beep_upright.specs.Upright.{asked_in, asked_at, AreReady, IsUpright}
 use Rattle.beep_upright.proofs.TestLemmas.{equal-number}

@@ -6,34 +6,34 @@ use denote.Struct.Props.{props}
 use Rattle.std.proofs.lemmas.Bool.Decides.{nat_tests}
 use Rattle.std.proofs.lemmas.List.{take-append-drop, drop_all}
 use Rattle.std.specs.Option.{option_to_list}
-use Rattle.beep_frame.specs.declared.head.Head.{Head}
-use Rattle.beep_frame.specs.declared.kind.Kind.{Kind}
-use Rattle.beep_frame.specs.Frame.{is_msg, same_kind}
-use Rattle.beep_mgmt.specs.Form.{Form, greeting, start, chosen, close, okay, fault}
-use Rattle.beep_history.specs.declared.journal.Side.{Side}
-use Rattle.beep_history.specs.Journal.{Item, began, passed}
-use Rattle.beep_journal.specs.Lives.{Event}
-use Rattle.beep_journal.specs.Zero.{events}
-use Rattle.beep_journal.specs.Life.{is_released}
-use Rattle.beep_channel.specs.Held.{Live}
-use Rattle.beep_decide.specs.Asks.{is_close_of}
-use Rattle.beep_turns.specs.declared.turns.TheConstants.{MAX_CHANNELS}
-use Rattle.beep_standing.specs.Standing.{Marks, AreLiveBy}
-use Rattle.beep_standing.specs.Moving.{EndsWhere}
-use Rattle.beep_standing.proofs.LivesLemmas.{lives-stay}
-use Rattle.beep_asked.specs.Kept.{Kept, oldest, others}
-use Rattle.beep_asked.specs.Asked.{SaysLive}
-use Rattle.beep_asked.specs.Granting.{IsGrantedAs, IsGranted}
-use Rattle.beep_management.specs.Managed.{Managed, number_started}
-use Rattle.beep_management.specs.Manages.{IsManaged, AreFresh}
-use Rattle.beep_management.specs.Moved.{Does, is_live_in, marks_after}
-use Rattle.beep_management.specs.Steps.{answers_after, PassesAct, TakesTheirs}
-use Rattle.beep_management.proofs.ClearLemmas.{granted-same}
-use Rattle.beep_management.proofs.ItemLemmas.{given-above}
-use Rattle.beep_management.proofs.ListLemmas.{drop-at}
-use Rattle.beep_management.proofs.LivesLemmas.{says-live, grant-done}
-use Rattle.beep_management.proofs.SameLemmas.{room-same, waits-same}
-use Rattle.beep_management.proofs.SentLemmas.{has-zero, rpy-replies, some-acts, request-waits, request-still, reply-some, grant-has-one, answer-refuses, refused-still, answer-grants, first-fresh, grant-still}
+use Rattle.beep_upright.specs.beep_frame.specs.declared.head.Head.{Head}
+use Rattle.beep_upright.specs.beep_frame.specs.declared.kind.Kind.{Kind}
+use Rattle.beep_upright.specs.beep_frame.specs.Frame.{is_msg, same_kind}
+use Rattle.beep_upright.specs.beep_mgmt.specs.Form.{Form, greeting, start, chosen, close, okay, fault}
+use Rattle.beep_upright.specs.beep_history.specs.declared.journal.Side.{Side}
+use Rattle.beep_upright.specs.beep_history.specs.Journal.{Item, began, passed}
+use Rattle.beep_upright.specs.beep_journal.specs.Lives.{Event}
+use Rattle.beep_upright.specs.beep_journal.specs.Zero.{events}
+use Rattle.beep_upright.specs.beep_journal.specs.Life.{is_released}
+use Rattle.beep_upright.specs.beep_channel.specs.Held.{Live}
+use Rattle.beep_upright.specs.beep_decide.specs.Asks.{is_close_of}
+use Rattle.beep_upright.specs.beep_turns.specs.declared.turns.TheConstants.{MAX_CHANNELS}
+use Rattle.beep_upright.specs.beep_standing.specs.Standing.{Marks, AreLiveBy}
+use Rattle.beep_upright.specs.beep_standing.specs.Moving.{EndsWhere}
+use Rattle.beep_upright.specs.beep_standing.proofs.LivesLemmas.{lives-stay}
+use Rattle.beep_upright.specs.beep_asked.specs.Kept.{Kept, oldest, others}
+use Rattle.beep_upright.specs.beep_asked.specs.Asked.{SaysLive}
+use Rattle.beep_upright.specs.beep_asked.specs.Granting.{IsGrantedAs, IsGranted}
+use Rattle.beep_upright.specs.beep_management.specs.Managed.{Managed, number_started}
+use Rattle.beep_upright.specs.beep_management.specs.Manages.{IsManaged, AreFresh}
+use Rattle.beep_upright.specs.beep_management.specs.Moved.{Does, is_live_in, marks_after}
+use Rattle.beep_upright.specs.beep_management.specs.Steps.{answers_after, PassesAct, TakesTheirs}
+use Rattle.beep_upright.specs.beep_management.proofs.ClearLemmas.{granted-same}
+use Rattle.beep_upright.specs.beep_management.proofs.ItemLemmas.{given-above}
+use Rattle.beep_upright.specs.beep_management.proofs.ListLemmas.{drop-at}
+use Rattle.beep_upright.specs.beep_management.proofs.LivesLemmas.{says-live, grant-done}
+use Rattle.beep_upright.specs.beep_management.proofs.SameLemmas.{room-same, waits-same}
+use Rattle.beep_upright.specs.beep_management.proofs.SentLemmas.{has-zero, rpy-replies, some-acts, request-waits, request-still, reply-some, grant-has-one, answer-refuses, refused-still, answer-grants, first-fresh, grant-still}
 use Rattle.beep_peer.specs.Peering.{AreFew}
 use Rattle.beep_peer.specs.Calls.{HasGone, IsDone}
 use Rattle.beep_peer.specs.Grants.{NamesAbove}

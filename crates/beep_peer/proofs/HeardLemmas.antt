@@ -3,30 +3,30 @@ use Rattle.std.proofs.Common.{◌≡◌, ℕ, ◌+◌, ◌<◌, ◌==◌, nat_lt
 use Rattle.std.specs.List.{list_any}
 use Rattle.std.specs.Option.{option_to_list}
 use Rattle.std.proofs.lemmas.Bool.Decides.{nat_tests}
-use Rattle.beep_frame.specs.declared.head.Head.{Head}
-use Rattle.beep_frame.specs.declared.kind.Kind.{Kind}
-use Rattle.beep_frame.specs.Frame.{same_kind}
-use Rattle.beep_mgmt.specs.Form.{Form, PlainProfile, greeting, start, chosen, close, okay, fault}
-use Rattle.beep_history.specs.declared.journal.Side.{Side}
-use Rattle.beep_history.specs.Journal.{Item, passed}
-use Rattle.beep_journal.specs.Lives.{is_live}
-use Rattle.beep_journal.specs.Zero.{events}
-use Rattle.beep_channel.specs.Held.{Live}
-use Rattle.beep_lives.specs.Lives.{live_at, numbers, IsAscendingFrom}
-use Rattle.beep_lives.proofs.ListLemmas.{live-any}
-use Rattle.beep_decide.specs.Decide.{PlainStanding, Decision, refuse, choose, tune, grant_close, is_among, decide}
-use Rattle.beep_decide.specs.Numbers.{other_role, may_start}
-use Rattle.beep_lawful.specs.declared.terms.Terms.{Terms}
-use Rattle.beep_standing.specs.Standing.{Marks, AreLiveBy}
+use Rattle.beep_upright.specs.beep_frame.specs.declared.head.Head.{Head}
+use Rattle.beep_upright.specs.beep_frame.specs.declared.kind.Kind.{Kind}
+use Rattle.beep_upright.specs.beep_frame.specs.Frame.{same_kind}
+use Rattle.beep_upright.specs.beep_mgmt.specs.Form.{Form, PlainProfile, greeting, start, chosen, close, okay, fault}
+use Rattle.beep_upright.specs.beep_history.specs.declared.journal.Side.{Side}
+use Rattle.beep_upright.specs.beep_history.specs.Journal.{Item, passed}
+use Rattle.beep_upright.specs.beep_journal.specs.Lives.{is_live}
+use Rattle.beep_upright.specs.beep_journal.specs.Zero.{events}
+use Rattle.beep_upright.specs.beep_channel.specs.Held.{Live}
+use Rattle.beep_upright.specs.beep_lives.specs.Lives.{live_at, numbers, IsAscendingFrom}
+use Rattle.beep_upright.specs.beep_lives.proofs.ListLemmas.{live-any}
+use Rattle.beep_upright.specs.beep_decide.specs.Decide.{PlainStanding, Decision, refuse, choose, tune, grant_close, is_among, decide}
+use Rattle.beep_upright.specs.beep_decide.specs.Numbers.{other_role, may_start}
+use Rattle.beep_upright.specs.beep_lawful.specs.declared.terms.Terms.{Terms}
+use Rattle.beep_upright.specs.beep_standing.specs.Standing.{Marks, AreLiveBy}
 use Rattle.beep_hearing.specs.Hears.{Passes, KeepsZeroRoom}
-use Rattle.beep_asked.specs.Kept.{Kept, new_kept, names_one}
+use Rattle.beep_upright.specs.beep_asked.specs.Kept.{Kept, new_kept, names_one}
 use Rattle.beep_answering.specs.declared.settled.Settled.{Settled}
 use Rattle.beep_answering.specs.Decided.{SettledBy, kind_of}
-use Rattle.beep_management.specs.declared.wait.Wait.{Wait}
-use Rattle.beep_management.specs.Managed.{Managed, numbers_of, number_started, numbers_granted}
-use Rattle.beep_management.specs.Manages.{AreFresh, IsFresh}
-use Rattle.beep_management.specs.Moved.{is_live_in}
-use Rattle.beep_management.proofs.LivesLemmas.{says-live}
+use Rattle.beep_upright.specs.beep_management.specs.declared.wait.Wait.{Wait}
+use Rattle.beep_upright.specs.beep_management.specs.Managed.{Managed, numbers_of, number_started, numbers_granted}
+use Rattle.beep_upright.specs.beep_management.specs.Manages.{AreFresh, IsFresh}
+use Rattle.beep_upright.specs.beep_management.specs.Moved.{is_live_in}
+use Rattle.beep_upright.specs.beep_management.proofs.LivesLemmas.{says-live}
 use Rattle.beep_upright.specs.Turns.{kinds_at}
 use Rattle.beep_upright.specs.Upright.{asked_at, MayBegin, wait_of, IsHeldBack, IsUpright}
 use Rattle.beep_upright.proofs.TestLemmas.{or-one, or-two}

@@ -1,26 +1,26 @@
 -- What is unsent in channel zero, and how much is asked above it, by what was given and taken.
 use Rattle.std.proofs.Common.{◌≡◌, ℕ, ◌+◌, ◌≤◌, ◌==◌, Bool, true, false, if◌then◌else◌, List, [], ◌∷◌, ◌++◌, map, Option, Some, None, refl, sym, ap, ◌∙◌, subst, arith}
 use Rattle.std.specs.Prelude.{is_some}
-use Rattle.beep_frame.specs.declared.kind.Kind.{Kind}
-use Rattle.beep_frame.specs.declared.tag.Tag.{Tag}
-use Rattle.beep_frame.specs.Frame.{is_msg}
-use Rattle.beep_history.specs.declared.journal.Side.{Side}
-use Rattle.beep_history.specs.Journal.{Item}
-use Rattle.beep_history.specs.Marks.{Mark, octet, end, marks, mark_modulo_2_64}
-use Rattle.beep_journal.specs.Zero.{zero_history}
-use Rattle.beep_journal.specs.Life.{is_there}
-use Rattle.beep_exchange.specs.Given.{ends_reply}
-use Rattle.beep_outbox.specs.Queue.{Message, marks_of}
-use Rattle.beep_channel.specs.Held.{Live}
-use Rattle.beep_channel.specs.Fits.{as_number}
-use Rattle.beep_channel.specs.Stands.{ends_of}
-use Rattle.beep_lives.specs.Lives.{live_at}
-use Rattle.beep_lives.specs.Edits.{Edits}
-use Rattle.beep_standing.specs.Standing.{Marks, AreLive}
-use Rattle.beep_lives.proofs.ListLemmas.{live-number}
-use Rattle.beep_spoken.specs.Spoken.{kinds_of}
-use Rattle.beep_lawful.specs.declared.terms.Terms.{Terms}
-use Rattle.beep_management.specs.Managed.{Managed}
+use Rattle.beep_upright.specs.beep_frame.specs.declared.kind.Kind.{Kind}
+use Rattle.beep_upright.specs.beep_frame.specs.declared.tag.Tag.{Tag}
+use Rattle.beep_upright.specs.beep_frame.specs.Frame.{is_msg}
+use Rattle.beep_upright.specs.beep_history.specs.declared.journal.Side.{Side}
+use Rattle.beep_upright.specs.beep_history.specs.Journal.{Item}
+use Rattle.beep_upright.specs.beep_history.specs.Marks.{Mark, octet, end, marks, mark_modulo_2_64}
+use Rattle.beep_upright.specs.beep_journal.specs.Zero.{zero_history}
+use Rattle.beep_upright.specs.beep_journal.specs.Life.{is_there}
+use Rattle.beep_upright.specs.beep_exchange.specs.Given.{ends_reply}
+use Rattle.beep_upright.specs.beep_outbox.specs.Queue.{Message, marks_of}
+use Rattle.beep_upright.specs.beep_channel.specs.Held.{Live}
+use Rattle.beep_upright.specs.beep_channel.specs.Fits.{as_number}
+use Rattle.beep_upright.specs.beep_channel.specs.Stands.{ends_of}
+use Rattle.beep_upright.specs.beep_lives.specs.Lives.{live_at}
+use Rattle.beep_upright.specs.beep_lives.specs.Edits.{Edits}
+use Rattle.beep_upright.specs.beep_standing.specs.Standing.{Marks, AreLive}
+use Rattle.beep_upright.specs.beep_lives.proofs.ListLemmas.{live-number}
+use Rattle.beep_upright.specs.beep_spoken.specs.Spoken.{kinds_of}
+use Rattle.beep_upright.specs.beep_lawful.specs.declared.terms.Terms.{Terms}
+use Rattle.beep_upright.specs.beep_management.specs.Managed.{Managed}
 use Rattle.beep_upright.specs.Turns.{kinds_in, kinds_at}
 use Rattle.beep_upright.specs.Upright.{asked_in, asked_at, AreReady, IsUpright}
 use Rattle.beep_upright.proofs.TestLemmas.{equal-number}

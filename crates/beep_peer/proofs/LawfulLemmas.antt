@@ -2,26 +2,26 @@
 use Rattle.std.proofs.Common.{◌≡◌, ℕ, suc, ◌+◌, ◌-◌, not, ◌<◌, ◌≤◌, ◌==◌, Bool, true, false, List, [], ◌∷◌, length, map, Option, refl, sym, ap, ◌∙◌, subst, arith}
 use Rattle.std.proofs.lemmas.Bool.Decides.{nat_tests}
 use Rattle.std.specs.Prelude.{slice_get}
-use Rattle.beep_frame.specs.declared.head.Head.{Head}
-use Rattle.beep_frame.specs.declared.seq.Seq.{Seq}
-use Rattle.beep_frame.specs.declared.limits.TheConstants.{MAX_PAYLOAD}
-use Rattle.beep_history.specs.declared.journal.Side.{Side}
-use Rattle.beep_history.specs.Journal.{Item, began, passed, told}
-use Rattle.beep_journal.specs.Zero.{zero_history, zero_events, asked}
-use Rattle.beep_journal.specs.Lives.{Event}
-use Rattle.beep_mgmt.specs.Form.{Form}
-use Rattle.beep_journal.specs.Broken.{none_tunes}
-use Rattle.beep_journal.specs.Life.{is_released}
-use Rattle.beep_channel.specs.Held.{Live}
-use Rattle.beep_lives.specs.Edits.{Tells}
-use Rattle.beep_standing.specs.Standing.{Marks}
-use Rattle.beep_decide.specs.Asks.{is_greeted as is_greeted_by}
-use Rattle.beep_lawful.specs.declared.terms.Terms.{Terms}
-use Rattle.beep_lawful.specs.Lawful.{IsLawful}
-use Rattle.beep_asked.specs.Kept.{Kept, oldest}
-use Rattle.beep_asked.specs.Asked.{AreAsked, AreWaiting}
-use Rattle.beep_speaking.specs.declared.emit.Emit.{Emit}
-use Rattle.beep_speaking.specs.Emits.{Emits, SendsNext}
+use Rattle.beep_upright.specs.beep_frame.specs.declared.head.Head.{Head}
+use Rattle.beep_upright.specs.beep_frame.specs.declared.seq.Seq.{Seq}
+use Rattle.beep_upright.specs.beep_frame.specs.declared.limits.TheConstants.{MAX_PAYLOAD}
+use Rattle.beep_upright.specs.beep_history.specs.declared.journal.Side.{Side}
+use Rattle.beep_upright.specs.beep_history.specs.Journal.{Item, began, passed, told}
+use Rattle.beep_upright.specs.beep_journal.specs.Zero.{zero_history, zero_events, asked}
+use Rattle.beep_upright.specs.beep_journal.specs.Lives.{Event}
+use Rattle.beep_upright.specs.beep_mgmt.specs.Form.{Form}
+use Rattle.beep_upright.specs.beep_journal.specs.Broken.{none_tunes}
+use Rattle.beep_upright.specs.beep_journal.specs.Life.{is_released}
+use Rattle.beep_upright.specs.beep_channel.specs.Held.{Live}
+use Rattle.beep_upright.specs.beep_lives.specs.Edits.{Tells}
+use Rattle.beep_upright.specs.beep_standing.specs.Standing.{Marks}
+use Rattle.beep_upright.specs.beep_decide.specs.Asks.{is_greeted as is_greeted_by}
+use Rattle.beep_upright.specs.beep_lawful.specs.declared.terms.Terms.{Terms}
+use Rattle.beep_upright.specs.beep_lawful.specs.Lawful.{IsLawful}
+use Rattle.beep_upright.specs.beep_asked.specs.Kept.{Kept, oldest}
+use Rattle.beep_upright.specs.beep_asked.specs.Asked.{AreAsked, AreWaiting}
+use Rattle.beep_upright.specs.beep_speaking.specs.declared.emit.Emit.{Emit}
+use Rattle.beep_upright.specs.beep_speaking.specs.Emits.{Emits, SendsNext}
 use Rattle.beep_upright.specs.Turns.{kinds_in}
 use Rattle.beep_upright.specs.Upright.{asked_in, IsUpright}
 use Rattle.beep_upright.proofs.TestLemmas.{is-less}

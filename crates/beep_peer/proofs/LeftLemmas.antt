@@ -1,10 +1,10 @@
 -- How much the live channels have still to say, once one of them makes a step, joins or leaves.
 use Rattle.std.proofs.Common.{◌≡◌, ℕ, ◌+◌, ◌<◌, ◌≤◌, ◌==◌, nat_lt, Bool, true, false, if◌then◌else◌, List, [], ◌∷◌, Option, None, Some, refl, sym, ap, ◌∙◌, arith, eqb-true, subst}
 use Rattle.std.proofs.lemmas.Bool.Decides.{nat_tests}
-use Rattle.beep_journal.proofs.MomentLemmas.{same-number}
-use Rattle.beep_channel.specs.Held.{Live}
-use Rattle.beep_lives.specs.Lives.{live_at, numbers, IsAscendingFrom}
-use Rattle.beep_lives.specs.Edits.{Edits, Joins, Leaves}
+use Rattle.beep_upright.specs.beep_journal.proofs.MomentLemmas.{same-number}
+use Rattle.beep_upright.specs.beep_channel.specs.Held.{Live}
+use Rattle.beep_upright.specs.beep_lives.specs.Lives.{live_at, numbers, IsAscendingFrom}
+use Rattle.beep_upright.specs.beep_lives.specs.Edits.{Edits, Joins, Leaves}
 use Rattle.beep_peer.specs.Left.{channel_left, channels_left}
 
 -- ---- all but those of a number

@@ -5,36 +5,36 @@ use Rattle.std.specs.List.{list_any}
 use Rattle.std.proofs.lemmas.Bool.Decides.{nat_tests}
 use Rattle.std.proofs.lemmas.List.{length-reverse, append_cancel_right, append_cancel_left}
 use Rattle.std.proofs.lemmas.List.Elements.{filter-append}
-use Rattle.beep_frame.specs.declared.kind.Kind.{Kind}
-use Rattle.beep_frame.specs.Frame.{is_msg, same_kind}
-use Rattle.beep_mgmt.specs.Form.{Form, greeting, start, chosen, close, okay, fault}
-use Rattle.beep_mgmt.specs.Message.{message_said}
-use Rattle.beep_text.specs.Said.{element_said}
-use Rattle.beep_history.specs.declared.journal.Side.{Side}
-use Rattle.beep_history.specs.Journal.{Item}
-use Rattle.beep_history.specs.Marks.{Request, requests, is_answered, marks}
-use Rattle.beep_history.proofs.ListsLemmas.{IsNumbered}
-use Rattle.beep_history.proofs.SoundLemmas.{requests-numbered}
-use Rattle.beep_journal.specs.Lives.{Event, close_came, start_granted, close_granted, lives, has_ended, is_live, life_named}
-use Rattle.beep_journal.proofs.LivesLemmas.{ended-before}
-use Rattle.beep_journal.proofs.MomentLemmas.{named-within}
-use Rattle.beep_journal.specs.Zero.{zero_history, asked, said_at, events}
-use Rattle.beep_journal.specs.Life.{is_there, history, life, life_now}
-use Rattle.beep_channel.specs.Held.{Live}
-use Rattle.beep_lives.specs.Lives.{live_at}
-use Rattle.beep_decide.specs.Asks.{is_close_of}
-use Rattle.beep_lawful.specs.Closing.{is_drained, are_drained, has_other_asking, is_ready, has_come, was_quiet_since}
-use Rattle.beep_lawful.specs.declared.terms.Terms.{Terms}
-use Rattle.beep_standing.specs.Standing.{Marks, AreLiveBy}
-use Rattle.beep_standing.proofs.DueLemmas.{channel-drained}
-use Rattle.beep_standing.proofs.ZeroLemmas.{none-of-zero}
-use Rattle.beep_spoken.specs.Spoken.{Spoken, kinds_of}
-use Rattle.beep_outbox.specs.Queue.{Message, marks_of}
-use Rattle.beep_asked.specs.Kept.{Kept, asks_otherwise}
-use Rattle.beep_asked.specs.Asked.{names_life, AreAsked, AreWaiting}
-use Rattle.beep_management.specs.declared.wait.Wait.{Wait}
-use Rattle.beep_management.specs.Managed.{Prepared, Managed}
-use Rattle.beep_management.specs.Manages.{IsManaged, ArePrepared}
+use Rattle.beep_upright.specs.beep_frame.specs.declared.kind.Kind.{Kind}
+use Rattle.beep_upright.specs.beep_frame.specs.Frame.{is_msg, same_kind}
+use Rattle.beep_upright.specs.beep_mgmt.specs.Form.{Form, greeting, start, chosen, close, okay, fault}
+use Rattle.beep_upright.specs.beep_mgmt.specs.Message.{message_said}
+use Rattle.beep_upright.specs.beep_text.specs.Said.{element_said}
+use Rattle.beep_upright.specs.beep_history.specs.declared.journal.Side.{Side}
+use Rattle.beep_upright.specs.beep_history.specs.Journal.{Item}
+use Rattle.beep_upright.specs.beep_history.specs.Marks.{Request, requests, is_answered, marks}
+use Rattle.beep_upright.specs.beep_history.proofs.ListsLemmas.{IsNumbered}
+use Rattle.beep_upright.specs.beep_history.proofs.SoundLemmas.{requests-numbered}
+use Rattle.beep_upright.specs.beep_journal.specs.Lives.{Event, close_came, start_granted, close_granted, lives, has_ended, is_live, life_named}
+use Rattle.beep_upright.specs.beep_journal.proofs.LivesLemmas.{ended-before}
+use Rattle.beep_upright.specs.beep_journal.proofs.MomentLemmas.{named-within}
+use Rattle.beep_upright.specs.beep_journal.specs.Zero.{zero_history, asked, said_at, events}
+use Rattle.beep_upright.specs.beep_journal.specs.Life.{is_there, history, life, life_now}
+use Rattle.beep_upright.specs.beep_channel.specs.Held.{Live}
+use Rattle.beep_upright.specs.beep_lives.specs.Lives.{live_at}
+use Rattle.beep_upright.specs.beep_decide.specs.Asks.{is_close_of}
+use Rattle.beep_upright.specs.beep_lawful.specs.Closing.{is_drained, are_drained, has_other_asking, is_ready, has_come, was_quiet_since}
+use Rattle.beep_upright.specs.beep_lawful.specs.declared.terms.Terms.{Terms}
+use Rattle.beep_upright.specs.beep_standing.specs.Standing.{Marks, AreLiveBy}
+use Rattle.beep_upright.specs.beep_standing.proofs.DueLemmas.{channel-drained}
+use Rattle.beep_upright.specs.beep_standing.proofs.ZeroLemmas.{none-of-zero}
+use Rattle.beep_upright.specs.beep_spoken.specs.Spoken.{Spoken, kinds_of}
+use Rattle.beep_upright.specs.beep_outbox.specs.Queue.{Message, marks_of}
+use Rattle.beep_upright.specs.beep_asked.specs.Kept.{Kept, asks_otherwise}
+use Rattle.beep_upright.specs.beep_asked.specs.Asked.{names_life, AreAsked, AreWaiting}
+use Rattle.beep_upright.specs.beep_management.specs.declared.wait.Wait.{Wait}
+use Rattle.beep_upright.specs.beep_management.specs.Managed.{Prepared, Managed}
+use Rattle.beep_upright.specs.beep_management.specs.Manages.{IsManaged, ArePrepared}
 use Rattle.beep_upright.specs.Turns.{kinds_at, reply_kinds}
 use Rattle.beep_upright.specs.Upright.{asked_at, asked_in, all_asked, said_before, WasQuiet, is_of_close, IsLetGo, wait_of, IsHeldBack, AreAnswered, place_of, AreReady, IsUpright}
 use Rattle.beep_upright.proofs.TestLemmas.{both-one, both-two, or-true, equal-number, not-true}

@@ -2,17 +2,17 @@
 use Rattle.std.proofs.Common.{◌≡◌, ℕ, ◌==◌, Bool, true, false, if◌then◌else◌, List, [], ◌∷◌, ◌++◌, Option, Some, None, inl, inr, ⊎_elim, refl, sym, ap, ◌∙◌, subst}
 use Rattle.std.proofs.lemmas.List.{append_cancel_right}
 use Rattle.std.proofs.lemmas.Bool.{eqb-false, ne_eqb}
-use Rattle.beep_frame.specs.declared.kind.Kind.{Kind}
-use Rattle.beep_mgmt.specs.Form.{Form, greeting, start, chosen, close, okay, fault}
-use Rattle.beep_history.specs.Journal.{Item}
-use Rattle.beep_channel.specs.Held.{Live}
-use Rattle.beep_lives.specs.Lives.{live_at, numbers}
-use Rattle.beep_standing.specs.Standing.{Marks}
-use Rattle.beep_asked.specs.Kept.{Kept, asks_otherwise}
-use Rattle.beep_management.specs.declared.wait.Wait.{Wait}
-use Rattle.beep_management.specs.Managed.{Prepared, Managed, without}
-use Rattle.beep_management.specs.Steps.{cleared_by, answers_if}
-use Rattle.beep_outbox.specs.Queue.{marks_of}
+use Rattle.beep_upright.specs.beep_frame.specs.declared.kind.Kind.{Kind}
+use Rattle.beep_upright.specs.beep_mgmt.specs.Form.{Form, greeting, start, chosen, close, okay, fault}
+use Rattle.beep_upright.specs.beep_history.specs.Journal.{Item}
+use Rattle.beep_upright.specs.beep_channel.specs.Held.{Live}
+use Rattle.beep_upright.specs.beep_lives.specs.Lives.{live_at, numbers}
+use Rattle.beep_upright.specs.beep_standing.specs.Standing.{Marks}
+use Rattle.beep_upright.specs.beep_asked.specs.Kept.{Kept, asks_otherwise}
+use Rattle.beep_upright.specs.beep_management.specs.declared.wait.Wait.{Wait}
+use Rattle.beep_upright.specs.beep_management.specs.Managed.{Prepared, Managed, without}
+use Rattle.beep_upright.specs.beep_management.specs.Steps.{cleared_by, answers_if}
+use Rattle.beep_upright.specs.beep_outbox.specs.Queue.{marks_of}
 use Rattle.beep_peer.specs.declared.peer.Peer.{Peer}
 use Rattle.beep_peer.specs.Calls.{AreLeft, GivesFirst, LetsGo, words_of}
 use Rattle.beep_peer.specs.Waiting.{IsDrainedAt, HasCome, AllHaveCome, AreLetGo, KeepsAbove}

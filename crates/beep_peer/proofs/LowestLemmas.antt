@@ -4,10 +4,10 @@ use Rattle.std.specs.Option.{option_map_or, option_to_list}
 use Rattle.std.proofs.Math.Nat.{min-eq_left}
 use Rattle.std.proofs.Math.Logic.{∥∥₁_elim}
 use denote.Struct.Props.{props}
-use Rattle.beep_channel.specs.Held.{Live}
-use Rattle.beep_lives.specs.Lives.{numbers, IsAscendingFrom}
-use Rattle.beep_management.specs.Managed.{Managed, lowest}
-use Rattle.beep_management.proofs.AnswerLemmas.{lowest-joins}
+use Rattle.beep_upright.specs.beep_channel.specs.Held.{Live}
+use Rattle.beep_upright.specs.beep_lives.specs.Lives.{numbers, IsAscendingFrom}
+use Rattle.beep_upright.specs.beep_management.specs.Managed.{Managed, lowest}
+use Rattle.beep_upright.specs.beep_management.proofs.AnswerLemmas.{lowest-joins}
 use Rattle.beep_peer.specs.Peering.{AreHeld}
 use Rattle.beep_peer.specs.Standing.{rest_of}
 

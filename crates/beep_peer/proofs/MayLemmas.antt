@@ -2,20 +2,20 @@
 use Rattle.std.proofs.Common.{◌≡◌, ℕ, ◌==◌, nat_lt, nat_le, arith, Bool, true, false, not, ◌||◌, if◌then◌else◌, List, [], ◌∷◌, Option, Some, None, is_some, refl, ap, ◌∙◌}
 use Rattle.std.specs.List.{list_any}
 use Rattle.std.proofs.lemmas.Bool.Decides.{nat_tests}
-use Rattle.beep_journal.specs.declared.role.Role.{Role}
-use Rattle.beep_exchange.specs.Given.{message_number}
-use Rattle.beep_channel.specs.Held.{Live}
-use Rattle.beep_lives.specs.Lives.{live_at}
-use Rattle.beep_decide.specs.Numbers.{may_start}
-use Rattle.beep_asked.specs.Kept.{is_leaving}
-use Rattle.beep_management.specs.Managed.{numbers_of, has_number}
+use Rattle.beep_upright.specs.beep_journal.specs.declared.role.Role.{Role}
+use Rattle.beep_upright.specs.beep_exchange.specs.Given.{message_number}
+use Rattle.beep_upright.specs.beep_channel.specs.Held.{Live}
+use Rattle.beep_upright.specs.beep_lives.specs.Lives.{live_at}
+use Rattle.beep_upright.specs.beep_decide.specs.Numbers.{may_start}
+use Rattle.beep_upright.specs.beep_asked.specs.Kept.{is_leaving}
+use Rattle.beep_upright.specs.beep_management.specs.Managed.{numbers_of, has_number}
 use Rattle.beep_upright.proofs.TestLemmas.{or-one, or-two}
 use Rattle.beep_peer.specs.declared.refusals.StartError.{StartError}
 use Rattle.beep_peer.specs.declared.refusals.CloseError.{CloseError}
 use Rattle.beep_peer.specs.declared.peer.Peer.{Peer}
 use Rattle.beep_peer.specs.Standing.{leaves}
-use Rattle.beep_history.specs.declared.limits.TheConstants.{MAX_REQUESTS}
-use Rattle.beep_turns.specs.declared.turns.TheConstants.{MAX_CHANNELS}
+use Rattle.beep_upright.specs.beep_history.specs.declared.limits.TheConstants.{MAX_REQUESTS}
+use Rattle.beep_upright.specs.beep_turns.specs.declared.turns.TheConstants.{MAX_CHANNELS}
 use Rattle.beep_peer.specs.Peering.{is_over, is_welcomed}
 use Rattle.beep_peer.specs.Acts.{asked_of, first_asked_of, first_of_causes, either_cause, numbered_cause, start_refusal, close_refusal, is_used, count_used}
 use Rattle.beep_peer.specs.Asking.{MayStart, MayClose}

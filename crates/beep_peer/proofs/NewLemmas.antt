@@ -3,24 +3,24 @@ use Rattle.std.proofs.Common.{◌≡◌, ℕ, ◌≤◌, ◌==◌, if◌then◌e
 use Rattle.std.specs.Prelude.{IfSome, IsSome}
 use Rattle.std.proofs.Math.Logic.{∥∥₁_elim, ∥∥₁_map}
 use denote.Struct.Props.{props}
-use Rattle.beep_frame.specs.declared.kind.Kind.{Kind}
-use Rattle.beep_history.specs.Journal.{Item}
-use Rattle.beep_journal.specs.Life.{is_released}
-use Rattle.beep_mgmt.specs.Message.{message_said}
-use Rattle.beep_text.specs.Said.{element_said}
-use Rattle.beep_outbox.specs.Queue.{Message, message_marks, marks_of}
-use Rattle.beep_channel.specs.Held.{Live}
-use Rattle.beep_decide.specs.Decide.{PlainOffer}
-use Rattle.beep_lives.specs.Lives.{live_at}
-use Rattle.beep_lives.specs.Edits.{AreNew, Edits, KeepsHeld}
-use Rattle.beep_standing.specs.Standing.{AreLive, Marks, AreLiveBy, no_marks}
-use Rattle.beep_standing.proofs.NewLemmas.{new-session}
-use Rattle.beep_standing.proofs.SendLemmas.{room-stays}
-use Rattle.beep_asked.specs.Kept.{implied_request}
+use Rattle.beep_upright.specs.beep_frame.specs.declared.kind.Kind.{Kind}
+use Rattle.beep_upright.specs.beep_history.specs.Journal.{Item}
+use Rattle.beep_upright.specs.beep_journal.specs.Life.{is_released}
+use Rattle.beep_upright.specs.beep_mgmt.specs.Message.{message_said}
+use Rattle.beep_upright.specs.beep_text.specs.Said.{element_said}
+use Rattle.beep_upright.specs.beep_outbox.specs.Queue.{Message, message_marks, marks_of}
+use Rattle.beep_upright.specs.beep_channel.specs.Held.{Live}
+use Rattle.beep_upright.specs.beep_decide.specs.Decide.{PlainOffer}
+use Rattle.beep_upright.specs.beep_lives.specs.Lives.{live_at}
+use Rattle.beep_upright.specs.beep_lives.specs.Edits.{AreNew, Edits, KeepsHeld}
+use Rattle.beep_upright.specs.beep_standing.specs.Standing.{AreLive, Marks, AreLiveBy, no_marks}
+use Rattle.beep_upright.specs.beep_standing.proofs.NewLemmas.{new-session}
+use Rattle.beep_upright.specs.beep_standing.proofs.SendLemmas.{room-stays}
+use Rattle.beep_upright.specs.beep_asked.specs.Kept.{implied_request}
 use Rattle.beep_hearing.specs.Hears.{Hears}
-use Rattle.beep_management.specs.declared.wait.Wait.{Wait}
-use Rattle.beep_management.specs.Managed.{Managed, Prepared, first_of, octets_prepared}
-use Rattle.beep_management.proofs.ItemLemmas.{new-managed}
+use Rattle.beep_upright.specs.beep_management.specs.declared.wait.Wait.{Wait}
+use Rattle.beep_upright.specs.beep_management.specs.Managed.{Managed, Prepared, first_of, octets_prepared}
+use Rattle.beep_upright.specs.beep_management.proofs.ItemLemmas.{new-managed}
 use Rattle.beep_answering.specs.Sent.{IsMessage, greeting_of}
 use Rattle.beep_peer.specs.declared.peer.Peer.{Peer}
 use Rattle.beep_peer.specs.Peering.{Holds, AreHeld, IsPeer, IsReached}

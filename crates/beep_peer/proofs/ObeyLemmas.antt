@@ -2,27 +2,27 @@
 use Rattle.std.proofs.Common.{◌≡◌, ℕ, ◌==◌, Bool, true, false, ◌&&◌, List, ◌∷◌, Option, sym, append-nil}
 use Rattle.std.specs.Prelude.{IfSome}
 use Rattle.std.specs.Option.{option_map_or, option_to_list}
-use Rattle.beep_frame.specs.declared.head.Head.{Head}
-use Rattle.beep_frame.specs.declared.kind.Kind.{Kind}
-use Rattle.beep_frame.specs.Frame.{is_msg, same_kind}
-use Rattle.beep_mgmt.specs.Form.{Form}
-use Rattle.beep_mgmt.specs.Message.{message_said}
-use Rattle.beep_history.specs.declared.journal.Side.{Side}
-use Rattle.beep_history.specs.Journal.{Item, passed}
-use Rattle.beep_history.specs.Marks.{marks}
-use Rattle.beep_journal.specs.Zero.{zero_history}
-use Rattle.beep_channel.specs.Held.{Live}
-use Rattle.beep_lives.specs.Lives.{numbers}
-use Rattle.beep_decide.specs.Asks.{is_close_of}
-use Rattle.beep_lawful.specs.declared.terms.Terms.{Terms}
-use Rattle.beep_standing.specs.Standing.{Marks}
+use Rattle.beep_upright.specs.beep_frame.specs.declared.head.Head.{Head}
+use Rattle.beep_upright.specs.beep_frame.specs.declared.kind.Kind.{Kind}
+use Rattle.beep_upright.specs.beep_frame.specs.Frame.{is_msg, same_kind}
+use Rattle.beep_upright.specs.beep_mgmt.specs.Form.{Form}
+use Rattle.beep_upright.specs.beep_mgmt.specs.Message.{message_said}
+use Rattle.beep_upright.specs.beep_history.specs.declared.journal.Side.{Side}
+use Rattle.beep_upright.specs.beep_history.specs.Journal.{Item, passed}
+use Rattle.beep_upright.specs.beep_history.specs.Marks.{marks}
+use Rattle.beep_upright.specs.beep_journal.specs.Zero.{zero_history}
+use Rattle.beep_upright.specs.beep_channel.specs.Held.{Live}
+use Rattle.beep_upright.specs.beep_lives.specs.Lives.{numbers}
+use Rattle.beep_upright.specs.beep_decide.specs.Asks.{is_close_of}
+use Rattle.beep_upright.specs.beep_lawful.specs.declared.terms.Terms.{Terms}
+use Rattle.beep_upright.specs.beep_standing.specs.Standing.{Marks}
 use Rattle.beep_hearing.specs.Hears.{Passes, KeepsZeroRoom}
-use Rattle.beep_asked.specs.Kept.{Kept, oldest, fits}
-use Rattle.beep_management.specs.Managed.{Managed, number_started}
-use Rattle.beep_management.specs.Manages.{AreFresh}
-use Rattle.beep_management.specs.Moved.{Does, is_live_in}
-use Rattle.beep_management.specs.Steps.{TakesMine}
-use Rattle.beep_management.proofs.LivesLemmas.{says-live}
+use Rattle.beep_upright.specs.beep_asked.specs.Kept.{Kept, oldest, fits}
+use Rattle.beep_upright.specs.beep_management.specs.Managed.{Managed, number_started}
+use Rattle.beep_upright.specs.beep_management.specs.Manages.{AreFresh}
+use Rattle.beep_upright.specs.beep_management.specs.Moved.{Does, is_live_in}
+use Rattle.beep_upright.specs.beep_management.specs.Steps.{TakesMine}
+use Rattle.beep_upright.specs.beep_management.proofs.LivesLemmas.{says-live}
 use Rattle.beep_upright.specs.Turns.{kinds_at}
 use Rattle.beep_upright.specs.Upright.{asked_at, AreReady, IsUpright}
 use Rattle.beep_upright.proofs.ReplyLemmas.{refusal-came, grant-came}

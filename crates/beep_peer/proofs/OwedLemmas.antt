@@ -6,32 +6,32 @@ use Rattle.std.proofs.lemmas.Bool.Decides.{nat_tests}
 use Rattle.std.proofs.lemmas.List.{length-map}
 use Rattle.std.proofs.Math.Logic.{∥∥₁_elim, ∥∥₁_map}
 use denote.Struct.Props.{props}
-use Rattle.beep_text.specs.Said.{element_said}
-use Rattle.beep_text.specs.declared.limits.TheConstants.{MAX_TEXT}
-use Rattle.beep_frame.specs.declared.kind.Kind.{Kind}
-use Rattle.beep_frame.specs.Frame.{is_reply, is_ans, is_nul}
-use Rattle.beep_mime.specs.Split.{body_of}
-use Rattle.beep_mgmt.specs.Form.{Form}
-use Rattle.beep_mgmt.specs.Said.{form_said}
-use Rattle.beep_mgmt.specs.Message.{message_said}
-use Rattle.beep_history.specs.Journal.{Item}
-use Rattle.beep_outbox.specs.declared.outbox.TheConstants.{MAX_UNLIMITED}
-use Rattle.beep_outbox.specs.Queue.{Message, message_marks, marks_of}
-use Rattle.beep_history.specs.Marks.{Mark}
-use Rattle.beep_channel.specs.Held.{Live, IsReply, next_reply, reply_refusal}
-use Rattle.beep_channel.specs.Fits.{is_shaped}
-use Rattle.beep_lives.specs.Lives.{live_at, numbers}
-use Rattle.beep_lives.specs.Edits.{Edits, Gives, UsesRoom}
-use Rattle.beep_lives.proofs.ListLemmas.{live-number}
-use Rattle.beep_standing.specs.Standing.{Marks, with_marks}
-use Rattle.beep_standing.proofs.SendLemmas.{with-same, with-other, given-joins}
-use Rattle.beep_spoken.specs.Spoken.{Spoken, text_of}
-use Rattle.beep_asked.specs.Kept.{Kept, fits}
-use Rattle.beep_management.specs.declared.answers.Answer.{Answer}
-use Rattle.beep_management.specs.Managed.{Prepared, Managed, first_of, octets_prepared, replies_among}
-use Rattle.beep_management.specs.Manages.{Manages, IsPrepared, ArePrepared, AllFit, unsent}
-use Rattle.beep_management.specs.Values.{prepared_of}
-use Rattle.beep_management.proofs.GivenLemmas.{answer-kind, answer-given, owes-answers}
+use Rattle.beep_upright.specs.beep_text.specs.Said.{element_said}
+use Rattle.beep_upright.specs.beep_text.specs.declared.limits.TheConstants.{MAX_TEXT}
+use Rattle.beep_upright.specs.beep_frame.specs.declared.kind.Kind.{Kind}
+use Rattle.beep_upright.specs.beep_frame.specs.Frame.{is_reply, is_ans, is_nul}
+use Rattle.beep_upright.specs.beep_mime.specs.Split.{body_of}
+use Rattle.beep_upright.specs.beep_mgmt.specs.Form.{Form}
+use Rattle.beep_upright.specs.beep_mgmt.specs.Said.{form_said}
+use Rattle.beep_upright.specs.beep_mgmt.specs.Message.{message_said}
+use Rattle.beep_upright.specs.beep_history.specs.Journal.{Item}
+use Rattle.beep_upright.specs.beep_outbox.specs.declared.outbox.TheConstants.{MAX_UNLIMITED}
+use Rattle.beep_upright.specs.beep_outbox.specs.Queue.{Message, message_marks, marks_of}
+use Rattle.beep_upright.specs.beep_history.specs.Marks.{Mark}
+use Rattle.beep_upright.specs.beep_channel.specs.Held.{Live, IsReply, next_reply, reply_refusal}
+use Rattle.beep_upright.specs.beep_channel.specs.Fits.{is_shaped}
+use Rattle.beep_upright.specs.beep_lives.specs.Lives.{live_at, numbers}
+use Rattle.beep_upright.specs.beep_lives.specs.Edits.{Edits, Gives, UsesRoom}
+use Rattle.beep_upright.specs.beep_lives.proofs.ListLemmas.{live-number}
+use Rattle.beep_upright.specs.beep_standing.specs.Standing.{Marks, with_marks}
+use Rattle.beep_upright.specs.beep_standing.proofs.SendLemmas.{with-same, with-other, given-joins}
+use Rattle.beep_upright.specs.beep_spoken.specs.Spoken.{Spoken, text_of}
+use Rattle.beep_upright.specs.beep_asked.specs.Kept.{Kept, fits}
+use Rattle.beep_upright.specs.beep_management.specs.declared.answers.Answer.{Answer}
+use Rattle.beep_upright.specs.beep_management.specs.Managed.{Prepared, Managed, first_of, octets_prepared, replies_among}
+use Rattle.beep_upright.specs.beep_management.specs.Manages.{Manages, IsPrepared, ArePrepared, AllFit, unsent}
+use Rattle.beep_upright.specs.beep_management.specs.Values.{prepared_of}
+use Rattle.beep_upright.specs.beep_management.proofs.GivenLemmas.{answer-kind, answer-given, owes-answers}
 use Rattle.beep_peer.specs.Peering.{AreFew, HasRoomFor, Holds, AreHeld}
 use Rattle.beep_peer.specs.Waiting.{AreGiven}
 use Rattle.beep_peer.specs.Calls.{LetsGo}

@@ -1,30 +1,30 @@
 -- Whether the last frame of an own message of channel zero releases the session, as it goes out.
 use Rattle.std.proofs.Common.{◌≡◌, ℕ, suc, ◌==◌, Bool, true, false, not, ◌&&◌, ◌||◌, List, [], ◌∷◌, ◌++◌, length, drop, reverse, Option, refl, sym, ap, ◌∙◌, subst}
-use Rattle.beep_frame.specs.declared.head.Head.{Head}
-use Rattle.beep_frame.specs.declared.kind.Kind.{Kind}
-use Rattle.beep_frame.specs.Frame.{is_msg, is_ans, same_kind}
-use Rattle.beep_mgmt.specs.Form.{Form}
-use Rattle.beep_mgmt.specs.Message.{message_said}
-use Rattle.beep_history.specs.declared.journal.Side.{Side}
-use Rattle.beep_history.specs.Journal.{Item, began, passed}
-use Rattle.beep_history.specs.Broken.{KeepsExchangeRules}
-use Rattle.beep_outbox.specs.Queue.{marks_of}
-use Rattle.beep_journal.specs.Lives.{has_release}
-use Rattle.beep_journal.specs.Zero.{zero_history, zero_events, gathered}
-use Rattle.beep_journal.specs.Laws.{contents}
-use Rattle.beep_journal.specs.Life.{is_released}
-use Rattle.beep_channel.specs.Held.{Live}
-use Rattle.beep_standing.specs.Standing.{Marks, AreLive}
-use Rattle.beep_spoken.specs.Spoken.{Spoken, IsSaid}
-use Rattle.beep_spoken.proofs.SpokenLemmas.{next-said}
-use Rattle.beep_decide.specs.Asks.{is_close_of}
-use Rattle.beep_asked.specs.Kept.{Kept, fits, grants}
-use Rattle.beep_asked.specs.Asked.{AreWaiting, EndsReply}
-use Rattle.beep_asked.proofs.LawsLemmas.{request-releases, grant-releases}
-use Rattle.beep_management.specs.Managed.{Managed, replies_among}
-use Rattle.beep_management.specs.Manages.{unsent, AllFit, IsManaged}
-use Rattle.beep_management.proofs.ListLemmas.{reverse-last, drop-at, reply-first}
-use Rattle.beep_management.proofs.SentLemmas.{HasZero, has-zero, rpy-replies}
+use Rattle.beep_upright.specs.beep_frame.specs.declared.head.Head.{Head}
+use Rattle.beep_upright.specs.beep_frame.specs.declared.kind.Kind.{Kind}
+use Rattle.beep_upright.specs.beep_frame.specs.Frame.{is_msg, is_ans, same_kind}
+use Rattle.beep_upright.specs.beep_mgmt.specs.Form.{Form}
+use Rattle.beep_upright.specs.beep_mgmt.specs.Message.{message_said}
+use Rattle.beep_upright.specs.beep_history.specs.declared.journal.Side.{Side}
+use Rattle.beep_upright.specs.beep_history.specs.Journal.{Item, began, passed}
+use Rattle.beep_upright.specs.beep_history.specs.Broken.{KeepsExchangeRules}
+use Rattle.beep_upright.specs.beep_outbox.specs.Queue.{marks_of}
+use Rattle.beep_upright.specs.beep_journal.specs.Lives.{has_release}
+use Rattle.beep_upright.specs.beep_journal.specs.Zero.{zero_history, zero_events, gathered}
+use Rattle.beep_upright.specs.beep_journal.specs.Laws.{contents}
+use Rattle.beep_upright.specs.beep_journal.specs.Life.{is_released}
+use Rattle.beep_upright.specs.beep_channel.specs.Held.{Live}
+use Rattle.beep_upright.specs.beep_standing.specs.Standing.{Marks, AreLive}
+use Rattle.beep_upright.specs.beep_spoken.specs.Spoken.{Spoken, IsSaid}
+use Rattle.beep_upright.specs.beep_spoken.proofs.SpokenLemmas.{next-said}
+use Rattle.beep_upright.specs.beep_decide.specs.Asks.{is_close_of}
+use Rattle.beep_upright.specs.beep_asked.specs.Kept.{Kept, fits, grants}
+use Rattle.beep_upright.specs.beep_asked.specs.Asked.{AreWaiting, EndsReply}
+use Rattle.beep_upright.specs.beep_asked.proofs.LawsLemmas.{request-releases, grant-releases}
+use Rattle.beep_upright.specs.beep_management.specs.Managed.{Managed, replies_among}
+use Rattle.beep_upright.specs.beep_management.specs.Manages.{unsent, AllFit, IsManaged}
+use Rattle.beep_upright.specs.beep_management.proofs.ListLemmas.{reverse-last, drop-at, reply-first}
+use Rattle.beep_upright.specs.beep_management.proofs.SentLemmas.{HasZero, has-zero, rpy-replies}
 
 rpy-alone : (kind : Kind) → same_kind Kind.Rpy kind ≡ true → is_ans kind ≡ false
 rpy-alone Kind.Msg same = refl

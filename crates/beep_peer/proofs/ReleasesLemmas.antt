@@ -3,25 +3,25 @@ use Rattle.std.proofs.Common.{◌≡◌, ℕ, suc, ◌+◌, ◌-◌, ◌<◌, �
 use Rattle.std.specs.List.{list_any}
 use Rattle.std.specs.Option.{option_map_or}
 use Rattle.std.proofs.lemmas.Bool.Decides.{nat_tests}
-use Rattle.beep_frame.specs.declared.head.Head.{Head}
-use Rattle.beep_frame.specs.Frame.{is_msg}
-use Rattle.beep_history.specs.declared.journal.Side.{Side}
-use Rattle.beep_history.specs.Journal.{Item}
-use Rattle.beep_history.specs.Marks.{Request, requests, waiting, is_answered, previous}
-use Rattle.beep_history.specs.Broken.{under_way}
-use Rattle.beep_history.proofs.ListsLemmas.{IsNumbered, filter-agree}
-use Rattle.beep_history.proofs.SoundLemmas.{Sound, is_open, requests-numbered}
-use Rattle.beep_history.proofs.PassedLemmas.{sound}
-use Rattle.beep_exchange.specs.Kept.{Kept as KeptOf}
-use Rattle.beep_outbox.specs.Queue.{Message}
-use Rattle.beep_journal.specs.Zero.{zero_history, asked}
-use Rattle.beep_channel.specs.Held.{Live}
-use Rattle.beep_channel.specs.Fits.{asks as asks_in, as_number}
-use Rattle.beep_channel.specs.Sums.{is_partly}
-use Rattle.beep_channel.specs.Stands.{Stands}
-use Rattle.beep_lives.specs.Lives.{live_at, numbers}
-use Rattle.beep_standing.specs.Standing.{Marks}
-use Rattle.beep_management.specs.Managed.{Managed, lowest, numbers_of}
+use Rattle.beep_upright.specs.beep_frame.specs.declared.head.Head.{Head}
+use Rattle.beep_upright.specs.beep_frame.specs.Frame.{is_msg}
+use Rattle.beep_upright.specs.beep_history.specs.declared.journal.Side.{Side}
+use Rattle.beep_upright.specs.beep_history.specs.Journal.{Item}
+use Rattle.beep_upright.specs.beep_history.specs.Marks.{Request, requests, waiting, is_answered, previous}
+use Rattle.beep_upright.specs.beep_history.specs.Broken.{under_way}
+use Rattle.beep_upright.specs.beep_history.proofs.ListsLemmas.{IsNumbered, filter-agree}
+use Rattle.beep_upright.specs.beep_history.proofs.SoundLemmas.{Sound, is_open, requests-numbered}
+use Rattle.beep_upright.specs.beep_history.proofs.PassedLemmas.{sound}
+use Rattle.beep_upright.specs.beep_exchange.specs.Kept.{Kept as KeptOf}
+use Rattle.beep_upright.specs.beep_outbox.specs.Queue.{Message}
+use Rattle.beep_upright.specs.beep_journal.specs.Zero.{zero_history, asked}
+use Rattle.beep_upright.specs.beep_channel.specs.Held.{Live}
+use Rattle.beep_upright.specs.beep_channel.specs.Fits.{asks as asks_in, as_number}
+use Rattle.beep_upright.specs.beep_channel.specs.Sums.{is_partly}
+use Rattle.beep_upright.specs.beep_channel.specs.Stands.{Stands}
+use Rattle.beep_upright.specs.beep_lives.specs.Lives.{live_at, numbers}
+use Rattle.beep_upright.specs.beep_standing.specs.Standing.{Marks}
+use Rattle.beep_upright.specs.beep_management.specs.Managed.{Managed, lowest, numbers_of}
 use Rattle.beep_upright.specs.Turns.{kinds_in}
 use Rattle.beep_upright.proofs.MoreLemmas.{request_kinds}
 use Rattle.beep_upright.proofs.KindsLemmas.{count-requests}

@@ -3,15 +3,15 @@ use Rattle.std.proofs.Common.{◌≡◌, ℕ, ◌+◌, ◌<◌, ◌≤◌, ◌==
 use Rattle.std.specs.Prelude.{IfSome, IsSome}
 use Rattle.std.proofs.lemmas.Bool.Decides.{nat_tests}
 use Rattle.std.proofs.lemmas.List.{length-map}
-use Rattle.beep_mgmt.specs.Form.{Form, greeting, start, chosen, close, okay, fault}
-use Rattle.beep_channel.specs.Held.{Live}
-use Rattle.beep_lives.specs.Lives.{live_at, runs_of}
-use Rattle.beep_lives.specs.Edits.{Edits, KeepsHeld, UsesRoom}
-use Rattle.beep_asked.specs.Kept.{Kept}
+use Rattle.beep_upright.specs.beep_mgmt.specs.Form.{Form, greeting, start, chosen, close, okay, fault}
+use Rattle.beep_upright.specs.beep_channel.specs.Held.{Live}
+use Rattle.beep_upright.specs.beep_lives.specs.Lives.{live_at, runs_of}
+use Rattle.beep_upright.specs.beep_lives.specs.Edits.{Edits, KeepsHeld, UsesRoom}
+use Rattle.beep_upright.specs.beep_asked.specs.Kept.{Kept}
 use Rattle.beep_hearing.specs.Hears.{HasZeroRoom, KeepsZeroRoom}
-use Rattle.beep_management.specs.Managed.{Prepared, one_without, without, octets_prepared}
-use Rattle.beep_management.specs.Moved.{is_live_in, JoinsWhere, LeavesWhere, Does}
-use Rattle.beep_management.specs.Steps.{cleared_by, answers_after}
+use Rattle.beep_upright.specs.beep_management.specs.Managed.{Prepared, one_without, without, octets_prepared}
+use Rattle.beep_upright.specs.beep_management.specs.Moved.{is_live_in, JoinsWhere, LeavesWhere, Does}
+use Rattle.beep_upright.specs.beep_management.specs.Steps.{cleared_by, answers_after}
 use Rattle.beep_peer.specs.Grants.{NamesAbove}
 use Rattle.beep_peer.specs.Peering.{HasRoomFor}
 

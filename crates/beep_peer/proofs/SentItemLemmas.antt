@@ -2,17 +2,17 @@
 use Rattle.std.proofs.Common.{◌≡◌, ℕ, ◌==◌, Bool, true, false, if◌then◌else◌, List, ◌∷◌, ◌++◌, map, Option, refl, sym, ap, ◌∙◌, subst}
 use Rattle.std.proofs.lemmas.List.{append-nil}
 use Rattle.std.specs.Prelude.{is_some}
-use Rattle.beep_frame.specs.declared.head.Head.{Head}
-use Rattle.beep_frame.specs.declared.seq.Seq.{Seq}
-use Rattle.beep_frame.specs.Decoding.{WasFed}
-use Rattle.beep_frame.specs.Fed.{fed_of}
-use Rattle.beep_history.specs.declared.journal.Side.{Side}
-use Rattle.beep_history.specs.Journal.{Item, began, passed, told}
-use Rattle.beep_history.specs.Marks.{Mark, marks, mark_modulo_2_64, previous}
-use Rattle.beep_history.specs.Broken.{under_way}
-use Rattle.beep_journal.specs.Zero.{zero_history, gathered, channel_of}
-use Rattle.beep_journal.specs.Journal.{spelled}
-use Rattle.beep_standing.specs.Standing.{Marks}
+use Rattle.beep_upright.specs.beep_frame.specs.declared.head.Head.{Head}
+use Rattle.beep_upright.specs.beep_frame.specs.declared.seq.Seq.{Seq}
+use Rattle.beep_upright.specs.beep_frame.specs.Decoding.{WasFed}
+use Rattle.beep_upright.specs.beep_frame.specs.Fed.{fed_of}
+use Rattle.beep_upright.specs.beep_history.specs.declared.journal.Side.{Side}
+use Rattle.beep_upright.specs.beep_history.specs.Journal.{Item, began, passed, told}
+use Rattle.beep_upright.specs.beep_history.specs.Marks.{Mark, marks, mark_modulo_2_64, previous}
+use Rattle.beep_upright.specs.beep_history.specs.Broken.{under_way}
+use Rattle.beep_upright.specs.beep_journal.specs.Zero.{zero_history, gathered, channel_of}
+use Rattle.beep_upright.specs.beep_journal.specs.Journal.{spelled}
+use Rattle.beep_upright.specs.beep_standing.specs.Standing.{Marks}
 use Rattle.beep_hearing.specs.declared.ear.Ear.{Ear}
 use Rattle.beep_hearing.specs.Hears.{Hears, IsText, IsZeroTaken}
 

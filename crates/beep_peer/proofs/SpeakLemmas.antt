@@ -4,30 +4,30 @@ use Rattle.std.proofs.Math.Logic.{∥∥₁_elim, ∥∥₁_map}
 use denote.Struct.Props.{props}
 use Rattle.std.proofs.lemmas.List.{length-map}
 use Rattle.std.proofs.lemmas.Bool.{eqb-false, ne_eqb}
-use Rattle.beep_frame.specs.declared.head.Head.{Head}
-use Rattle.beep_frame.specs.declared.seq.Seq.{Seq}
-use Rattle.beep_history.specs.declared.journal.Side.{Side}
-use Rattle.beep_history.specs.Journal.{Item, began, passed, told}
-use Rattle.beep_journal.specs.Zero.{events}
-use Rattle.beep_journal.specs.Lives.{Event, is_live, has_release}
-use Rattle.beep_journal.specs.Life.{history, is_there, is_released}
-use Rattle.beep_channel.specs.Held.{Live}
-use Rattle.beep_turns.specs.declared.turns.TheConstants.{MAX_CHANNELS}
-use Rattle.beep_lives.specs.Lives.{numbers, can_send, owes_seq}
-use Rattle.beep_lives.specs.Edits.{Sends, Tells}
-use Rattle.beep_standing.specs.Standing.{Marks, AreLiveBy}
-use Rattle.beep_standing.specs.Due.{has_due, has_ready}
-use Rattle.beep_standing.proofs.LivesLemmas.{lives-stay}
-use Rattle.beep_standing.proofs.ZeroLemmas.{part-none}
-use Rattle.beep_standing.proofs.SendLemmas.{sent-joins, sent-zero-joins, sent-seq-joins}
-use Rattle.beep_standing.proofs.DueLemmas.{sent-next, told-due, none-by, channel-due, channel-ready}
+use Rattle.beep_upright.specs.beep_frame.specs.declared.head.Head.{Head}
+use Rattle.beep_upright.specs.beep_frame.specs.declared.seq.Seq.{Seq}
+use Rattle.beep_upright.specs.beep_history.specs.declared.journal.Side.{Side}
+use Rattle.beep_upright.specs.beep_history.specs.Journal.{Item, began, passed, told}
+use Rattle.beep_upright.specs.beep_journal.specs.Zero.{events}
+use Rattle.beep_upright.specs.beep_journal.specs.Lives.{Event, is_live, has_release}
+use Rattle.beep_upright.specs.beep_journal.specs.Life.{history, is_there, is_released}
+use Rattle.beep_upright.specs.beep_channel.specs.Held.{Live}
+use Rattle.beep_upright.specs.beep_turns.specs.declared.turns.TheConstants.{MAX_CHANNELS}
+use Rattle.beep_upright.specs.beep_lives.specs.Lives.{numbers, can_send, owes_seq}
+use Rattle.beep_upright.specs.beep_lives.specs.Edits.{Sends, Tells}
+use Rattle.beep_upright.specs.beep_standing.specs.Standing.{Marks, AreLiveBy}
+use Rattle.beep_upright.specs.beep_standing.specs.Due.{has_due, has_ready}
+use Rattle.beep_upright.specs.beep_standing.proofs.LivesLemmas.{lives-stay}
+use Rattle.beep_upright.specs.beep_standing.proofs.ZeroLemmas.{part-none}
+use Rattle.beep_upright.specs.beep_standing.proofs.SendLemmas.{sent-joins, sent-zero-joins, sent-seq-joins}
+use Rattle.beep_upright.specs.beep_standing.proofs.DueLemmas.{sent-next, told-due, none-by, channel-due, channel-ready}
 use Rattle.beep_hearing.specs.declared.ear.Ear.{Ear}
 use Rattle.beep_hearing.specs.Hears.{Hears, IsZeroTaken, SameAbove, ends_zero}
 use Rattle.beep_hearing.proofs.RoomLemmas.{room-edit}
-use Rattle.beep_management.specs.Managed.{Managed}
-use Rattle.beep_management.proofs.ItemLemmas.{header-stays, seq-stays}
-use Rattle.beep_speaking.specs.declared.emit.Emit.{Emit}
-use Rattle.beep_speaking.specs.Emits.{Emits, SendsNext, IsReached}
+use Rattle.beep_upright.specs.beep_management.specs.Managed.{Managed}
+use Rattle.beep_upright.specs.beep_management.proofs.ItemLemmas.{header-stays, seq-stays}
+use Rattle.beep_upright.specs.beep_speaking.specs.declared.emit.Emit.{Emit}
+use Rattle.beep_upright.specs.beep_speaking.specs.Emits.{Emits, SendsNext, IsReached}
 use Rattle.beep_peer.specs.declared.peer.Peer.{Peer}
 use Rattle.beep_peer.specs.Peering.{AreFew, Holds, IsPeer, Carries, AreHeld, IsGoing, is_greeted}
 use Rattle.beep_peer.specs.Calls.{AreLeft, LetsGo, HasGone, IsDone, HasSent, IsSent, Speaks}

@@ -1,12 +1,12 @@
 -- The first answer that is left still waits once a SEQ has gone out.
 use Rattle.std.proofs.Common.{◌≡◌, ℕ, ◌==◌, Bool, true, false, if◌then◌else◌, List, [], ◌∷◌, Some, refl, sym, ap, ◌∙◌, eqb-true}
 use Rattle.std.specs.Prelude.{IfSome}
-use Rattle.beep_frame.specs.declared.seq.Seq.{Seq}
-use Rattle.beep_channel.specs.Held.{Live, is_held_drained}
-use Rattle.beep_lives.specs.Lives.{live_at}
-use Rattle.beep_lives.specs.Edits.{Edits, Tells}
-use Rattle.beep_management.specs.declared.wait.Wait.{Wait}
-use Rattle.beep_management.specs.Managed.{Prepared, Managed, first_of}
+use Rattle.beep_upright.specs.beep_frame.specs.declared.seq.Seq.{Seq}
+use Rattle.beep_upright.specs.beep_channel.specs.Held.{Live, is_held_drained}
+use Rattle.beep_upright.specs.beep_lives.specs.Lives.{live_at}
+use Rattle.beep_upright.specs.beep_lives.specs.Edits.{Edits, Tells}
+use Rattle.beep_upright.specs.beep_management.specs.declared.wait.Wait.{Wait}
+use Rattle.beep_upright.specs.beep_management.specs.Managed.{Prepared, Managed, first_of}
 use Rattle.beep_peer.specs.Waiting.{IsDrainedAt, HasCome, IsStuck}
 
 module _ (seq : Seq) (old new : List Live) (e : Edits seq.channel (Tells seq) old new) where

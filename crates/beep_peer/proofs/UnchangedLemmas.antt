@@ -3,22 +3,22 @@ use Rattle.std.proofs.Common.{◌≡◌, ℕ, ◌==◌, false, ◌||◌, List, [
 use Rattle.std.specs.Option.{option_map_or}
 use Rattle.std.proofs.lemmas.List.{append_cancel_left}
 use Rattle.std.proofs.lemmas.Bool.Decides.{nat_tests}
-use Rattle.beep_frame.specs.declared.head.Head.{Head}
-use Rattle.beep_frame.specs.declared.kind.Kind.{Kind}
-use Rattle.beep_history.specs.declared.journal.Side.{Side}
-use Rattle.beep_history.specs.Journal.{Item, passed}
-use Rattle.beep_history.specs.Marks.{Mark, marks}
-use Rattle.beep_journal.specs.Zero.{zero_history}
-use Rattle.beep_channel.specs.Held.{Held, Live}
-use Rattle.beep_lives.specs.Lives.{live_at}
-use Rattle.beep_lives.specs.Edits.{Edits, KeepsHeld}
-use Rattle.beep_standing.specs.Standing.{Marks}
-use Rattle.beep_spoken.specs.Spoken.{kinds_of}
-use Rattle.beep_lawful.specs.declared.terms.Terms.{Terms}
+use Rattle.beep_upright.specs.beep_frame.specs.declared.head.Head.{Head}
+use Rattle.beep_upright.specs.beep_frame.specs.declared.kind.Kind.{Kind}
+use Rattle.beep_upright.specs.beep_history.specs.declared.journal.Side.{Side}
+use Rattle.beep_upright.specs.beep_history.specs.Journal.{Item, passed}
+use Rattle.beep_upright.specs.beep_history.specs.Marks.{Mark, marks}
+use Rattle.beep_upright.specs.beep_journal.specs.Zero.{zero_history}
+use Rattle.beep_upright.specs.beep_channel.specs.Held.{Held, Live}
+use Rattle.beep_upright.specs.beep_lives.specs.Lives.{live_at}
+use Rattle.beep_upright.specs.beep_lives.specs.Edits.{Edits, KeepsHeld}
+use Rattle.beep_upright.specs.beep_standing.specs.Standing.{Marks}
+use Rattle.beep_upright.specs.beep_spoken.specs.Spoken.{kinds_of}
+use Rattle.beep_upright.specs.beep_lawful.specs.declared.terms.Terms.{Terms}
 use Rattle.beep_hearing.specs.Hears.{Passes, KeepsOthers}
-use Rattle.beep_asked.specs.Kept.{Kept, is_leaving}
-use Rattle.beep_management.specs.Managed.{Managed}
-use Rattle.beep_management.specs.Steps.{KeepsQueue}
+use Rattle.beep_upright.specs.beep_asked.specs.Kept.{Kept, is_leaving}
+use Rattle.beep_upright.specs.beep_management.specs.Managed.{Managed}
+use Rattle.beep_upright.specs.beep_management.specs.Steps.{KeepsQueue}
 use Rattle.beep_upright.specs.Turns.{kinds_in, kinds_at}
 use Rattle.beep_upright.specs.Upright.{asked_in, asked_at, AreReady, IsUpright}
 use Rattle.beep_peer.specs.declared.peer.Peer.{Peer}

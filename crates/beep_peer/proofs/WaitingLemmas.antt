@@ -2,28 +2,28 @@
 use Rattle.std.proofs.Common.{◌≡◌, ℕ, Bool, true, false, not, List, ◌∷◌, ◌++◌, Option, Some, None, is_some, refl, sym, ap, ◌∙◌, eqb-true, subst}
 use Rattle.std.proofs.Math.Logic.{∥∥₁_map, ∥∥₁_elim}
 use denote.Struct.Props.{props}
-use Rattle.beep_frame.specs.declared.head.Head.{Head}
-use Rattle.beep_frame.specs.Frame.{is_msg, is_ans}
-use Rattle.beep_mgmt.specs.Form.{Form}
-use Rattle.beep_mgmt.specs.Message.{message_said}
-use Rattle.beep_history.specs.declared.journal.Side.{Side}
-use Rattle.beep_history.specs.Journal.{Item, passed}
-use Rattle.beep_history.specs.Broken.{under_way, KeepsExchangeRules}
-use Rattle.beep_journal.specs.Lives.{has_release}
-use Rattle.beep_journal.specs.Zero.{zero_history, zero_events, events, gathered}
-use Rattle.beep_journal.specs.Life.{is_released}
-use Rattle.beep_channel.specs.Held.{Live}
-use Rattle.beep_channel.specs.Stands.{Stands}
-use Rattle.beep_lives.specs.Lives.{live_at, has_begun}
-use Rattle.beep_standing.specs.Standing.{Marks}
-use Rattle.beep_standing.proofs.ArriveLemmas.{is-each}
-use Rattle.beep_standing.proofs.ZeroLemmas.{begun-zero}
+use Rattle.beep_upright.specs.beep_frame.specs.declared.head.Head.{Head}
+use Rattle.beep_upright.specs.beep_frame.specs.Frame.{is_msg, is_ans}
+use Rattle.beep_upright.specs.beep_mgmt.specs.Form.{Form}
+use Rattle.beep_upright.specs.beep_mgmt.specs.Message.{message_said}
+use Rattle.beep_upright.specs.beep_history.specs.declared.journal.Side.{Side}
+use Rattle.beep_upright.specs.beep_history.specs.Journal.{Item, passed}
+use Rattle.beep_upright.specs.beep_history.specs.Broken.{under_way, KeepsExchangeRules}
+use Rattle.beep_upright.specs.beep_journal.specs.Lives.{has_release}
+use Rattle.beep_upright.specs.beep_journal.specs.Zero.{zero_history, zero_events, events, gathered}
+use Rattle.beep_upright.specs.beep_journal.specs.Life.{is_released}
+use Rattle.beep_upright.specs.beep_channel.specs.Held.{Live}
+use Rattle.beep_upright.specs.beep_channel.specs.Stands.{Stands}
+use Rattle.beep_upright.specs.beep_lives.specs.Lives.{live_at, has_begun}
+use Rattle.beep_upright.specs.beep_standing.specs.Standing.{Marks}
+use Rattle.beep_upright.specs.beep_standing.proofs.ArriveLemmas.{is-each}
+use Rattle.beep_upright.specs.beep_standing.proofs.ZeroLemmas.{begun-zero}
 use Rattle.beep_hearing.specs.Hears.{Waits}
 use Rattle.beep_hearing.specs.Answers.{IsWaiting as EarWaits}
 use Rattle.beep_hearing.proofs.TextLemmas.{kept-says}
-use Rattle.beep_asked.specs.Asked.{EndsRequest, EndsReply, SaysLive}
-use Rattle.beep_management.specs.Moved.{is_live_in}
-use Rattle.beep_management.proofs.LivesLemmas.{says-live}
+use Rattle.beep_upright.specs.beep_asked.specs.Asked.{EndsRequest, EndsReply, SaysLive}
+use Rattle.beep_upright.specs.beep_management.specs.Moved.{is_live_in}
+use Rattle.beep_upright.specs.beep_management.proofs.LivesLemmas.{says-live}
 use Rattle.beep_peer.specs.declared.peer.Peer.{Peer}
 use Rattle.beep_peer.specs.Peering.{WaitsIn, IsWaiting}
 

@@ -3,34 +3,34 @@ use Rattle.std.proofs.Common.{◌≡◌, ℕ, suc, ◌+◌, ◌≤◌, ◌==◌,
 use Rattle.std.specs.Prelude.{IfSome}
 use Rattle.std.proofs.lemmas.List.{append_cancel_left}
 use Rattle.std.specs.Option.{option_to_list}
-use Rattle.beep_frame.specs.declared.head.Head.{Head}
-use Rattle.beep_frame.specs.declared.kind.Kind.{Kind}
-use Rattle.beep_frame.specs.Frame.{is_msg, same_kind}
-use Rattle.beep_mgmt.specs.Form.{Form}
-use Rattle.beep_mgmt.specs.Message.{message_said}
-use Rattle.beep_history.specs.declared.journal.Side.{Side}
-use Rattle.beep_history.specs.Journal.{Item, began, passed}
-use Rattle.beep_history.specs.Marks.{Mark, marks}
-use Rattle.beep_history.specs.Broken.{KeepsExchangeRules}
-use Rattle.beep_exchange.specs.Given.{ends_reply}
-use Rattle.beep_journal.specs.Lives.{Event}
-use Rattle.beep_journal.specs.Zero.{zero_history, zero_events, asked, events, gathered}
-use Rattle.beep_journal.specs.Life.{is_there}
-use Rattle.beep_channel.specs.Held.{Live}
-use Rattle.beep_channel.specs.Stands.{ends_of}
-use Rattle.beep_decide.specs.Asks.{is_close_of}
-use Rattle.beep_lawful.specs.declared.terms.Terms.{Terms}
-use Rattle.beep_standing.specs.Standing.{Marks, AreLive, AreLiveBy}
-use Rattle.beep_spoken.specs.Spoken.{kinds_of}
-use Rattle.beep_asked.specs.Kept.{Kept, new_kept}
-use Rattle.beep_asked.specs.Asked.{AreAsked, AreWaiting, SaysLive}
-use Rattle.beep_management.specs.Managed.{Managed, number_started}
-use Rattle.beep_management.specs.Manages.{AreFresh}
-use Rattle.beep_management.specs.Moved.{Does, is_live_in}
-use Rattle.beep_management.specs.Steps.{PassesAct, TakesTheirs}
-use Rattle.beep_management.proofs.ClearLemmas.{granted-same}
-use Rattle.beep_management.proofs.SentLemmas.{HasZero, has-zero, rpy-replies, request-still, refused-still, grant-still, first-fresh}
-use Rattle.beep_management.proofs.LivesLemmas.{says-live}
+use Rattle.beep_upright.specs.beep_frame.specs.declared.head.Head.{Head}
+use Rattle.beep_upright.specs.beep_frame.specs.declared.kind.Kind.{Kind}
+use Rattle.beep_upright.specs.beep_frame.specs.Frame.{is_msg, same_kind}
+use Rattle.beep_upright.specs.beep_mgmt.specs.Form.{Form}
+use Rattle.beep_upright.specs.beep_mgmt.specs.Message.{message_said}
+use Rattle.beep_upright.specs.beep_history.specs.declared.journal.Side.{Side}
+use Rattle.beep_upright.specs.beep_history.specs.Journal.{Item, began, passed}
+use Rattle.beep_upright.specs.beep_history.specs.Marks.{Mark, marks}
+use Rattle.beep_upright.specs.beep_history.specs.Broken.{KeepsExchangeRules}
+use Rattle.beep_upright.specs.beep_exchange.specs.Given.{ends_reply}
+use Rattle.beep_upright.specs.beep_journal.specs.Lives.{Event}
+use Rattle.beep_upright.specs.beep_journal.specs.Zero.{zero_history, zero_events, asked, events, gathered}
+use Rattle.beep_upright.specs.beep_journal.specs.Life.{is_there}
+use Rattle.beep_upright.specs.beep_channel.specs.Held.{Live}
+use Rattle.beep_upright.specs.beep_channel.specs.Stands.{ends_of}
+use Rattle.beep_upright.specs.beep_decide.specs.Asks.{is_close_of}
+use Rattle.beep_upright.specs.beep_lawful.specs.declared.terms.Terms.{Terms}
+use Rattle.beep_upright.specs.beep_standing.specs.Standing.{Marks, AreLive, AreLiveBy}
+use Rattle.beep_upright.specs.beep_spoken.specs.Spoken.{kinds_of}
+use Rattle.beep_upright.specs.beep_asked.specs.Kept.{Kept, new_kept}
+use Rattle.beep_upright.specs.beep_asked.specs.Asked.{AreAsked, AreWaiting, SaysLive}
+use Rattle.beep_upright.specs.beep_management.specs.Managed.{Managed, number_started}
+use Rattle.beep_upright.specs.beep_management.specs.Manages.{AreFresh}
+use Rattle.beep_upright.specs.beep_management.specs.Moved.{Does, is_live_in}
+use Rattle.beep_upright.specs.beep_management.specs.Steps.{PassesAct, TakesTheirs}
+use Rattle.beep_upright.specs.beep_management.proofs.ClearLemmas.{granted-same}
+use Rattle.beep_upright.specs.beep_management.proofs.SentLemmas.{HasZero, has-zero, rpy-replies, request-still, refused-still, grant-still, first-fresh}
+use Rattle.beep_upright.specs.beep_management.proofs.LivesLemmas.{says-live}
 use Rattle.beep_upright.specs.Turns.{kinds_at}
 use Rattle.beep_upright.specs.Upright.{asked_at, AreReady, IsUpright}
 use Rattle.beep_upright.proofs.MoreLemmas.{request_kinds}

@@ -1,18 +1,18 @@
 -- What a program asks on channel zero: why it is refused, and what is given (RFC 3080, sections
 -- 2.3.1.2 and 2.3.1.3).
 use Rattle.std.specs.Prelude.{◌≡◌, ℕ, ◌+◌, nat_lt, nat_le, Bool, not, ◌||◌, if◌then◌else◌, List, [], ◌∷◌, ◌++◌, length, Option, None, Some, is_some}
-use Rattle.beep_history.specs.Journal.{Item}
-use Rattle.beep_history.specs.declared.limits.TheConstants.{MAX_REQUESTS}
-use Rattle.beep_exchange.specs.Given.{first_asked_now}
-use Rattle.beep_frame.specs.declared.kind.Kind.{Kind}
-use Rattle.beep_outbox.specs.Queue.{Message, message_marks}
-use Rattle.beep_channel.specs.Held.{Held, Live}
-use Rattle.beep_lives.specs.Lives.{live_at, numbers}
-use Rattle.beep_turns.specs.declared.turns.TheConstants.{MAX_CHANNELS}
-use Rattle.beep_standing.specs.Standing.{Marks, with_marks}
-use Rattle.beep_asked.specs.Kept.{Kept, is_leaving}
-use Rattle.beep_management.specs.Managed.{Managed, numbers_of, has_number, lowest}
-use Rattle.beep_management.specs.Steps.{KeepsQueue}
+use Rattle.beep_upright.specs.beep_history.specs.Journal.{Item}
+use Rattle.beep_upright.specs.beep_history.specs.declared.limits.TheConstants.{MAX_REQUESTS}
+use Rattle.beep_upright.specs.beep_exchange.specs.Given.{first_asked_now}
+use Rattle.beep_upright.specs.beep_frame.specs.declared.kind.Kind.{Kind}
+use Rattle.beep_upright.specs.beep_outbox.specs.Queue.{Message, message_marks}
+use Rattle.beep_upright.specs.beep_channel.specs.Held.{Held, Live}
+use Rattle.beep_upright.specs.beep_lives.specs.Lives.{live_at, numbers}
+use Rattle.beep_upright.specs.beep_turns.specs.declared.turns.TheConstants.{MAX_CHANNELS}
+use Rattle.beep_upright.specs.beep_standing.specs.Standing.{Marks, with_marks}
+use Rattle.beep_upright.specs.beep_asked.specs.Kept.{Kept, is_leaving}
+use Rattle.beep_upright.specs.beep_management.specs.Managed.{Managed, numbers_of, has_number, lowest}
+use Rattle.beep_upright.specs.beep_management.specs.Steps.{KeepsQueue}
 use Rattle.beep_peer.specs.Standing.{rest_of, leaves}
 use Rattle.beep_peer.specs.declared.refusals.StartError.{StartError}
 use Rattle.beep_peer.specs.declared.refusals.ReleaseError.{ReleaseError}

@@ -2,11 +2,11 @@
 -- sections 2.3.1.2 and 2.3.1.3).
 use Rattle.std.specs.Prelude.{◌≡◌, ℕ, ◌==◌, Bool, true, false, [], length, Option, None, Some, is_some}
 use Rattle.std.specs.List.{list_any}
-use Rattle.beep_mgmt.specs.Form.{Form, greeting, start, chosen, close, okay, fault}
-use Rattle.beep_journal.specs.declared.role.Role.{Role}
-use Rattle.beep_lives.specs.Lives.{live_at}
-use Rattle.beep_decide.specs.Numbers.{may_start}
-use Rattle.beep_management.specs.Managed.{numbers_of}
+use Rattle.beep_upright.specs.beep_mgmt.specs.Form.{Form, greeting, start, chosen, close, okay, fault}
+use Rattle.beep_upright.specs.beep_journal.specs.declared.role.Role.{Role}
+use Rattle.beep_upright.specs.beep_lives.specs.Lives.{live_at}
+use Rattle.beep_upright.specs.beep_decide.specs.Numbers.{may_start}
+use Rattle.beep_upright.specs.beep_management.specs.Managed.{numbers_of}
 use Rattle.beep_peer.specs.declared.peer.Peer.{Peer}
 use Rattle.beep_peer.specs.Standing.{leaves}
 use Rattle.beep_peer.specs.Acts.{asked_of}

@@ -1,29 +1,29 @@
 -- What each call makes of the journal for which a peer stands (RFC 3080, sections 2.2.1 and 2.3.1).
 -- Each speaks of every journal for which the peer stood: none is kept.
 use Rattle.std.specs.Prelude.{◌≡◌, ℕ, ◌⊎◌, ◌==◌, ◌||◌, Bool, true, false, List, [], ◌∷◌, ◌++◌, map, Option, None}
-use Rattle.beep_frame.specs.declared.head.Head.{Head}
-use Rattle.beep_frame.specs.declared.kind.Kind.{Kind}
-use Rattle.beep_history.specs.declared.journal.Side.{Side}
-use Rattle.beep_history.specs.Journal.{Item, began, passed, told}
-use Rattle.beep_journal.specs.Life.{history, is_there, is_released}
-use Rattle.beep_frame.specs.Frame.{framed, seq_frame}
-use Rattle.beep_frame.specs.Spelling.{spelling}
-use Rattle.beep_outbox.specs.Queue.{Message, message_marks, marks_of}
-use Rattle.beep_channel.specs.Held.{Held, Live}
-use Rattle.beep_channel.specs.Stands.{IsNext}
-use Rattle.beep_standing.specs.Standing.{Marks, no_marks, AreLive}
-use Rattle.beep_standing.specs.Due.{has_due, has_ready}
-use Rattle.beep_speaking.specs.declared.emit.Emit.{Emit}
-use Rattle.beep_speaking.specs.Emits.{NoSeq}
+use Rattle.beep_upright.specs.beep_frame.specs.declared.head.Head.{Head}
+use Rattle.beep_upright.specs.beep_frame.specs.declared.kind.Kind.{Kind}
+use Rattle.beep_upright.specs.beep_history.specs.declared.journal.Side.{Side}
+use Rattle.beep_upright.specs.beep_history.specs.Journal.{Item, began, passed, told}
+use Rattle.beep_upright.specs.beep_journal.specs.Life.{history, is_there, is_released}
+use Rattle.beep_upright.specs.beep_frame.specs.Frame.{framed, seq_frame}
+use Rattle.beep_upright.specs.beep_frame.specs.Spelling.{spelling}
+use Rattle.beep_upright.specs.beep_outbox.specs.Queue.{Message, message_marks, marks_of}
+use Rattle.beep_upright.specs.beep_channel.specs.Held.{Held, Live}
+use Rattle.beep_upright.specs.beep_channel.specs.Stands.{IsNext}
+use Rattle.beep_upright.specs.beep_standing.specs.Standing.{Marks, no_marks, AreLive}
+use Rattle.beep_upright.specs.beep_standing.specs.Due.{has_due, has_ready}
+use Rattle.beep_upright.specs.beep_speaking.specs.declared.emit.Emit.{Emit}
+use Rattle.beep_upright.specs.beep_speaking.specs.Emits.{NoSeq}
 use Rattle.std.specs.List.{list_any}
-use Rattle.beep_lives.specs.Lives.{can_send, live_at, owes_seq, IsFirstOf}
-use Rattle.beep_mgmt.specs.Form.{Form}
-use Rattle.beep_decide.specs.Decide.{PlainStanding, decide}
+use Rattle.beep_upright.specs.beep_lives.specs.Lives.{can_send, live_at, owes_seq, IsFirstOf}
+use Rattle.beep_upright.specs.beep_mgmt.specs.Form.{Form}
+use Rattle.beep_upright.specs.beep_decide.specs.Decide.{PlainStanding, decide}
 use Rattle.beep_answering.specs.declared.settled.Settled.{Settled}
 use Rattle.beep_answering.specs.Decided.{SaysAnswer, SettledBy, kind_of}
 use Rattle.beep_hearing.specs.Hears.{IsZeroTaken, SameAbove}
-use Rattle.beep_management.specs.Managed.{Prepared, Managed, without}
-use Rattle.beep_management.specs.Manages.{Manages}
+use Rattle.beep_upright.specs.beep_management.specs.Managed.{Prepared, Managed, without}
+use Rattle.beep_upright.specs.beep_management.specs.Manages.{Manages}
 use Rattle.beep_peer.specs.declared.peer.Peer.{Peer}
 use Rattle.beep_peer.specs.Peering.{AreFew, HasRoomFor, Holds, IsPeer, Carries, is_greeted}
 use Rattle.beep_peer.specs.Waiting.{AreGiven, AllHaveCome}

@@ -1,6 +1,6 @@
 -- What a grant needs to know of the request that it grants.
 use Rattle.std.specs.Prelude.{◌≡◌, ◌<◌, Bool, true, Option, None, Some}
-use Rattle.beep_mgmt.specs.Form.{Form, greeting, start, chosen, close, okay, fault}
+use Rattle.beep_upright.specs.beep_mgmt.specs.Form.{Form, greeting, start, chosen, close, okay, fault}
 
 -- where the request is a close that names a live life, its number is above 0
 abbrev pub NamesAbove : Option Form → Bool → Type 0

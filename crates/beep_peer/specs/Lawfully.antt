@@ -3,21 +3,21 @@
 -- The code keeps no journal, and tests none of this: each call that gives leaves what goes out
 -- lawful.
 use Rattle.std.specs.Prelude.{◌≡◌, ℕ, true, false, List, ◌∷◌, ◌++◌}
-use Rattle.beep_frame.specs.declared.head.Head.{Head}
-use Rattle.beep_frame.specs.Frame.{framed, seq_frame}
-use Rattle.beep_frame.specs.Spelling.{spelling}
-use Rattle.beep_history.specs.declared.journal.Side.{Side}
-use Rattle.beep_history.specs.Journal.{Item, began, passed, told}
-use Rattle.beep_journal.specs.Broken.{none_tunes}
-use Rattle.beep_lawful.specs.declared.terms.Terms.{Terms}
-use Rattle.beep_lawful.specs.Lawful.{IsLawful}
-use Rattle.beep_standing.specs.Standing.{Marks}
-use Rattle.beep_speaking.specs.declared.emit.Emit.{Emit}
+use Rattle.beep_upright.specs.beep_frame.specs.declared.head.Head.{Head}
+use Rattle.beep_upright.specs.beep_frame.specs.Frame.{framed, seq_frame}
+use Rattle.beep_upright.specs.beep_frame.specs.Spelling.{spelling}
+use Rattle.beep_upright.specs.beep_history.specs.declared.journal.Side.{Side}
+use Rattle.beep_upright.specs.beep_history.specs.Journal.{Item, began, passed, told}
+use Rattle.beep_upright.specs.beep_journal.specs.Broken.{none_tunes}
+use Rattle.beep_upright.specs.beep_lawful.specs.declared.terms.Terms.{Terms}
+use Rattle.beep_upright.specs.beep_lawful.specs.Lawful.{IsLawful}
+use Rattle.beep_upright.specs.beep_standing.specs.Standing.{Marks}
+use Rattle.beep_upright.specs.beep_speaking.specs.declared.emit.Emit.{Emit}
 use Rattle.beep_upright.specs.Turns.{kinds_at}
 use Rattle.beep_upright.specs.Upright.{asked_at, AreReady, IsUpright}
 use Rattle.beep_hearing.specs.Hears.{ends_zero}
-use Rattle.beep_channel.specs.Held.{Live}
-use Rattle.beep_management.specs.Managed.{Managed}
+use Rattle.beep_upright.specs.beep_channel.specs.Held.{Live}
+use Rattle.beep_upright.specs.beep_management.specs.Managed.{Managed}
 use Rattle.beep_peer.specs.declared.peer.Peer.{Peer}
 use Rattle.beep_peer.specs.Peering.{IsPeer}
 use Rattle.beep_peer.specs.Calls.{IsSent}

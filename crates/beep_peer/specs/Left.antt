@@ -2,11 +2,11 @@
 -- that a caller who lets it speak until nothing is due comes to an end (RFC 3080, section 2.6.1).
 -- The code keeps no such number.
 use Rattle.std.specs.Prelude.{ℕ, ◌+◌, List, [], ◌∷◌, length}
-use Rattle.beep_outbox.specs.Queue.{marks_of}
-use Rattle.beep_channel.specs.Held.{Live}
-use Rattle.beep_channel.specs.Fits.{as_number}
-use Rattle.beep_lives.specs.Lives.{owes_seq}
-use Rattle.beep_management.specs.Managed.{Prepared, Managed}
+use Rattle.beep_upright.specs.beep_outbox.specs.Queue.{marks_of}
+use Rattle.beep_upright.specs.beep_channel.specs.Held.{Live}
+use Rattle.beep_upright.specs.beep_channel.specs.Fits.{as_number}
+use Rattle.beep_upright.specs.beep_lives.specs.Lives.{owes_seq}
+use Rattle.beep_upright.specs.beep_management.specs.Managed.{Prepared, Managed}
 
 -- a channel: twice its unsent octets and messages, and one where it owes a SEQ
 abbrev pub channel_left : Live → ℕ

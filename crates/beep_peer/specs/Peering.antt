@@ -2,16 +2,16 @@
 -- taken in each live life (RFC 3080, sections 2.2.1 and 2.3.1).
 -- The code keeps no journal: it knows the live channels, and what waits on channel zero.
 use Rattle.std.specs.Prelude.{◌≡◌, ℕ, ◌+◌, ◌≤◌, ◌==◌, ◌||◌, ◌&&◌, not, Bool, true, false, List, [], length, Option, None, Some, is_some}
-use Rattle.beep_frame.specs.declared.head.Head.{Head}
-use Rattle.beep_history.specs.Journal.{Item}
-use Rattle.beep_journal.specs.Life.{is_there, is_released}
-use Rattle.beep_channel.specs.Held.{Live}
-use Rattle.beep_turns.specs.declared.turns.TheConstants.{MAX_CHANNELS}
-use Rattle.beep_standing.specs.Standing.{Marks, AreLive, AreLiveBy}
+use Rattle.beep_upright.specs.beep_frame.specs.declared.head.Head.{Head}
+use Rattle.beep_upright.specs.beep_history.specs.Journal.{Item}
+use Rattle.beep_upright.specs.beep_journal.specs.Life.{is_there, is_released}
+use Rattle.beep_upright.specs.beep_channel.specs.Held.{Live}
+use Rattle.beep_upright.specs.beep_turns.specs.declared.turns.TheConstants.{MAX_CHANNELS}
+use Rattle.beep_upright.specs.beep_standing.specs.Standing.{Marks, AreLive, AreLiveBy}
 use Rattle.beep_hearing.specs.Hears.{Hears, IsZeroTaken, Waits, HasZeroRoom}
-use Rattle.beep_asked.specs.Kept.{Kept, oldest}
-use Rattle.beep_management.specs.Managed.{Prepared, Managed, octets_prepared}
-use Rattle.beep_management.specs.Manages.{Manages}
+use Rattle.beep_upright.specs.beep_asked.specs.Kept.{Kept, oldest}
+use Rattle.beep_upright.specs.beep_management.specs.Managed.{Prepared, Managed, octets_prepared}
+use Rattle.beep_upright.specs.beep_management.specs.Manages.{Manages}
 use Rattle.beep_peer.specs.declared.peer.Peer.{Peer}
 
 -- as many channels as there may be are live or starting, or fewer; channel zero is one more

@@ -1,10 +1,10 @@
 -- What stands as a request of the peer comes, by what a session keeps (RFC 3080, section 2.3.1).
 use Rattle.std.specs.Prelude.{ℕ, ◌||◌, Bool, if◌then◌else◌, List, [], ◌∷◌, ◌++◌, filter}
-use Rattle.beep_journal.specs.declared.role.Role.{Role}
-use Rattle.beep_lives.specs.Lives.{numbers}
-use Rattle.beep_decide.specs.Decide.{PlainOffer, PlainStanding}
-use Rattle.beep_asked.specs.Kept.{closes, is_leaving}
-use Rattle.beep_management.specs.Managed.{Managed, numbers_of}
+use Rattle.beep_upright.specs.beep_journal.specs.declared.role.Role.{Role}
+use Rattle.beep_upright.specs.beep_lives.specs.Lives.{numbers}
+use Rattle.beep_upright.specs.beep_decide.specs.Decide.{PlainOffer, PlainStanding}
+use Rattle.beep_upright.specs.beep_asked.specs.Kept.{closes, is_leaving}
+use Rattle.beep_upright.specs.beep_management.specs.Managed.{Managed, numbers_of}
 use Rattle.beep_peer.specs.declared.peer.Peer.{Peer}
 
 -- an own close of 0 waits

@@ -2,12 +2,12 @@
 -- section 2.3.1.3).
 -- The code asks the channels that it has; here each number above 0 is asked.
 use Rattle.std.specs.Prelude.{◌≡◌, ℕ, ◌==◌, true, false, List, [], ◌∷◌, ◌++◌, Some, IfSome}
-use Rattle.beep_outbox.specs.Queue.{Message}
-use Rattle.beep_channel.specs.Held.{Live, is_held_drained}
-use Rattle.beep_lives.specs.Lives.{live_at, numbers}
-use Rattle.beep_asked.specs.Kept.{asks_otherwise}
-use Rattle.beep_management.specs.declared.wait.Wait.{Wait}
-use Rattle.beep_management.specs.Managed.{Prepared, Managed, first_of}
+use Rattle.beep_upright.specs.beep_outbox.specs.Queue.{Message}
+use Rattle.beep_upright.specs.beep_channel.specs.Held.{Live, is_held_drained}
+use Rattle.beep_upright.specs.beep_lives.specs.Lives.{live_at, numbers}
+use Rattle.beep_upright.specs.beep_asked.specs.Kept.{asks_otherwise}
+use Rattle.beep_upright.specs.beep_management.specs.declared.wait.Wait.{Wait}
+use Rattle.beep_upright.specs.beep_management.specs.Managed.{Prepared, Managed, first_of}
 
 -- the number is 0, or its channel has ended or is drained
 abbrev pub IsDrainedAt : ℕ → List Live → Type 0

@@ -2,16 +2,16 @@
 //! and 2.3.1.3).
 ghost use Rattle.std.specs.Prelude.{◌≡◌, ◌+◌, ◌<◌, ◌≤◌, ℕ, List, length, map, None, Some, false, IfOk, OnOk, OnErr};
 ghost use Rattle.std.specs.Option.{option_to_list};
-ghost use Rattle.beep_history.specs.Journal.{Item};
-ghost use Rattle.beep_history.specs.declared.limits.TheConstants.{MAX_REQUESTS};
-ghost use Rattle.beep_mgmt.specs.Form.{form_of, plain_profile, start};
-ghost use Rattle.beep_turns.specs.declared.turns.TheConstants.{MAX_CHANNELS};
-ghost use Rattle.beep_lives.specs.Lives.{live_at};
-ghost use Rattle.beep_lawful.specs.declared.terms.Terms.{Terms};
-ghost use Rattle.beep_standing.specs.Standing.{Marks};
+ghost use Rattle.beep_upright.specs.beep_history.specs.Journal.{Item};
+ghost use Rattle.beep_upright.specs.beep_history.specs.declared.limits.TheConstants.{MAX_REQUESTS};
+ghost use Rattle.beep_upright.specs.beep_mgmt.specs.Form.{form_of, plain_profile, start};
+ghost use Rattle.beep_upright.specs.beep_turns.specs.declared.turns.TheConstants.{MAX_CHANNELS};
+ghost use Rattle.beep_upright.specs.beep_lives.specs.Lives.{live_at};
+ghost use Rattle.beep_upright.specs.beep_lawful.specs.declared.terms.Terms.{Terms};
+ghost use Rattle.beep_upright.specs.beep_standing.specs.Standing.{Marks};
 ghost use Rattle.beep_upright.specs.Upright.{IsUpright};
-ghost use Rattle.beep_management.specs.Managed.{number_started};
-ghost use Rattle.beep_management.specs.Manages.{AreFresh};
+ghost use Rattle.beep_upright.specs.beep_management.specs.Managed.{number_started};
+ghost use Rattle.beep_upright.specs.beep_management.specs.Manages.{AreFresh};
 ghost use Rattle.beep_peer.specs.Peering.{Holds, AreHeld, is_over};
 ghost use Rattle.beep_answering.specs.Sent.{IsMessage};
 ghost use Rattle.beep_peer.specs.Asking.{MayAsk};
@@ -20,12 +20,12 @@ ghost use Rattle.beep_peer.specs.Acts.{asked_of, first_asked_of, lowest_used, co
 use crate::peer::Peer;
 use crate::refusals::{CloseError, ReleaseError, StartError};
 use crate::room::reserve_with;
-use beep_asked::Request;
-use beep_channel::Channel;
-use beep_history::MAX_REQUESTS;
-use beep_mgmt::{Mgmt, Profile, Profiles};
-use beep_octets::{NoMemory, Octets};
-use beep_turns::MAX_CHANNELS;
+use beep_upright::beep_asked::Request;
+use beep_upright::beep_channel::Channel;
+use beep_upright::beep_history::MAX_REQUESTS;
+use beep_upright::beep_mgmt::{Mgmt, Profile, Profiles};
+use beep_upright::beep_octets::{NoMemory, Octets};
+use beep_upright::beep_turns::MAX_CHANNELS;
 use std::alloc::Global;
 
 impl Peer {

@@ -1,8 +1,8 @@
 //! A peer of a session that begins (RFC 3080, section 2.3.1.1).
 ghost use Rattle.std.specs.Prelude.{◌≡◌, ◌≤◌, List, [], IfOk};
-ghost use Rattle.beep_seq.specs.declared.limits.TheConstants.{MIN_WINDOW, MAX_WINDOW};
-ghost use Rattle.beep_decide.specs.Decide.{PlainOffer};
-ghost use Rattle.beep_lawful.specs.declared.terms.Terms.{Terms};
+ghost use Rattle.beep_upright.specs.beep_seq.specs.declared.limits.TheConstants.{MIN_WINDOW, MAX_WINDOW};
+ghost use Rattle.beep_upright.specs.beep_decide.specs.Decide.{PlainOffer};
+ghost use Rattle.beep_upright.specs.beep_lawful.specs.declared.terms.Terms.{Terms};
 ghost use Rattle.beep_upright.specs.Upright.{IsUpright};
 ghost use Rattle.beep_answering.specs.Sent.{IsMessage, greeting_of};
 ghost use Rattle.beep_peer.specs.Peering.{IsReached};
@@ -11,9 +11,9 @@ ghost use Rattle.beep_peer.specs.Calls.{Begins};
 use crate::letting::let_go;
 use crate::peer::Peer;
 use beep_hearing::Ear;
-use beep_lives::Lives;
-use beep_management::Management;
-use beep_octets::{NoMemory, Octets};
+use beep_upright::beep_lives::Lives;
+use beep_upright::beep_management::Management;
+use beep_upright::beep_octets::{NoMemory, Octets};
 use std::alloc::Global;
 
 impl Peer {

@@ -1,22 +1,22 @@
 //! What the grant of a request of channel zero makes of the live channels (RFC 3080, sections
 //! 2.3.1.2 and 2.3.1.3).
 ghost use Rattle.std.specs.Prelude.{◌≡◌, ℕ, ◌≤◌, ◌∷◌, [], length, not, nat_lt, ◌&&◌, List, None, Some, true, IfSome};
-ghost use Rattle.beep_mgmt.specs.Form.{close};
-ghost use Rattle.beep_lives.specs.Lives.{live_at};
+ghost use Rattle.beep_upright.specs.beep_mgmt.specs.Form.{close};
+ghost use Rattle.beep_upright.specs.beep_lives.specs.Lives.{live_at};
 ghost use Rattle.std.specs.Option.{option_to_list};
-ghost use Rattle.beep_channel.specs.Held.{Live};
-ghost use Rattle.beep_decide.specs.Asks.{is_close_of};
-ghost use Rattle.beep_turns.specs.declared.turns.TheConstants.{MAX_CHANNELS};
-ghost use Rattle.beep_asked.specs.Request.{kept_of};
-ghost use Rattle.beep_management.specs.Managed.{number_started};
-ghost use Rattle.beep_management.specs.Manages.{IsFresh, AreFresh};
-ghost use Rattle.beep_management.specs.Moved.{Does, JoinsWhere, is_live_in};
+ghost use Rattle.beep_upright.specs.beep_channel.specs.Held.{Live};
+ghost use Rattle.beep_upright.specs.beep_decide.specs.Asks.{is_close_of};
+ghost use Rattle.beep_upright.specs.beep_turns.specs.declared.turns.TheConstants.{MAX_CHANNELS};
+ghost use Rattle.beep_upright.specs.beep_asked.specs.Request.{kept_of};
+ghost use Rattle.beep_upright.specs.beep_management.specs.Managed.{number_started};
+ghost use Rattle.beep_upright.specs.beep_management.specs.Manages.{IsFresh, AreFresh};
+ghost use Rattle.beep_upright.specs.beep_management.specs.Moved.{Does, JoinsWhere, is_live_in};
 ghost use Rattle.beep_peer.specs.Grants.{NamesAbove};
 
-use beep_channel::Channel;
-use beep_lives::Lives;
-use beep_management::Answered;
-use beep_mgmt::Mgmt;
+use beep_upright::beep_channel::Channel;
+use beep_upright::beep_lives::Lives;
+use beep_upright::beep_management::Answered;
+use beep_upright::beep_mgmt::Mgmt;
 
 /// Does to the channels what the grant of a request makes of lives: a start has its channel join, a
 /// close has the channel leave that it names. True where the session is released.

@@ -1,18 +1,18 @@
 //! Answers that are given once nothing holds them back (RFC 3080, section 2.3.1.3).
 ghost use Rattle.std.specs.Prelude.{◌≡◌, ◌↔◌, ◌≤◌, ℕ, ◌==◌, true, false, List, Some, IfSome, IfNone};
-ghost use Rattle.beep_history.specs.Journal.{Item};
-ghost use Rattle.beep_lawful.specs.declared.terms.Terms.{Terms};
-ghost use Rattle.beep_standing.specs.Standing.{Marks};
+ghost use Rattle.beep_upright.specs.beep_history.specs.Journal.{Item};
+ghost use Rattle.beep_upright.specs.beep_lawful.specs.declared.terms.Terms.{Terms};
+ghost use Rattle.beep_upright.specs.beep_standing.specs.Standing.{Marks};
 ghost use Rattle.beep_upright.specs.Upright.{IsUpright};
-ghost use Rattle.beep_management.specs.Managed.{first_of};
-ghost use Rattle.beep_management.specs.Values.{prepared_of};
+ghost use Rattle.beep_upright.specs.beep_management.specs.Managed.{first_of};
+ghost use Rattle.beep_upright.specs.beep_management.specs.Values.{prepared_of};
 ghost use Rattle.beep_peer.specs.Peering.{Holds, AreHeld};
 ghost use Rattle.beep_peer.specs.Calls.{LetsGo};
 ghost use Rattle.beep_peer.specs.Left.{left_to_say};
 ghost use Rattle.beep_peer.specs.Waiting.{IsDrainedAt, HasCome, AreLetGo, IsStuck, KeepsAbove};
 
-use beep_lives::Lives;
-use beep_management::{Answer, Management, Wait};
+use beep_upright::beep_lives::Lives;
+use beep_upright::beep_management::{Answer, Management, Wait};
 
 /// Gives the answers that wait for nothing more, in the order of their requests. It takes no
 /// memory.

@@ -24,3 +24,12 @@ pub use settle::{settle_reply, settle_request};
 pub use settle_error::SettleError;
 pub use speech::speak;
 pub use standing::stand;
+
+// Crates below, which are named through this one.
+pub use beep_answering;
+pub use beep_hearing;
+pub use beep_upright::{
+    beep_channel, beep_chars, beep_decide, beep_frame, beep_history, beep_inbox, beep_journal,
+    beep_lawful, beep_lives, beep_management, beep_mgmt, beep_octets, beep_outbox, beep_seq,
+    beep_speaking, beep_text,
+};

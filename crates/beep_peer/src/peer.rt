@@ -2,8 +2,8 @@
 ghost use Rattle.std.specs.Prelude.{◌≡◌, ◌||◌};
 
 use beep_hearing::Ear;
-use beep_lives::Lives;
-use beep_management::Management;
+use beep_upright::beep_lives::Lives;
+use beep_upright::beep_management::Management;
 
 /// What was heard, the live channels, what is kept of channel zero, and whether the session is
 /// released.
@@ -16,7 +16,7 @@ pub struct Peer {
 }
 
 impl Peer {
-    ghost use Rattle.beep_asked.specs.Kept.{is_leaving};
+    ghost use Rattle.beep_upright.specs.beep_asked.specs.Kept.{is_leaving};
     ghost use Rattle.beep_peer.specs.Peering.{is_over, is_greeted, is_welcomed};
 
     /// Whether the session is over: a rule was broken, or it is released.

@@ -1,13 +1,13 @@
 //! Room in channel zero for the answers that wait, so that each is given without memory.
 ghost use Rattle.std.specs.Prelude.{◌≡◌, ◌+◌, length, IsSome, OnOk};
-ghost use Rattle.beep_lives.specs.Lives.{live_at, runs_of};
-ghost use Rattle.beep_lives.specs.Edits.{Edits, KeepsHeld};
+ghost use Rattle.beep_upright.specs.beep_lives.specs.Lives.{live_at, runs_of};
+ghost use Rattle.beep_upright.specs.beep_lives.specs.Edits.{Edits, KeepsHeld};
 ghost use Rattle.beep_hearing.specs.Hears.{HasZeroRoom};
-ghost use Rattle.beep_management.specs.Managed.{octets_prepared};
+ghost use Rattle.beep_upright.specs.beep_management.specs.Managed.{octets_prepared};
 
-use beep_lives::Lives;
-use beep_management::Management;
-use beep_octets::NoMemory;
+use beep_upright::beep_lives::Lives;
+use beep_upright::beep_management::Management;
+use beep_upright::beep_octets::NoMemory;
 
 /// Makes room in channel zero for the answers that wait, and for one message more of so many
 /// octets.

@@ -1,6 +1,6 @@
 //! Why a message of channel zero isn't settled.
 
-use beep_frame::Rule;
+use beep_upright::beep_frame::Rule;
 
 /// Why a message of channel zero isn't settled.
 #[derive(Clone, Copy, Debug, PartialEq, Eq)]

@@ -1,20 +1,20 @@
 //! What goes out next of a peer (RFC 3080, sections 2.2.1 and 2.3.1; RFC 3081, section 3.1).
 ghost use Rattle.std.specs.Prelude.{◌≡◌, ◌≢◌, ◌||◌, ◌+◌, ◌<◌, ◌≤◌, ◌∷◌, ℕ, List, true, false, length};
-ghost use Rattle.beep_octets.specs.Held.{KeepsRoom};
-ghost use Rattle.beep_frame.specs.declared.head.Head.{Head as HeadValue};
-ghost use Rattle.beep_frame.specs.declared.head.TheConstants.{MAX_NUMBER};
-ghost use Rattle.beep_frame.specs.declared.limits.TheConstants.{MAX_PAYLOAD};
-ghost use Rattle.beep_frame.specs.declared.seq.Seq.{Seq as SeqValue};
-ghost use Rattle.beep_frame.specs.declared.spelling.TheConstants.{SPELL_ROOM};
-ghost use Rattle.beep_history.specs.declared.journal.Side.{Side};
-ghost use Rattle.beep_history.specs.Journal.{Item, began, passed};
-ghost use Rattle.beep_journal.specs.Life.{is_released};
-ghost use Rattle.beep_lawful.specs.declared.terms.Terms.{Terms};
-ghost use Rattle.beep_standing.specs.Standing.{Marks};
+ghost use Rattle.beep_upright.specs.beep_octets.specs.Held.{KeepsRoom};
+ghost use Rattle.beep_upright.specs.beep_frame.specs.declared.head.Head.{Head as HeadValue};
+ghost use Rattle.beep_upright.specs.beep_frame.specs.declared.head.TheConstants.{MAX_NUMBER};
+ghost use Rattle.beep_upright.specs.beep_frame.specs.declared.limits.TheConstants.{MAX_PAYLOAD};
+ghost use Rattle.beep_upright.specs.beep_frame.specs.declared.seq.Seq.{Seq as SeqValue};
+ghost use Rattle.beep_upright.specs.beep_frame.specs.declared.spelling.TheConstants.{SPELL_ROOM};
+ghost use Rattle.beep_upright.specs.beep_history.specs.declared.journal.Side.{Side};
+ghost use Rattle.beep_upright.specs.beep_history.specs.Journal.{Item, began, passed};
+ghost use Rattle.beep_upright.specs.beep_journal.specs.Life.{is_released};
+ghost use Rattle.beep_upright.specs.beep_lawful.specs.declared.terms.Terms.{Terms};
+ghost use Rattle.beep_upright.specs.beep_standing.specs.Standing.{Marks};
 ghost use Rattle.beep_upright.specs.Upright.{IsUpright};
 ghost use Rattle.beep_upright.specs.Frames.{AreFrames, IsFramed};
 ghost use Rattle.beep_hearing.specs.Hears.{Hears, ends_zero};
-ghost use Rattle.beep_speaking.specs.declared.emit.Emit.{Emit as EmitValue};
+ghost use Rattle.beep_upright.specs.beep_speaking.specs.declared.emit.Emit.{Emit as EmitValue};
 ghost use Rattle.beep_peer.specs.Peering.{IsPeer, IsGoing};
 ghost use Rattle.beep_peer.specs.Calls.{HasSent, IsSent, Speaks, TakesTurn};
 ghost use Rattle.beep_peer.specs.Waiting.{IsStuck};
@@ -24,9 +24,9 @@ ghost use Rattle.beep_peer.specs.Lawfully.{IsLawfulPeer, GoesUprightly, SpeaksLa
 use crate::letting::let_go;
 use crate::peer::Peer;
 use crate::went::went;
-use beep_frame::Head;
-use beep_octets::Octets;
-use beep_speaking::{Emit, emit_next};
+use beep_upright::beep_frame::Head;
+use beep_upright::beep_octets::Octets;
+use beep_upright::beep_speaking::{Emit, emit_next};
 
 /// Appends to `out` what goes next, of at most `most` octets of payload, and does what it says. It
 /// takes no memory: `scratch` has room for the payload.

@@ -1,16 +1,16 @@
 //! What stands as a request of the peer comes (RFC 3080, section 2.3.1).
 ghost use Rattle.std.specs.Prelude.{◌≡◌, ◌∷◌, ◌++◌, [], filter, map, OnOk};
-ghost use Rattle.beep_lives.specs.Lives.{numbers};
-ghost use Rattle.beep_asked.specs.Kept.{closes};
-ghost use Rattle.beep_decide.specs.Plain.{plain_offer, plain_standing};
+ghost use Rattle.beep_upright.specs.beep_lives.specs.Lives.{numbers};
+ghost use Rattle.beep_upright.specs.beep_asked.specs.Kept.{closes};
+ghost use Rattle.beep_upright.specs.beep_decide.specs.Plain.{plain_offer, plain_standing};
 ghost use Rattle.beep_peer.specs.Standing.{rest_of};
 ghost use Rattle.beep_peer.specs.Standing.{standing_of};
 
 use crate::peer::Peer;
-use beep_asked::Waiting;
-use beep_decide::Standing;
-use beep_lives::Lives;
-use beep_octets::NoMemory;
+use beep_upright::beep_asked::Waiting;
+use beep_upright::beep_decide::Standing;
+use beep_upright::beep_lives::Lives;
+use beep_upright::beep_octets::NoMemory;
 
 /// Notes what stands now. Its role and its offers stay.
 pub fn stand(standing: &mut Standing, peer: &Peer) -> Result<(), NoMemory>

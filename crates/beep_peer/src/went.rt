@@ -1,20 +1,20 @@
 //! What the last frame of an own message of channel zero makes of a session, as it goes out (RFC
 //! 3080, section 2.3.1).
 ghost use Rattle.std.specs.Prelude.{◌≡◌, ◌≤◌, ℕ, ◌∷◌, List};
-ghost use Rattle.beep_frame.specs.declared.head.Head.{Head};
-ghost use Rattle.beep_history.specs.declared.journal.Side.{Side};
-ghost use Rattle.beep_history.specs.Journal.{Item, began, passed};
-ghost use Rattle.beep_lawful.specs.declared.terms.Terms.{Terms};
-ghost use Rattle.beep_standing.specs.Standing.{Marks};
+ghost use Rattle.beep_upright.specs.beep_frame.specs.declared.head.Head.{Head};
+ghost use Rattle.beep_upright.specs.beep_history.specs.declared.journal.Side.{Side};
+ghost use Rattle.beep_upright.specs.beep_history.specs.Journal.{Item, began, passed};
+ghost use Rattle.beep_upright.specs.beep_lawful.specs.declared.terms.Terms.{Terms};
+ghost use Rattle.beep_upright.specs.beep_standing.specs.Standing.{Marks};
 ghost use Rattle.beep_upright.specs.Turns.{kinds_at};
 ghost use Rattle.beep_upright.specs.Upright.{asked_at, AreReady, IsUpright};
 ghost use Rattle.beep_peer.specs.Calls.{AreLeft, HasGone, IsDone};
 ghost use Rattle.beep_peer.specs.Left.{left_to_say};
 
 use crate::grant::grant;
-use beep_frame::Kind;
-use beep_lives::Lives;
-use beep_management::Management;
+use beep_upright::beep_frame::Kind;
+use beep_upright::beep_lives::Lives;
+use beep_upright::beep_management::Management;
 
 /// The last frame of a message of this kind has passed: an own request waits, and an own reply
 /// grants or refuses the oldest request of the peer. True where the session is released.

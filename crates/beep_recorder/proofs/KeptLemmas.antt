@@ -15,7 +15,7 @@ use Rattle.beep_record.specs.Record.{has_ended, IsOrdered}
 use Rattle.beep_record.specs.Written.{Writes}
 use Rattle.beep_recorder.specs.Said.{entry_said, log_said}
 use Rattle.beep_journal.specs.declared.role.Role.{Role}
-use Rattle.beep_recorder.specs.Kept.{IsUnread, IsGiven, EndsWith, IsTold, is_recorded, first_given, Recording, given_by, IsKnown, RecordsLink, RecordsKnown}
+use Rattle.beep_recorder.specs.Kept.{IsUnread, IsGiven, EndsWith, IsLogOf, is_recorded, first_given, Recording, given_by, IsKnown, RecordsLink, RecordsKnown}
 use Rattle.beep_recorder.specs.Ordered.{is_ordered}
 
 -- ---- the order of entries
@@ -92,8 +92,8 @@ module _ (short : Bool) (link : Option ℕ) (m : ℕ) (log : List Entry) (state 
   pub beside-ended : EndsWith short state link log → EndsWith short state2 link log
   beside-ended ends = λ n whole is. ends n whole is ∙ ap (λ l. l.has_ended) (sym (others n (other-link short link n m not_it whole is)))
 
-  pub beside-told : IsTold short state link log → IsTold short state2 link log
-  beside-told told = λ n entries whole is log_is. told n entries whole is (ap (λ l. l.log) (sym (others n (other-link short link n m not_it whole is))) ∙ log_is)
+  pub beside-logged : IsLogOf short state link log → IsLogOf short state2 link log
+  beside-logged logged = λ n entries whole is log_is. logged n entries whole is (ap (λ l. l.log) (sym (others n (other-link short link n m not_it whole is))) ∙ log_is)
 
 -- ---- the link itself
 
@@ -104,17 +104,17 @@ module _ (short : Bool) (link : Option ℕ) (m : ℕ) (log : List Entry) (state 
       let both : Some n ≡ Some m = sym is ∙ recorded-link short link m it in
       cc both
 
-  told-more : (old : Option (List LinkEntry)) (entries : List LinkEntry) → Logs old (Some entries) more → ((l : List LinkEntry) → old ≡ Some l → log ≡ log_said l)
+  logged-more : (old : Option (List LinkEntry)) (entries : List LinkEntry) → Logs old (Some entries) more → ((l : List LinkEntry) → old ≡ Some l → log ≡ log_said l)
       → log2 ≡ log_said more ++ log → log2 ≡ log_said entries
-  told-more None entries logs told grown = absurd logs
-  told-more (Some l) entries logs told grown =
-      grown ∙ ap (λ x. log_said more ++ x) (told l refl) ∙ sym (map-append entry_said more l) ∙ ap log_said (sym logs)
+  logged-more None entries logs logged grown = absurd logs
+  logged-more (Some l) entries logs logged grown =
+      grown ∙ ap (λ x. log_said more ++ x) (logged l refl) ∙ sym (map-append entry_said more l) ∙ ap log_said (sym logs)
 
-  pub it-told : Logs (state m).log (state2 m).log more → IsTold short state link log → IsTold (not is_kept) state2 link log2
-  it-told logs told = λ n entries whole is log_is.
+  pub it-logged : Logs (state m).log (state2 m).log more → IsLogOf short state link log → IsLogOf (not is_kept) state2 link log2
+  it-logged logs logged = λ n entries whole is log_is.
       let same = same-link n is in
-      told-more (state m).log entries (subst (λ (o : Option (List LinkEntry)). Logs (state m).log o more) (ap (λ k. (state2 k).log) (sym same) ∙ log_is) logs)
-      (λ l log_was. told m l (recorded-whole short link m it) (recorded-link short link m it) log_was)
+      logged-more (state m).log entries (subst (λ (o : Option (List LinkEntry)). Logs (state m).log o more) (ap (λ k. (state2 k).log) (sym same) ∙ log_is) logs)
+      (λ l log_was. logged m l (recorded-whole short link m it) (recorded-link short link m it) log_was)
       (kept (not-false is_kept whole))
 
   pub it-ends : (has_ended (log_said more ++ log) ≡ (state2 m).has_ended) → EndsWith (not is_kept) state2 link log2
@@ -191,14 +191,14 @@ given-ended short None log state state2 given (Err e) unread within number fresh
 given-ended short (Some k) log state state2 given r unread within number fresh leaves ends = λ n whole is.
     ends n whole is ∙ ap (λ l. l.has_ended) (sym (as-before state state2 given n r (within n whole is) number leaves))
 
-pub given-told : (short : Bool) (link : Option ℕ) (log : List Entry) (state state2 : ℕ → Link) (given : ℕ) (r : Result ℕ WireError) → IsUnread short link log → IsGiven short given link
-    → IfOk r (λ m. m ≡ given) → IfOk r (λ m. IsFresh (state2 m)) → LeavesLinks r state state2 → IsTold short state link log → IsTold short state2 (first_given link r) log
-given-told short None log state state2 given (Ok m) unread within number fresh leaves told = λ n entries whole is log_is.
+pub given-logged : (short : Bool) (link : Option ℕ) (log : List Entry) (state state2 : ℕ → Link) (given : ℕ) (r : Result ℕ WireError) → IsUnread short link log → IsGiven short given link
+    → IfOk r (λ m. m ≡ given) → IfOk r (λ m. IsFresh (state2 m)) → LeavesLinks r state state2 → IsLogOf short state link log → IsLogOf short state2 (first_given link r) log
+given-logged short None log state state2 given (Ok m) unread within number fresh leaves logged = λ n entries whole is log_is.
     let same : m ≡ n = cc is in
     unread whole refl ∙ ap log_said (sym (fresh-log (state2 m).log entries fresh.unread (ap (λ k. (state2 k).log) same ∙ log_is)))
-given-told short None log state state2 given (Err e) unread within number fresh leaves told = λ n entries whole is log_is. absurd (cc is)
-given-told short (Some k) log state state2 given r unread within number fresh leaves told = λ n entries whole is log_is.
-    told n entries whole is (ap (λ l. l.log) (sym (as-before state state2 given n r (within n whole is) number leaves)) ∙ log_is)
+given-logged short None log state state2 given (Err e) unread within number fresh leaves logged = λ n entries whole is log_is. absurd (cc is)
+given-logged short (Some k) log state state2 given r unread within number fresh leaves logged = λ n entries whole is log_is.
+    logged n entries whole is (ap (λ l. l.log) (sym (as-before state state2 given n r (within n whole is) number leaves)) ∙ log_is)
 
 -- ---- a link that is shut
 
@@ -224,8 +224,8 @@ module _ (short : Bool) (link : Option ℕ) (m : ℕ) (log : List Entry) (state 
   pub shut-ended : EndsWith short state link log → EndsWith short state2 link log
   shut-ended ends = λ n whole is. ends n whole is ∙ sym (shut-end n)
 
-  pub shut-told : IsTold short state link log → IsTold short state2 link log
-  shut-told told = λ n entries whole is log_is. told n entries whole is (sym (shut-log n) ∙ log_is)
+  pub shut-logged : IsLogOf short state link log → IsLogOf short state2 link log
+  shut-logged logged = λ n entries whole is log_is. logged n entries whole is (sym (shut-log n) ∙ log_is)
 
 -- ---- what is known to be recorded
 
@@ -300,16 +300,16 @@ it-given short link m short2 given given2 it same within = λ n whole is. omega 
 records-some : (state : ℕ → Link) (link : Option ℕ) (recording : Recording) (given : ℕ) (role : Role) (log : List Entry) (old new : List ℕ) → recording.first < given
     → (role ≡ recording.role) → link ≡ given_by recording.first given → ((n : ℕ) (entries : List LinkEntry) → link ≡ Some n → (state n).log ≡ Some entries → log ≡ log_said entries)
     → Writes role log old new → RecordsLink (state recording.first) recording.role old new
-records-some state link recording given role log old new less same is told writes = record {
+records-some state link recording given role log old new less same is logged writes = record {
   log = log;
-  told = λ entries. told recording.first entries (is ∙ here-given recording.first given less);
+  logged = λ entries. logged recording.first entries (is ∙ here-given recording.first given less);
   writes = subst (λ (r : Role). Writes r log old new) same writes;
 }
 
 pub records-known : {E : Type 0} (known : Option Recording) (short : Bool) (link : Option ℕ) (given : ℕ) (role : Role) (state : ℕ → Link) (log : List Entry) (old new : List ℕ) (r : Result (Unit {0}) E) → short ≡ false
     → IsKnown known short link given role → ((n : ℕ) (entries : List LinkEntry) → short ≡ false → link ≡ Some n → (state n).log ≡ Some entries → log ≡ log_said entries)
     → OnOk r (Writes role log old new) → OnOk r (RecordsKnown known state given old new)
-records-known known short link given role state log old new (Ok one) whole k told writes = λ recording is less.
+records-known known short link given role state log old new (Ok one) whole k logged writes = λ recording is less.
     let it = k recording is in
-    records-some state link recording given role log old new less it.0 (it.2 whole) (λ n entries. told n entries whole) writes
-records-known known short link given role state log old new (Err e) whole k told writes = tt
+    records-some state link recording given role log old new less it.0 (it.2 whole) (λ n entries. logged n entries whole) writes
+records-known known short link given role state log old new (Err e) whole k logged writes = tt

@@ -24,8 +24,8 @@ EndsWith short state link log =
     (n : ℕ) → short ≡ false → link ≡ Some n → has_ended log ≡ (state n).has_ended
 
 -- what is kept is the link's own log, where that is known
-abbrev pub IsTold : Bool → (ℕ → Link) → Option ℕ → List Entry → Type 0
-IsTold short state link log =
+abbrev pub IsLogOf : Bool → (ℕ → Link) → Option ℕ → List Entry → Type 0
+IsLogOf short state link log =
     (n : ℕ) (entries : List LinkEntry) → short ≡ false → link ≡ Some n
     → (state n).log ≡ Some entries → log ≡ log_said entries
 
@@ -39,7 +39,7 @@ Records state link role old new =
 -- that is known
 pub record RecordsLink (link : Link) (role : Role) (old new : List ℕ) : Type 0 where
   pub log : List Entry
-  pub told : (entries : List LinkEntry) → link.log ≡ Some entries → log ≡ log_said entries
+  pub logged : (entries : List LinkEntry) → link.log ≡ Some entries → log ≡ log_said entries
   pub writes : Writes role log old new
 
 -- ---- which link is recorded

@@ -11,3 +11,6 @@ mod recorder;
 
 pub use known::Known;
 pub use recorder::Recorder;
+
+// Crates below, which are named through this one.
+pub use beep_record;

@@ -1,7 +1,7 @@
 //! Links that are passed on, and the log of one of them.
 ghost use Rattle.std.specs.Prelude.{◌≡◌, ◌<◌, ℕ, List, [], Option, Some, None, true, false, OnOk, OnErr};
 ghost use Rattle.beep_record.specs.Record.{IsOrdered};
-ghost use Rattle.beep_recorder.specs.Kept.{IsUnread, IsGiven, EndsWith, IsTold, IsKnown};
+ghost use Rattle.beep_recorder.specs.Kept.{IsUnread, IsGiven, EndsWith, IsLogOf, IsKnown};
 ghost use Rattle.beep_recorder.specs.Ordered.{is_ordered};
 
 use crate::keep::{first_given, is_recorded, keep_read, keep_write};
@@ -26,7 +26,7 @@ pub struct Recorder<'w, W: Wires, K: Known = Brand> {
     ghost unread: { IsUnread short link log.entries },
     ghost given: { IsGiven short (W.counts wires.now).given link },
     ghost ended: { EndsWith short (W.state wires.now) link log.entries },
-    ghost told: { IsTold short (W.state wires.now) link log.entries },
+    ghost logged: { IsLogOf short (W.state wires.now) link log.entries },
     ghost known: { IsKnown K.known short link (W.counts wires.now).given log.role },
 }
 
@@ -76,7 +76,7 @@ impl<'w, W: Wires, K: Known> Recorder<'w, W, K> {
     pub fn log(&self) -> &Log
         ensures value { result.now ≡ self.now.log }
         ensures ordered { IsOrdered result.now.entries }
-        ensures told { (n : ℕ) (entries : List LinkEntry) → self.now.short ≡ false
+        ensures logged { (n : ℕ) (entries : List LinkEntry) → self.now.short ≡ false
             → self.now.link ≡ Some n → (W.state self.now.wires.now n).log ≡ Some entries
             → result.now.entries ≡ log_said entries }
     {

@@ -4,29 +4,29 @@ use Rattle.std.specs.List.{list_any}
 use Rattle.std.specs.Option.{is_none}
 use Rattle.std.proofs.lemmas.Bool.{eqb-true}
 use Rattle.std.proofs.lemmas.List.{append_assoc}
-use Rattle.beep_chars.proofs.BoolLemmas.{left_of, right_of}
-use Rattle.beep_frame.specs.declared.head.Head.{Head}
-use Rattle.beep_frame.specs.declared.kind.Kind.{Kind}
-use Rattle.beep_frame.specs.Frame.{is_msg, same_kind}
-use Rattle.beep_history.specs.declared.journal.Side.{Side}
-use Rattle.beep_history.specs.Journal.{Item, began, passed, told}
-use Rattle.beep_history.specs.Marks.{requests, waiting, is_answered, position_of, marks}
-use Rattle.beep_history.specs.Broken.{KeepsExchangeRules}
-use Rattle.beep_history.proofs.SoundLemmas.{requests-numbered}
-use Rattle.beep_mgmt.specs.Form.{Form, greeting, start, chosen, close, okay, fault}
-use Rattle.beep_mgmt.specs.Message.{message_said}
-use Rattle.beep_journal.specs.Broken.{none_tunes}
-use Rattle.beep_journal.specs.Laws.{IsUnbroken}
-use Rattle.beep_journal.specs.Lives.{lives}
-use Rattle.beep_journal.specs.Life.{is_released}
-use Rattle.beep_journal.specs.Zero.{channel_of, zero_history, gathered, asked, said_at, said_to, has_form, completes_form, events}
-use Rattle.beep_journal.proofs.MomentLemmas.{equal-number}
-use Rattle.beep_decide.specs.Asks.{is_close_of}
-use Rattle.beep_lawful.specs.declared.breach.Breach.{Breach}
-use Rattle.beep_lawful.specs.declared.terms.Terms.{Terms}
-use Rattle.beep_lawful.specs.Closing.{has_begun, none_waits_before, was_idle_since}
-use Rattle.beep_lawful.specs.Lawful.{first_breach, breaks_apart, breaks_content, breaks_ok_too_soon, breaks_close_unanswered, content_tests, request_said, granted_said, granted_position, unlawful_frame, unlawful_item, is_lawful}
-use Rattle.beep_talk.specs.declared.plan.Command.{Command}
+use Rattle.beep_script.specs.beep_chars.proofs.BoolLemmas.{left_of, right_of}
+use Rattle.beep_script.specs.beep_frame.specs.declared.head.Head.{Head}
+use Rattle.beep_script.specs.beep_frame.specs.declared.kind.Kind.{Kind}
+use Rattle.beep_script.specs.beep_frame.specs.Frame.{is_msg, same_kind}
+use Rattle.beep_script.specs.beep_history.specs.declared.journal.Side.{Side}
+use Rattle.beep_script.specs.beep_history.specs.Journal.{Item, began, passed, told}
+use Rattle.beep_script.specs.beep_history.specs.Marks.{requests, waiting, is_answered, position_of, marks}
+use Rattle.beep_script.specs.beep_history.specs.Broken.{KeepsExchangeRules}
+use Rattle.beep_script.specs.beep_history.proofs.SoundLemmas.{requests-numbered}
+use Rattle.beep_script.specs.beep_mgmt.specs.Form.{Form, greeting, start, chosen, close, okay, fault}
+use Rattle.beep_script.specs.beep_mgmt.specs.Message.{message_said}
+use Rattle.beep_script.specs.beep_journal.specs.Broken.{none_tunes}
+use Rattle.beep_script.specs.beep_journal.specs.Laws.{IsUnbroken}
+use Rattle.beep_script.specs.beep_journal.specs.Lives.{lives}
+use Rattle.beep_script.specs.beep_journal.specs.Life.{is_released}
+use Rattle.beep_script.specs.beep_journal.specs.Zero.{channel_of, zero_history, gathered, asked, said_at, said_to, has_form, completes_form, events}
+use Rattle.beep_script.specs.beep_journal.proofs.MomentLemmas.{equal-number}
+use Rattle.beep_script.specs.beep_decide.specs.Asks.{is_close_of}
+use Rattle.beep_script.specs.beep_lawful.specs.declared.breach.Breach.{Breach}
+use Rattle.beep_script.specs.beep_lawful.specs.declared.terms.Terms.{Terms}
+use Rattle.beep_script.specs.beep_lawful.specs.Closing.{has_begun, none_waits_before, was_idle_since}
+use Rattle.beep_script.specs.beep_lawful.specs.Lawful.{first_breach, breaks_apart, breaks_content, breaks_ok_too_soon, breaks_close_unanswered, content_tests, request_said, granted_said, granted_position, unlawful_frame, unlawful_item, is_lawful}
+use Rattle.beep_script.specs.beep_talk.specs.declared.plan.Command.{Command}
 use Rattle.beep_script.specs.Desk.{grants_own}
 use Rattle.beep_script.specs.Refused.{refusal}
 use Rattle.beep_script.specs.EachEnd.{WasGranted}

@@ -3,20 +3,20 @@ use Rattle.std.proofs.Common.{◌≡◌, ℕ, ◌==◌, Bool, true, false, not, 
 use Rattle.std.specs.List.{list_any}
 use Rattle.std.specs.Option.{option_map_or}
 use Rattle.std.proofs.lemmas.List.{append_assoc}
-use Rattle.beep_chars.proofs.BoolLemmas.{left_of, right_of}
-use Rattle.beep_frame.specs.declared.head.Head.{Head}
-use Rattle.beep_frame.specs.declared.kind.Kind.{Kind}
-use Rattle.beep_frame.specs.declared.rule.Rule.{Rule}
-use Rattle.beep_frame.specs.Frame.{is_msg, is_ans, is_reply, same_kind}
-use Rattle.beep_history.specs.declared.journal.Side.{Side}
-use Rattle.beep_history.specs.Journal.{Item, began, passed, told}
-use Rattle.beep_history.specs.Marks.{Request, latest, reply, answers, ends_reply, is_answered, position_of}
-use Rattle.beep_mgmt.specs.Form.{Form, greeting, start, chosen, close, okay, fault}
-use Rattle.beep_mgmt.specs.Message.{message_said}
-use Rattle.beep_journal.specs.Broken.{none_tunes, broken_content}
-use Rattle.beep_journal.specs.Laws.{IsUnbroken}
-use Rattle.beep_journal.specs.Zero.{channel_of, zero_history, gathered, said_to, is_refusal, has_form, completes_form}
-use Rattle.beep_talk.specs.declared.plan.Command.{Command}
+use Rattle.beep_script.specs.beep_chars.proofs.BoolLemmas.{left_of, right_of}
+use Rattle.beep_script.specs.beep_frame.specs.declared.head.Head.{Head}
+use Rattle.beep_script.specs.beep_frame.specs.declared.kind.Kind.{Kind}
+use Rattle.beep_script.specs.beep_frame.specs.declared.rule.Rule.{Rule}
+use Rattle.beep_script.specs.beep_frame.specs.Frame.{is_msg, is_ans, is_reply, same_kind}
+use Rattle.beep_script.specs.beep_history.specs.declared.journal.Side.{Side}
+use Rattle.beep_script.specs.beep_history.specs.Journal.{Item, began, passed, told}
+use Rattle.beep_script.specs.beep_history.specs.Marks.{Request, latest, reply, answers, ends_reply, is_answered, position_of}
+use Rattle.beep_script.specs.beep_mgmt.specs.Form.{Form, greeting, start, chosen, close, okay, fault}
+use Rattle.beep_script.specs.beep_mgmt.specs.Message.{message_said}
+use Rattle.beep_script.specs.beep_journal.specs.Broken.{none_tunes, broken_content}
+use Rattle.beep_script.specs.beep_journal.specs.Laws.{IsUnbroken}
+use Rattle.beep_script.specs.beep_journal.specs.Zero.{channel_of, zero_history, gathered, said_to, is_refusal, has_form, completes_form}
+use Rattle.beep_script.specs.beep_talk.specs.declared.plan.Command.{Command}
 use Rattle.beep_script.specs.Desk.{grants_own}
 use Rattle.beep_script.specs.Refused.{fault_code, refused_at, refusal}
 use Rattle.beep_script.specs.EachEnd.{WasGranted}

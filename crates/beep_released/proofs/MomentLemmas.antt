@@ -4,30 +4,30 @@ use Rattle.std.specs.List.{list_any}
 use Rattle.std.specs.Option.{is_none}
 use Rattle.std.proofs.lemmas.Bool.{ltb-true, lt-ltb}
 use Rattle.std.proofs.lemmas.Bool.Decides.{nat_tests}
-use Rattle.beep_chars.proofs.BoolLemmas.{left_of, right_of}
-use Rattle.beep_frame.specs.declared.head.Head.{Head}
-use Rattle.beep_frame.specs.declared.kind.Kind.{Kind}
-use Rattle.beep_frame.specs.Frame.{is_msg, same_kind}
-use Rattle.beep_history.specs.declared.journal.Side.{Side}
-use Rattle.beep_history.specs.Journal.{Item, began, passed, told, same_side}
-use Rattle.beep_history.specs.Marks.{Request, requests, is_answered, begins_request}
-use Rattle.beep_history.specs.Broken.{KeepsExchangeRules}
-use Rattle.beep_history.proofs.ListsLemmas.{IsNumbered}
-use Rattle.beep_history.proofs.SoundLemmas.{requests-numbered}
-use Rattle.beep_mgmt.specs.Form.{Form, greeting, start, chosen, close, okay, fault}
-use Rattle.beep_mgmt.specs.Message.{message_said}
-use Rattle.beep_text.specs.Said.{element_said}
-use Rattle.beep_journal.specs.Broken.{none_tunes}
-use Rattle.beep_journal.specs.Laws.{IsUnbroken}
-use Rattle.beep_journal.specs.Lives.{Event, life_named, is_live}
-use Rattle.beep_journal.specs.Zero.{channel_of, zero_history, gathered, asked, said_at, said_to, events}
-use Rattle.beep_journal.proofs.MomentLemmas.{equal-number, apart-more}
-use Rattle.beep_decide.specs.Asks.{is_close_of}
-use Rattle.beep_lawful.specs.declared.breach.Breach.{Breach}
-use Rattle.beep_lawful.specs.declared.terms.Terms.{Terms}
-use Rattle.beep_lawful.specs.Closing.{has_begun, has_come, has_other_asking, is_ready, are_drained, was_ready_since}
-use Rattle.beep_lawful.specs.Lawful.{first_breach, breaks_apart, breaks_content, content_tests, request_said, breaks_ok_too_soon, granted_said, granted_position, unlawful_frame, unlawful_item, is_lawful}
-use Rattle.beep_talk.specs.declared.plan.Command.{Command}
+use Rattle.beep_script.specs.beep_chars.proofs.BoolLemmas.{left_of, right_of}
+use Rattle.beep_script.specs.beep_frame.specs.declared.head.Head.{Head}
+use Rattle.beep_script.specs.beep_frame.specs.declared.kind.Kind.{Kind}
+use Rattle.beep_script.specs.beep_frame.specs.Frame.{is_msg, same_kind}
+use Rattle.beep_script.specs.beep_history.specs.declared.journal.Side.{Side}
+use Rattle.beep_script.specs.beep_history.specs.Journal.{Item, began, passed, told, same_side}
+use Rattle.beep_script.specs.beep_history.specs.Marks.{Request, requests, is_answered, begins_request}
+use Rattle.beep_script.specs.beep_history.specs.Broken.{KeepsExchangeRules}
+use Rattle.beep_script.specs.beep_history.proofs.ListsLemmas.{IsNumbered}
+use Rattle.beep_script.specs.beep_history.proofs.SoundLemmas.{requests-numbered}
+use Rattle.beep_script.specs.beep_mgmt.specs.Form.{Form, greeting, start, chosen, close, okay, fault}
+use Rattle.beep_script.specs.beep_mgmt.specs.Message.{message_said}
+use Rattle.beep_script.specs.beep_text.specs.Said.{element_said}
+use Rattle.beep_script.specs.beep_journal.specs.Broken.{none_tunes}
+use Rattle.beep_script.specs.beep_journal.specs.Laws.{IsUnbroken}
+use Rattle.beep_script.specs.beep_journal.specs.Lives.{Event, life_named, is_live}
+use Rattle.beep_script.specs.beep_journal.specs.Zero.{channel_of, zero_history, gathered, asked, said_at, said_to, events}
+use Rattle.beep_script.specs.beep_journal.proofs.MomentLemmas.{equal-number, apart-more}
+use Rattle.beep_script.specs.beep_decide.specs.Asks.{is_close_of}
+use Rattle.beep_script.specs.beep_lawful.specs.declared.breach.Breach.{Breach}
+use Rattle.beep_script.specs.beep_lawful.specs.declared.terms.Terms.{Terms}
+use Rattle.beep_script.specs.beep_lawful.specs.Closing.{has_begun, has_come, has_other_asking, is_ready, are_drained, was_ready_since}
+use Rattle.beep_script.specs.beep_lawful.specs.Lawful.{first_breach, breaks_apart, breaks_content, content_tests, request_said, breaks_ok_too_soon, granted_said, granted_position, unlawful_frame, unlawful_item, is_lawful}
+use Rattle.beep_script.specs.beep_talk.specs.declared.plan.Command.{Command}
 use Rattle.beep_script.specs.Refused.{close_code, refused_at, first_code, refusal}
 use Rattle.beep_released.proofs.ReleaseLemmas.{Passing, passing-later, either-of}
 

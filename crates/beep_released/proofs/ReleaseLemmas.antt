@@ -1,17 +1,17 @@
 -- A release comes as a whole RPY passes to a close of 0.
 use Rattle.std.proofs.Common.{◌≡◌, ℕ, ◌==◌, nat_lt, Bool, true, false, not, ◌&&◌, ◌||◌, if◌then◌else◌, List, [], ◌∷◌, ◌++◌, length, Option, None, Some, ◌⊎◌, inl, inr, refl, sym, ap, ◌∙◌, ⊎_elim}
-use Rattle.beep_chars.proofs.BoolLemmas.{left_of}
-use Rattle.beep_frame.specs.declared.head.Head.{Head}
-use Rattle.beep_frame.specs.declared.kind.Kind.{Kind}
-use Rattle.beep_frame.specs.Frame.{is_msg, same_kind}
-use Rattle.beep_history.specs.declared.journal.Side.{Side}
-use Rattle.beep_history.specs.Journal.{Item, began, passed, told, other}
-use Rattle.beep_history.specs.Marks.{position_of}
-use Rattle.beep_mgmt.specs.Form.{Form, greeting, start, chosen, close, okay, fault}
-use Rattle.beep_mgmt.specs.Message.{message_said}
-use Rattle.beep_journal.specs.Lives.{Event, start_granted, has_release}
-use Rattle.beep_journal.specs.Zero.{channel_of, zero_history, gathered, asked, said_to, completes_form, coming, granting, effect, zero_events, events}
-use Rattle.beep_decide.specs.Asks.{is_close_of}
+use Rattle.beep_script.specs.beep_chars.proofs.BoolLemmas.{left_of}
+use Rattle.beep_script.specs.beep_frame.specs.declared.head.Head.{Head}
+use Rattle.beep_script.specs.beep_frame.specs.declared.kind.Kind.{Kind}
+use Rattle.beep_script.specs.beep_frame.specs.Frame.{is_msg, same_kind}
+use Rattle.beep_script.specs.beep_history.specs.declared.journal.Side.{Side}
+use Rattle.beep_script.specs.beep_history.specs.Journal.{Item, began, passed, told, other}
+use Rattle.beep_script.specs.beep_history.specs.Marks.{position_of}
+use Rattle.beep_script.specs.beep_mgmt.specs.Form.{Form, greeting, start, chosen, close, okay, fault}
+use Rattle.beep_script.specs.beep_mgmt.specs.Message.{message_said}
+use Rattle.beep_script.specs.beep_journal.specs.Lives.{Event, start_granted, has_release}
+use Rattle.beep_script.specs.beep_journal.specs.Zero.{channel_of, zero_history, gathered, asked, said_to, completes_form, coming, granting, effect, zero_events, events}
+use Rattle.beep_script.specs.beep_decide.specs.Asks.{is_close_of}
 
 -- ---- moments
 

@@ -3,20 +3,20 @@
 use Rattle.std.proofs.Common.{◌≡◌, ℕ, zero, suc, ◌+◌, ◌≤◌, ◌==◌, Bool, true, false, not, ◌&&◌, ◌||◌, if◌then◌else◌, List, [], ◌∷◌, ◌++◌, map, take, drop, length, Option, None, Some, ◌⊎◌, inl, inr, refl, sym, ap, ◌∙◌, subst, arith, ⊎_elim}
 use Rattle.std.specs.Option.{option_map_or}
 use Rattle.std.proofs.lemmas.List.{append_assoc, take-append-drop}
-use Rattle.beep_chars.proofs.BoolLemmas.{both, left_of, right_of}
-use Rattle.beep_frame.specs.declared.head.Head.{Head}
-use Rattle.beep_frame.specs.Frame.{is_msg}
-use Rattle.beep_history.specs.declared.journal.Side.{Side}
-use Rattle.beep_history.specs.Journal.{Item, began, passed, told}
-use Rattle.beep_history.specs.Marks.{Mark, Request, requests, previous, goes_on, tag_of, frame_marks, carries, marks}
-use Rattle.beep_history.specs.Broken.{under_way, KeepsExchangeRules}
-use Rattle.beep_history.proofs.SoundLemmas.{is_open, unfinished_request}
-use Rattle.beep_mgmt.specs.Form.{Form, start, close}
-use Rattle.beep_mgmt.specs.Message.{message_said, message_text}
-use Rattle.beep_journal.specs.Laws.{rest_from}
-use Rattle.beep_journal.specs.Zero.{channel_of, zero_history, gathered, asked, said_at}
-use Rattle.beep_decide.specs.Asks.{is_close_of}
-use Rattle.beep_talk.specs.AtZero.{profile_of}
+use Rattle.beep_script.specs.beep_chars.proofs.BoolLemmas.{both, left_of, right_of}
+use Rattle.beep_script.specs.beep_frame.specs.declared.head.Head.{Head}
+use Rattle.beep_script.specs.beep_frame.specs.Frame.{is_msg}
+use Rattle.beep_script.specs.beep_history.specs.declared.journal.Side.{Side}
+use Rattle.beep_script.specs.beep_history.specs.Journal.{Item, began, passed, told}
+use Rattle.beep_script.specs.beep_history.specs.Marks.{Mark, Request, requests, previous, goes_on, tag_of, frame_marks, carries, marks}
+use Rattle.beep_script.specs.beep_history.specs.Broken.{under_way, KeepsExchangeRules}
+use Rattle.beep_script.specs.beep_history.proofs.SoundLemmas.{is_open, unfinished_request}
+use Rattle.beep_script.specs.beep_mgmt.specs.Form.{Form, start, close}
+use Rattle.beep_script.specs.beep_mgmt.specs.Message.{message_said, message_text}
+use Rattle.beep_script.specs.beep_journal.specs.Laws.{rest_from}
+use Rattle.beep_script.specs.beep_journal.specs.Zero.{channel_of, zero_history, gathered, asked, said_at}
+use Rattle.beep_script.specs.beep_decide.specs.Asks.{is_close_of}
+use Rattle.beep_script.specs.beep_talk.specs.AtZero.{profile_of}
 use Rattle.beep_script.specs.Requested.{requests_from, sender_texts, SenderTexts}
 use Rattle.beep_script.proofs.RequestedLemmas.{nth, asked-so, requests-append}
 

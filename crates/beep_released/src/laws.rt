@@ -1,17 +1,17 @@
 //! What a release tells of a sender, as facts: each function does nothing, and its contract is the
 //! fact.
 ghost use Rattle.std.specs.Prelude.{◌≡◌, ◌≤◌, ℕ, List, [], ◌++◌, true, None, take};
-ghost use Rattle.beep_history.specs.declared.journal.Side.{Side};
-ghost use Rattle.beep_history.specs.Journal.{Item};
-ghost use Rattle.beep_history.specs.Marks.{marks};
-ghost use Rattle.beep_history.specs.Broken.{KeepsExchangeRules};
-ghost use Rattle.beep_journal.specs.Broken.{none_tunes};
-ghost use Rattle.beep_journal.specs.Laws.{IsUnbroken};
-ghost use Rattle.beep_journal.specs.Life.{is_released};
-ghost use Rattle.beep_journal.specs.Zero.{zero_history};
-ghost use Rattle.beep_lawful.specs.declared.terms.Terms.{Terms};
-ghost use Rattle.beep_lawful.specs.Lawful.{is_lawful};
-ghost use Rattle.beep_talk.specs.declared.plan.Command.{Command};
+ghost use Rattle.beep_script.specs.beep_history.specs.declared.journal.Side.{Side};
+ghost use Rattle.beep_script.specs.beep_history.specs.Journal.{Item};
+ghost use Rattle.beep_script.specs.beep_history.specs.Marks.{marks};
+ghost use Rattle.beep_script.specs.beep_history.specs.Broken.{KeepsExchangeRules};
+ghost use Rattle.beep_script.specs.beep_journal.specs.Broken.{none_tunes};
+ghost use Rattle.beep_script.specs.beep_journal.specs.Laws.{IsUnbroken};
+ghost use Rattle.beep_script.specs.beep_journal.specs.Life.{is_released};
+ghost use Rattle.beep_script.specs.beep_journal.specs.Zero.{zero_history};
+ghost use Rattle.beep_script.specs.beep_lawful.specs.declared.terms.Terms.{Terms};
+ghost use Rattle.beep_script.specs.beep_lawful.specs.Lawful.{is_lawful};
+ghost use Rattle.beep_script.specs.beep_talk.specs.declared.plan.Command.{Command};
 ghost use Rattle.beep_script.specs.EachEnd.{WasGranted};
 ghost use Rattle.beep_script.specs.Refused.{refusal};
 ghost use Rattle.beep_script.specs.Requested.{requests_from, sender_texts, SenderTexts};

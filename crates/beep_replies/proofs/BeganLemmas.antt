@@ -5,26 +5,26 @@ use Rattle.std.specs.Option.{is_none}
 use Rattle.std.proofs.lemmas.Bool.{eqb-true, lt-ltb}
 use Rattle.std.proofs.lemmas.Bool.Decides.{nat_tests}
 use Rattle.std.proofs.lemmas.List.{append_assoc, take-append-drop}
-use Rattle.beep_frame.specs.declared.head.Head.{Head}
-use Rattle.beep_frame.specs.declared.kind.Kind.{Kind}
-use Rattle.beep_frame.specs.Frame.{is_msg, same_kind}
-use Rattle.beep_history.specs.declared.journal.Side.{Side}
-use Rattle.beep_history.specs.Journal.{Item, began, passed, told}
-use Rattle.beep_history.specs.Marks.{Mark, position_of, marks}
-use Rattle.beep_history.specs.Broken.{KeepsExchangeRules}
-use Rattle.beep_mgmt.specs.Form.{Form, PlainProfile, greeting, start, chosen, close, okay, fault}
-use Rattle.beep_mgmt.specs.Message.{message_said, message_text}
-use Rattle.beep_journal.specs.declared.role.Role.{Role}
-use Rattle.beep_journal.specs.Broken.{none_tunes}
-use Rattle.beep_journal.specs.Lives.{Event, start_granted, lives, has_ended}
-use Rattle.beep_journal.specs.Zero.{channel_of, zero_history, zero_events, gathered, asked, said_at, said_to, is_choice_of, is_grant, has_form, completes_form, coming, granting, effect, events}
-use Rattle.beep_decide.specs.Asks.{is_start_of}
-use Rattle.beep_decide.specs.Numbers.{may_start, other_role}
-use Rattle.beep_lawful.specs.declared.breach.Breach.{Breach}
-use Rattle.beep_lawful.specs.declared.terms.Terms.{Terms}
-use Rattle.beep_lawful.specs.Lawful.{first_breach, breaks_apart, breaks_content, content_tests, request_said, breaks_grant_number, granted_said, granted_position, unlawful_frame, unlawful_item, is_lawful}
-use Rattle.beep_talk.specs.AtZero.{profile_of}
-use Rattle.beep_talk.specs.Talk.{says_profile, chooses, begins_with, has_profile}
+use Rattle.beep_script.specs.beep_frame.specs.declared.head.Head.{Head}
+use Rattle.beep_script.specs.beep_frame.specs.declared.kind.Kind.{Kind}
+use Rattle.beep_script.specs.beep_frame.specs.Frame.{is_msg, same_kind}
+use Rattle.beep_script.specs.beep_history.specs.declared.journal.Side.{Side}
+use Rattle.beep_script.specs.beep_history.specs.Journal.{Item, began, passed, told}
+use Rattle.beep_script.specs.beep_history.specs.Marks.{Mark, position_of, marks}
+use Rattle.beep_script.specs.beep_history.specs.Broken.{KeepsExchangeRules}
+use Rattle.beep_script.specs.beep_mgmt.specs.Form.{Form, PlainProfile, greeting, start, chosen, close, okay, fault}
+use Rattle.beep_script.specs.beep_mgmt.specs.Message.{message_said, message_text}
+use Rattle.beep_script.specs.beep_journal.specs.declared.role.Role.{Role}
+use Rattle.beep_script.specs.beep_journal.specs.Broken.{none_tunes}
+use Rattle.beep_script.specs.beep_journal.specs.Lives.{Event, start_granted, lives, has_ended}
+use Rattle.beep_script.specs.beep_journal.specs.Zero.{channel_of, zero_history, zero_events, gathered, asked, said_at, said_to, is_choice_of, is_grant, has_form, completes_form, coming, granting, effect, events}
+use Rattle.beep_script.specs.beep_decide.specs.Asks.{is_start_of}
+use Rattle.beep_script.specs.beep_decide.specs.Numbers.{may_start, other_role}
+use Rattle.beep_script.specs.beep_lawful.specs.declared.breach.Breach.{Breach}
+use Rattle.beep_script.specs.beep_lawful.specs.declared.terms.Terms.{Terms}
+use Rattle.beep_script.specs.beep_lawful.specs.Lawful.{first_breach, breaks_apart, breaks_content, content_tests, request_said, breaks_grant_number, granted_said, granted_position, unlawful_frame, unlawful_item, is_lawful}
+use Rattle.beep_script.specs.beep_talk.specs.AtZero.{profile_of}
+use Rattle.beep_script.specs.beep_talk.specs.Talk.{says_profile, chooses, begins_with, has_profile}
 use Rattle.beep_script.specs.Requested.{requests_from, sender_texts, SenderTexts}
 use Rattle.beep_script.proofs.RequestedLemmas.{nth, own_forms, requests-append, asked-so}
 use Rattle.beep_replies.proofs.CountLemmas.{keeps-where}

@@ -3,16 +3,16 @@ use Rattle.std.proofs.Common.{◌≡◌, ℕ, ◌+◌, ◌-◌, ◌==◌, Bool, 
 use Rattle.std.specs.Option.{option_map_or}
 use Rattle.std.proofs.lemmas.List.{length-append, append-nil}
 use Rattle.std.proofs.lemmas.List.Elements.{filter-append}
-use Rattle.beep_frame.specs.declared.head.Head.{Head}
-use Rattle.beep_frame.specs.declared.tag.Tag.{Tag}
-use Rattle.beep_frame.specs.Frame.{is_msg}
-use Rattle.beep_history.specs.declared.journal.Side.{Side}
-use Rattle.beep_history.specs.Journal.{Item, began, passed, told}
-use Rattle.beep_history.specs.Marks.{Mark, octet, end, previous, requests, begins_request, goes_on, named, position_of, tag_of, frame_marks, marks}
-use Rattle.beep_history.specs.Broken.{under_way, KeepsExchangeRules}
-use Rattle.beep_history.proofs.KeptLemmas.{kept}
-use Rattle.beep_history.proofs.SoundLemmas.{is_open, unfinished_request}
-use Rattle.beep_history.proofs.PassedLemmas.{sound}
+use Rattle.beep_script.specs.beep_frame.specs.declared.head.Head.{Head}
+use Rattle.beep_script.specs.beep_frame.specs.declared.tag.Tag.{Tag}
+use Rattle.beep_script.specs.beep_frame.specs.Frame.{is_msg}
+use Rattle.beep_script.specs.beep_history.specs.declared.journal.Side.{Side}
+use Rattle.beep_script.specs.beep_history.specs.Journal.{Item, began, passed, told}
+use Rattle.beep_script.specs.beep_history.specs.Marks.{Mark, octet, end, previous, requests, begins_request, goes_on, named, position_of, tag_of, frame_marks, marks}
+use Rattle.beep_script.specs.beep_history.specs.Broken.{under_way, KeepsExchangeRules}
+use Rattle.beep_script.specs.beep_history.proofs.KeptLemmas.{kept}
+use Rattle.beep_script.specs.beep_history.proofs.SoundLemmas.{is_open, unfinished_request}
+use Rattle.beep_script.specs.beep_history.proofs.PassedLemmas.{sound}
 use Rattle.beep_replies.specs.Replies.{ends_msg, whole_requests}
 
 -- ---- the marks of one frame

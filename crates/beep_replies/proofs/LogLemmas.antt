@@ -1,25 +1,25 @@
 -- What a log shows of a script that is kept above channel zero: what comes leaves it, and what isn't written yet adds to it.
 use Rattle.std.proofs.Common.{◌≡◌, ℕ, ◌==◌, Bool, true, false, not, ◌&&◌, if◌then◌else◌, List, [], ◌∷◌, ◌++◌, map, flat_map, Option, None, Some, inl, inr, refl, sym, ap, ◌∙◌, subst}
 use Rattle.std.proofs.lemmas.List.{append_assoc, append-nil}
-use Rattle.beep_frame.specs.declared.head.Head.{Head}
-use Rattle.beep_frame.specs.declared.rule.Rule.{Rule}
-use Rattle.beep_frame.specs.declared.seq.Seq.{Seq}
-use Rattle.beep_history.specs.declared.journal.Side.{Side}
-use Rattle.beep_history.specs.Journal.{Item, began, passed, told}
-use Rattle.beep_history.specs.Marks.{Mark, carries, frame_marks, tag_of, marks, mark_modulo_2_64}
-use Rattle.beep_history.specs.Broken.{KeepsExchangeRules}
-use Rattle.beep_history.specs.Messages.{Message}
-use Rattle.beep_journal.specs.Broken.{Tuning, none_tunes, broken_head, broken_seq}
-use Rattle.beep_journal.specs.Laws.{IsLiveLife}
-use Rattle.beep_journal.specs.Lives.{Event}
-use Rattle.beep_journal.specs.Zero.{events}
-use Rattle.beep_journal.specs.Life.{is_released, is_of_life, life}
-use Rattle.beep_journal.specs.Log.{Moment, got, put, got_all, put_all}
-use Rattle.beep_journal.specs.Journal.{Past, begins, seq_ends, TakesOctet, TakesWhere, Takes, goes_on, Shows}
-use Rattle.beep_journal.proofs.ShownLemmas.{one-shown}
-use Rattle.beep_talk.specs.declared.plan.Command.{Command}
-use Rattle.beep_talk.specs.Plan.{PlainPlan}
-use Rattle.beep_talk.specs.Talk.{begins_with, has_profile, asked_first, replied, talk}
+use Rattle.beep_script.specs.beep_frame.specs.declared.head.Head.{Head}
+use Rattle.beep_script.specs.beep_frame.specs.declared.rule.Rule.{Rule}
+use Rattle.beep_script.specs.beep_frame.specs.declared.seq.Seq.{Seq}
+use Rattle.beep_script.specs.beep_history.specs.declared.journal.Side.{Side}
+use Rattle.beep_script.specs.beep_history.specs.Journal.{Item, began, passed, told}
+use Rattle.beep_script.specs.beep_history.specs.Marks.{Mark, carries, frame_marks, tag_of, marks, mark_modulo_2_64}
+use Rattle.beep_script.specs.beep_history.specs.Broken.{KeepsExchangeRules}
+use Rattle.beep_script.specs.beep_history.specs.Messages.{Message}
+use Rattle.beep_script.specs.beep_journal.specs.Broken.{Tuning, none_tunes, broken_head, broken_seq}
+use Rattle.beep_script.specs.beep_journal.specs.Laws.{IsLiveLife}
+use Rattle.beep_script.specs.beep_journal.specs.Lives.{Event}
+use Rattle.beep_script.specs.beep_journal.specs.Zero.{events}
+use Rattle.beep_script.specs.beep_journal.specs.Life.{is_released, is_of_life, life}
+use Rattle.beep_script.specs.beep_journal.specs.Log.{Moment, got, put, got_all, put_all}
+use Rattle.beep_script.specs.beep_journal.specs.Journal.{Past, begins, seq_ends, TakesOctet, TakesWhere, Takes, goes_on, Shows}
+use Rattle.beep_script.specs.beep_journal.proofs.ShownLemmas.{one-shown}
+use Rattle.beep_script.specs.beep_talk.specs.declared.plan.Command.{Command}
+use Rattle.beep_script.specs.beep_talk.specs.Plan.{PlainPlan}
+use Rattle.beep_script.specs.beep_talk.specs.Talk.{begins_with, has_profile, asked_first, replied, talk}
 use Rattle.beep_script.specs.Script.{message_marks, script_marks, BeginsWith}
 use Rattle.beep_replies.specs.Replies.{KeepsAt, KeepsAbove, sends_in, requests_passed, replies, first_said}
 use Rattle.beep_replies.proofs.SaidLemmas.{said, life-above}

@@ -4,17 +4,17 @@ use Rattle.std.specs.List.{list_all}
 use Rattle.std.proofs.lemmas.Bool.{cases_lt}
 use Rattle.std.proofs.lemmas.List.{append_assoc, append-nil}
 use Rattle.std.proofs.lemmas.List.Concat.{flat_map-append}
-use Rattle.beep_frame.specs.declared.kind.Kind.{Kind}
-use Rattle.beep_frame.specs.declared.tag.Tag.{Tag}
-use Rattle.beep_frame.specs.Frame.{is_msg}
-use Rattle.beep_history.specs.Marks.{Mark, octet, end, marks, modulo_2_64, mark_modulo_2_64}
-use Rattle.beep_history.specs.Moments.{mark_tag}
-use Rattle.beep_history.specs.Messages.{Message}
-use Rattle.beep_lawful.specs.declared.limits.TheConstants.{MESSAGE_NUMBERS}
-use Rattle.prof_raw.specs.Entries.{body_of}
-use Rattle.beep_talk.specs.declared.plan.Command.{Command}
-use Rattle.beep_talk.specs.Plan.{PlainPlan}
-use Rattle.beep_talk.specs.Talk.{message_of, answers_from, nul, refusal, reply_of}
+use Rattle.beep_script.specs.beep_frame.specs.declared.kind.Kind.{Kind}
+use Rattle.beep_script.specs.beep_frame.specs.declared.tag.Tag.{Tag}
+use Rattle.beep_script.specs.beep_frame.specs.Frame.{is_msg}
+use Rattle.beep_script.specs.beep_history.specs.Marks.{Mark, octet, end, marks, modulo_2_64, mark_modulo_2_64}
+use Rattle.beep_script.specs.beep_history.specs.Moments.{mark_tag}
+use Rattle.beep_script.specs.beep_history.specs.Messages.{Message}
+use Rattle.beep_script.specs.beep_lawful.specs.declared.limits.TheConstants.{MESSAGE_NUMBERS}
+use Rattle.beep_script.specs.prof_raw.specs.Entries.{body_of}
+use Rattle.beep_script.specs.beep_talk.specs.declared.plan.Command.{Command}
+use Rattle.beep_script.specs.beep_talk.specs.Plan.{PlainPlan}
+use Rattle.beep_script.specs.beep_talk.specs.Talk.{message_of, answers_from, nul, refusal, reply_of}
 use Rattle.beep_script.specs.Script.{message_marks, BeginsWith}
 use Rattle.beep_script.specs.Sending.{ends_whole, is_of_reply}
 use Rattle.beep_replies.specs.Replies.{replies}

@@ -3,23 +3,23 @@ use Rattle.std.proofs.Common.{◌≡◌, ℕ, zero, suc, ◌+◌, ◌<◌, ◌�
 use Rattle.std.proofs.Math.Numerals.{add-one}
 use Rattle.std.proofs.lemmas.Bool.{ltb-true, lt-ltb}
 use Rattle.std.proofs.lemmas.List.{append_assoc, append-nil}
-use Rattle.beep_frame.specs.declared.head.Head.{Head}
-use Rattle.beep_frame.specs.Frame.{is_msg}
-use Rattle.beep_history.specs.declared.journal.Side.{Side}
-use Rattle.beep_history.specs.Journal.{Item, began, passed, told}
-use Rattle.beep_history.specs.Marks.{position_of}
-use Rattle.beep_history.specs.Broken.{KeepsExchangeRules}
-use Rattle.beep_history.specs.Messages.{Message}
-use Rattle.beep_mgmt.specs.Message.{message_said}
-use Rattle.beep_journal.specs.Lives.{Event, close_came, start_granted, close_granted, lives, has_ended, life_named, is_live}
-use Rattle.beep_journal.specs.Zero.{channel_of, zero_history, gathered, zero_events, effect, events}
-use Rattle.beep_journal.specs.Life.{life_now, life_under_way, is_of_life, life}
-use Rattle.beep_journal.specs.Laws.{IsLiveLife}
-use Rattle.beep_journal.proofs.LifeLemmas.{nothing-before}
-use Rattle.beep_journal.proofs.LivesLemmas.{live-is-last}
-use Rattle.beep_journal.proofs.MomentLemmas.{same-number, equal-number, apart-less, apart-zero}
-use Rattle.beep_talk.specs.Plan.{PlainPlan}
-use Rattle.beep_talk.specs.Talk.{says_profile, chooses, begins_with, has_profile, reply_of, asked_first, ends_request, replied, talk}
+use Rattle.beep_script.specs.beep_frame.specs.declared.head.Head.{Head}
+use Rattle.beep_script.specs.beep_frame.specs.Frame.{is_msg}
+use Rattle.beep_script.specs.beep_history.specs.declared.journal.Side.{Side}
+use Rattle.beep_script.specs.beep_history.specs.Journal.{Item, began, passed, told}
+use Rattle.beep_script.specs.beep_history.specs.Marks.{position_of}
+use Rattle.beep_script.specs.beep_history.specs.Broken.{KeepsExchangeRules}
+use Rattle.beep_script.specs.beep_history.specs.Messages.{Message}
+use Rattle.beep_script.specs.beep_mgmt.specs.Message.{message_said}
+use Rattle.beep_script.specs.beep_journal.specs.Lives.{Event, close_came, start_granted, close_granted, lives, has_ended, life_named, is_live}
+use Rattle.beep_script.specs.beep_journal.specs.Zero.{channel_of, zero_history, gathered, zero_events, effect, events}
+use Rattle.beep_script.specs.beep_journal.specs.Life.{life_now, life_under_way, is_of_life, life}
+use Rattle.beep_script.specs.beep_journal.specs.Laws.{IsLiveLife}
+use Rattle.beep_script.specs.beep_journal.proofs.LifeLemmas.{nothing-before}
+use Rattle.beep_script.specs.beep_journal.proofs.LivesLemmas.{live-is-last}
+use Rattle.beep_script.specs.beep_journal.proofs.MomentLemmas.{same-number, equal-number, apart-less, apart-zero}
+use Rattle.beep_script.specs.beep_talk.specs.Plan.{PlainPlan}
+use Rattle.beep_script.specs.beep_talk.specs.Talk.{says_profile, chooses, begins_with, has_profile, reply_of, asked_first, ends_request, replied, talk}
 use Rattle.beep_replies.specs.Replies.{whole_requests, requests_passed, replies, first_said}
 use Rattle.beep_replies.proofs.CountLemmas.{IsAbove, keeps-where, passed-count, sent-count, position-is}
 

@@ -3,18 +3,18 @@ use Rattle.std.proofs.Common.{◌≡◌, ℕ, ◌+◌, ◌<◌, ◌==◌, nat_lt
 use Rattle.std.specs.List.{list_all}
 use Rattle.std.proofs.lemmas.Bool.Decides.{nat_tests}
 use Rattle.std.proofs.lemmas.List.{append-nil}
-use Rattle.beep_frame.specs.declared.head.Head.{Head}
-use Rattle.beep_frame.specs.declared.tag.Tag.{Tag}
-use Rattle.beep_frame.specs.Frame.{is_msg, is_ans, is_reply}
-use Rattle.beep_history.specs.declared.journal.Side.{Side}
-use Rattle.beep_history.specs.Journal.{Item, began, passed, told}
-use Rattle.beep_history.specs.Marks.{Mark, octet, end, frames, requests, previous, position_of, tag_of, frame_marks, carries, marks, mark_modulo_2_64}
-use Rattle.beep_history.specs.Moments.{replies_ended}
-use Rattle.beep_history.specs.Broken.{under_way, KeepsExchangeRules}
-use Rattle.beep_history.proofs.SoundLemmas.{is_open}
-use Rattle.beep_history.proofs.PassedLemmas.{sound}
-use Rattle.beep_history.proofs.RepliesLemmas.{position-is}
-use Rattle.beep_talk.specs.Plan.{PlainPlan}
+use Rattle.beep_script.specs.beep_frame.specs.declared.head.Head.{Head}
+use Rattle.beep_script.specs.beep_frame.specs.declared.tag.Tag.{Tag}
+use Rattle.beep_script.specs.beep_frame.specs.Frame.{is_msg, is_ans, is_reply}
+use Rattle.beep_script.specs.beep_history.specs.declared.journal.Side.{Side}
+use Rattle.beep_script.specs.beep_history.specs.Journal.{Item, began, passed, told}
+use Rattle.beep_script.specs.beep_history.specs.Marks.{Mark, octet, end, frames, requests, previous, position_of, tag_of, frame_marks, carries, marks, mark_modulo_2_64}
+use Rattle.beep_script.specs.beep_history.specs.Moments.{replies_ended}
+use Rattle.beep_script.specs.beep_history.specs.Broken.{under_way, KeepsExchangeRules}
+use Rattle.beep_script.specs.beep_history.proofs.SoundLemmas.{is_open}
+use Rattle.beep_script.specs.beep_history.proofs.PassedLemmas.{sound}
+use Rattle.beep_script.specs.beep_history.proofs.RepliesLemmas.{position-is}
+use Rattle.beep_script.specs.beep_talk.specs.Plan.{PlainPlan}
 use Rattle.beep_script.specs.Script.{BeginsWith}
 use Rattle.beep_script.specs.Sending.{is_of_reply}
 use Rattle.beep_replies.specs.Replies.{ends_msg, whole_requests}

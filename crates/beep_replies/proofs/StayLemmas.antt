@@ -2,14 +2,14 @@
 use Rattle.std.proofs.Common.{◌≡◌, ℕ, ◌==◌, Bool, true, false, if◌then◌else◌, List, [], ◌∷◌, ◌++◌, flat_map, map, refl, sym, ap, ◌∙◌, subst}
 use Rattle.std.proofs.lemmas.List.{append_assoc, append-nil}
 use Rattle.std.proofs.lemmas.List.Concat.{flat_map-append}
-use Rattle.beep_history.specs.declared.journal.Side.{Side}
-use Rattle.beep_history.specs.Journal.{Item, began, passed, told}
-use Rattle.beep_history.specs.Marks.{Mark, marks}
-use Rattle.beep_history.specs.Messages.{Message}
-use Rattle.beep_journal.specs.Zero.{zero_history}
-use Rattle.beep_journal.specs.Life.{is_of_life, life}
-use Rattle.beep_talk.specs.Plan.{PlainPlan}
-use Rattle.beep_talk.specs.Talk.{called_for, talk}
+use Rattle.beep_script.specs.beep_history.specs.declared.journal.Side.{Side}
+use Rattle.beep_script.specs.beep_history.specs.Journal.{Item, began, passed, told}
+use Rattle.beep_script.specs.beep_history.specs.Marks.{Mark, marks}
+use Rattle.beep_script.specs.beep_history.specs.Messages.{Message}
+use Rattle.beep_script.specs.beep_journal.specs.Zero.{zero_history}
+use Rattle.beep_script.specs.beep_journal.specs.Life.{is_of_life, life}
+use Rattle.beep_script.specs.beep_talk.specs.Plan.{PlainPlan}
+use Rattle.beep_script.specs.beep_talk.specs.Talk.{called_for, talk}
 use Rattle.beep_script.specs.Desk.{desk}
 use Rattle.beep_script.specs.Script.{whole_message, message_marks, script_marks, BeginsWith, KeepsScript}
 use Rattle.beep_replies.specs.Replies.{KeepsAt, KeepsAbove, sends_in}

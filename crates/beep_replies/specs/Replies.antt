@@ -3,15 +3,15 @@
 -- 3080, section 2.1; RFC 3195, section 3).
 -- The code gives a reply as a request was taken; here the replies are a function of a count.
 use Rattle.std.specs.Prelude.{◌≡◌, ℕ, zero, suc, ◌+◌, ◌==◌, Bool, false, ◌&&◌, if◌then◌else◌, List, [], ◌∷◌, ◌++◌, length, filter}
-use Rattle.beep_frame.specs.Frame.{is_msg}
-use Rattle.beep_history.specs.declared.journal.Side.{Side}
-use Rattle.beep_history.specs.Journal.{Item, began, passed, told}
-use Rattle.beep_history.specs.Marks.{Mark, octet, end, marks}
-use Rattle.beep_history.specs.Messages.{Message}
-use Rattle.beep_journal.specs.Zero.{events}
-use Rattle.beep_journal.specs.Life.{life, life_under_way}
-use Rattle.beep_talk.specs.Plan.{PlainPlan}
-use Rattle.beep_talk.specs.Talk.{begins_with, asked_first, reply_of}
+use Rattle.beep_script.specs.beep_frame.specs.Frame.{is_msg}
+use Rattle.beep_script.specs.beep_history.specs.declared.journal.Side.{Side}
+use Rattle.beep_script.specs.beep_history.specs.Journal.{Item, began, passed, told}
+use Rattle.beep_script.specs.beep_history.specs.Marks.{Mark, octet, end, marks}
+use Rattle.beep_script.specs.beep_history.specs.Messages.{Message}
+use Rattle.beep_script.specs.beep_journal.specs.Zero.{events}
+use Rattle.beep_script.specs.beep_journal.specs.Life.{life, life_under_way}
+use Rattle.beep_script.specs.beep_talk.specs.Plan.{PlainPlan}
+use Rattle.beep_script.specs.beep_talk.specs.Talk.{begins_with, asked_first, reply_of}
 use Rattle.beep_script.specs.Script.{script_marks, BeginsWith}
 
 -- ---- what is replied

@@ -3,7 +3,7 @@
 use Rattle.std.specs.Prelude.{ℕ, ◌+◌, ◌==◌, Bool, true, false, ◌&&◌, not, List, [], ◌∷◌, ◌++◌, codes, eqb}
 use Rattle.std.specs.Fmt.{decimal}
 use Rattle.std.specs.List.{starts_with}
-use Rattle.beep_frame.specs.Modulo.{modulo_2_64}
+use Rattle.beep_peer.specs.beep_frame.specs.Modulo.{modulo_2_64}
 use Rattle.beep_schedule.specs.declared.event.End.{End}
 use Rattle.beep_schedule.specs.Events.{end_text}
 use Rattle.beep_tally.specs.Accounts.{one_if, no_count}

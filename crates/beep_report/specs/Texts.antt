@@ -1,14 +1,14 @@
 -- What is written of the steps of a schedule: a line for each (docs/FORMATS.md, "Reports of
 -- schedules").
 use Rattle.std.specs.Prelude.{ℕ, ◌+◌, ◌/◌, ◌%◌, nat_lt, Bool, true, false, List, [], ◌∷◌, ◌++◌, take, flat_map, Option, None, Some, codes, if◌then◌else◌}
-use Rattle.beep_frame.specs.Spelling.{keyword, answer_field, header_line, seq_line}
-use Rattle.beep_channel.specs.declared.ask_error.AskError.{AskError}
-use Rattle.beep_outbox.specs.declared.give_error.GiveError.{GiveError}
+use Rattle.beep_peer.specs.beep_frame.specs.Spelling.{keyword, answer_field, header_line, seq_line}
+use Rattle.beep_peer.specs.beep_channel.specs.declared.ask_error.AskError.{AskError}
+use Rattle.beep_peer.specs.beep_outbox.specs.declared.give_error.GiveError.{GiveError}
 use Rattle.beep_peer.specs.declared.refusals.StartError.{StartError}
 use Rattle.beep_peer.specs.declared.refusals.ReleaseError.{ReleaseError}
 use Rattle.beep_peer.specs.declared.refusals.CloseError.{CloseError}
-use Rattle.beep_speaking.specs.declared.emit.Emit.{Emit}
-use Rattle.beep_inbox.specs.declared.part.Part.{Part}
+use Rattle.beep_peer.specs.beep_speaking.specs.declared.emit.Emit.{Emit}
+use Rattle.beep_peer.specs.beep_inbox.specs.declared.part.Part.{Part}
 use Rattle.beep_schedule.specs.declared.event.End.{End}
 use Rattle.beep_schedule.specs.declared.event.Act.{Act}
 use Rattle.beep_schedule.specs.Events.{field, end_text}
@@ -53,7 +53,7 @@ release_text ReleaseError.NoMemory = codes "NoMemory"
 
 abbrev pub answer_text : Answer → List ℕ
 answer_text Answer.Done = codes "ok"
-answer_text (Answer.Told number) = codes "ok" ++ field number
+answer_text (Answer.Numbered number) = codes "ok" ++ field number
 answer_text Answer.NoChannel = codes "NoChannel"
 answer_text Answer.NotOwed = codes "NotOwed"
 answer_text Answer.Answering = codes "Answering"

@@ -1,7 +1,7 @@
 //! What an act of a schedule is answered.
 
-use beep_channel::AskError;
-use beep_outbox::GiveError;
+use beep_peer::beep_channel::AskError;
+use beep_peer::beep_outbox::GiveError;
 use beep_peer::{CloseError, ReleaseError, StartError};
 
 /// What an act is answered. No cause is lack of memory.
@@ -10,7 +10,7 @@ pub enum Answer {
     /// It is done.
     Done,
     /// It is done: the position of the request, or the number of the answer.
-    Told(u64),
+    Numbered(u64),
     /// There is no such channel.
     NoChannel,
     /// No request is owed a reply.

@@ -12,3 +12,6 @@ pub use summary::put_summary;
 pub use words::{
     put_act_line, put_drain_line, put_get_line, put_send_line, put_still, put_take_line, put_totals,
 };
+
+// Crates below, which are named through this one.
+pub use beep_tally;

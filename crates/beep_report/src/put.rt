@@ -2,7 +2,7 @@
 ghost use Rattle.std.specs.Prelude.{◌≡◌, ◌++◌, OnOk};
 ghost use Rattle.beep_schedule.specs.Events.{field, end_text};
 
-use beep_octets::{NoMemory, Octets};
+use beep_peer::beep_octets::{NoMemory, Octets};
 use beep_schedule::End;
 use itoa::Buffer;
 

@@ -5,7 +5,7 @@ ghost use Rattle.beep_report.specs.Summary.{sum_of as sum, given_by_a as a_gave,
 
 use crate::put::put_word;
 use crate::words::put_still;
-use beep_octets::{NoMemory, Octets};
+use beep_peer::beep_octets::{NoMemory, Octets};
 use beep_schedule::End;
 use beep_tally::{Account, Count};
 use itoa::Buffer;

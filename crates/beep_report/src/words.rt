@@ -1,19 +1,21 @@
 //! The lines of a report.
 ghost use Rattle.std.specs.Prelude.{◌≡◌, ◌++◌, ◌∷◌, [], ◌<◌, take, codes, flat_map, OnOk};
-ghost use Rattle.beep_frame.specs.Spelling.{keyword, answer_field};
+ghost use Rattle.beep_peer.specs.beep_frame.specs.Spelling.{keyword, answer_field};
 ghost use Rattle.beep_schedule.specs.Events.{field, end_text};
 ghost use Rattle.beep_report.specs.Texts.{start_text, ask_text, give_text, close_text, release_text, answer_text, act_name, channel_text, act_line, emit_text, send_line, drain_line, get_line, hex_digit as hex_of_digit, hex_of, hex_text, end_mark, part_text, take_line, flow_text, total_line, account_lines, still_line};
 
 use crate::answer::Answer;
 use crate::put::{put_end, put_field, put_word};
-use beep_channel::AskError;
-use beep_frame::{Kind, MAX_HEADER_LINE, MAX_SEQ_LINE, spell_header_line, spell_seq_line};
-use beep_inbox::Part;
-use beep_octets::{NoMemory, Octets};
-use beep_outbox::GiveError;
+use beep_peer::beep_channel::AskError;
+use beep_peer::beep_frame::{
+    Kind, MAX_HEADER_LINE, MAX_SEQ_LINE, spell_header_line, spell_seq_line,
+};
+use beep_peer::beep_inbox::Part;
+use beep_peer::beep_octets::{NoMemory, Octets};
+use beep_peer::beep_outbox::GiveError;
+use beep_peer::beep_speaking::Emit;
 use beep_peer::{CloseError, ReleaseError, StartError};
 use beep_schedule::{Act, End};
-use beep_speaking::Emit;
 use beep_tally::{Account, Flow};
 
 // ---- answers
@@ -102,7 +104,7 @@ fn put_answer(out: &mut Octets, answer: Answer) -> Result<(), NoMemory>
 {
     match answer {
         Answer::Done => put_word(out, "ok"),
-        Answer::Told(number) => put_numbered(out, "ok", number),
+        Answer::Numbered(number) => put_numbered(out, "ok", number),
         Answer::NoChannel => put_word(out, "NoChannel"),
         Answer::NotOwed => put_word(out, "NotOwed"),
         Answer::Answering => put_word(out, "Answering"),

@@ -1,19 +1,19 @@
 -- Of the side that is read a session knows each octet, up to a fault or a release.
 use Rattle.std.proofs.Common.{◌≡◌, ◌⊎◌, inl, inr, ℕ, ◌+◌, ◌<◌, ◌≤◌, Bool, true, false, not, ◌&&◌, ◌||◌, List, [], ◌∷◌, ◌++◌, length, length-append, Option, None, Some, refl, sym, ap, ◌∙◌, subst, arith}
-use Rattle.beep_frame.specs.declared.head.Head.{Head}
-use Rattle.beep_frame.specs.declared.seq.Seq.{Seq}
-use Rattle.beep_frame.specs.declared.rule.Rule.{Rule}
-use Rattle.beep_frame.specs.Frame.{framed, seq_frame}
-use Rattle.beep_frame.specs.Spelling.{spelling}
-use Rattle.beep_history.specs.declared.journal.Side.{Side}
-use Rattle.beep_journal.specs.Log.{Moment, got, put, none, over, got_all, put_all}
-use Rattle.beep_journal.specs.Life.{is_released}
-use Rattle.beep_journal.specs.Broken.{none_tunes, broken_head, broken_seq, broken_content}
-use Rattle.beep_journal.specs.Journal.{Past, Fault, spelled, fault_at, begins, passes, seq_ends, TakesOctet, TakesWhere, Takes, goes_on, Shows}
-use Rattle.beep_journal.specs.Zero.{zero_history}
-use Rattle.beep_journal.proofs.ShownLemmas.{fault-stays, one-shown}
-use Rattle.beep_lawful.specs.Lawful.{IsLawfulMoment}
-use Rattle.beep_lawful.specs.Tuned.{has_tuned}
+use Rattle.beep_listener.specs.beep_frame.specs.declared.head.Head.{Head}
+use Rattle.beep_listener.specs.beep_frame.specs.declared.seq.Seq.{Seq}
+use Rattle.beep_listener.specs.beep_frame.specs.declared.rule.Rule.{Rule}
+use Rattle.beep_listener.specs.beep_frame.specs.Frame.{framed, seq_frame}
+use Rattle.beep_listener.specs.beep_frame.specs.Spelling.{spelling}
+use Rattle.beep_listener.specs.beep_history.specs.declared.journal.Side.{Side}
+use Rattle.beep_listener.specs.beep_journal.specs.Log.{Moment, got, put, none, over, got_all, put_all}
+use Rattle.beep_listener.specs.beep_journal.specs.Life.{is_released}
+use Rattle.beep_listener.specs.beep_journal.specs.Broken.{none_tunes, broken_head, broken_seq, broken_content}
+use Rattle.beep_listener.specs.beep_journal.specs.Journal.{Past, Fault, spelled, fault_at, begins, passes, seq_ends, TakesOctet, TakesWhere, Takes, goes_on, Shows}
+use Rattle.beep_listener.specs.beep_journal.specs.Zero.{zero_history}
+use Rattle.beep_listener.specs.beep_journal.proofs.ShownLemmas.{fault-stays, one-shown}
+use Rattle.beep_listener.specs.beep_lawful.specs.Lawful.{IsLawfulMoment}
+use Rattle.beep_listener.specs.beep_lawful.specs.Tuned.{has_tuned}
 
 -- how many octets were read
 abbrev pub gots : List Moment → ℕ

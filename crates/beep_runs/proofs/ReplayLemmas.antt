@@ -1,21 +1,21 @@
 -- The log of a link is replayed to what it shows.
 use Rattle.std.proofs.Common.{◌≡◌, inl, inr, ℕ, List, [], ◌∷◌, Option, None, Some, refl, sym, ap, ◌∙◌, subst, arith}
-use Rattle.beep_frame.specs.declared.rule.Rule.{Rule}
-use Rattle.beep_frame.specs.Modulo.{modulo_2_64}
-use Rattle.beep_history.specs.declared.journal.Side.{Side}
-use Rattle.beep_journal.specs.Log.{Moment, flat, got_all, put_all, none, over}
-use Rattle.beep_journal.specs.Broken.{none_tunes}
-use Rattle.beep_journal.specs.Journal.{Past, Fault, Shows as shown}
-use Rattle.beep_journal.proofs.ShownLemmas.{one-shown}
-use Rattle.beep_lawful.specs.declared.terms.Terms.{Terms}
-use Rattle.beep_wires.specs.Log.{Entry, read, wrote, quiet, ended}
-use Rattle.beep_record.specs.declared.verdict.Verdict.{Verdict}
-use Rattle.beep_record.specs.Verdicts.{verdict_on, verdict_of, Replays}
+use Rattle.beep_listener.specs.beep_frame.specs.declared.rule.Rule.{Rule}
+use Rattle.beep_listener.specs.beep_frame.specs.Modulo.{modulo_2_64}
+use Rattle.beep_listener.specs.beep_history.specs.declared.journal.Side.{Side}
+use Rattle.beep_listener.specs.beep_journal.specs.Log.{Moment, flat, got_all, put_all, none, over}
+use Rattle.beep_listener.specs.beep_journal.specs.Broken.{none_tunes}
+use Rattle.beep_listener.specs.beep_journal.specs.Journal.{Past, Fault, Shows as shown}
+use Rattle.beep_listener.specs.beep_journal.proofs.ShownLemmas.{one-shown}
+use Rattle.beep_listener.specs.beep_lawful.specs.declared.terms.Terms.{Terms}
+use Rattle.beep_listener.specs.beep_wires.specs.Log.{Entry, read, wrote, quiet, ended}
+use Rattle.beep_recorder.specs.beep_record.specs.declared.verdict.Verdict.{Verdict}
+use Rattle.beep_recorder.specs.beep_record.specs.Verdicts.{verdict_on, verdict_of, Replays}
 use Rattle.beep_recorder.specs.Said.{log_said}
-use Rattle.beep_logged.specs.Logged.{IsSound}
-use Rattle.beep_link.specs.declared.ended.Ended.{Ended}
-use Rattle.beep_link.specs.Causes.{octets_read}
-use Rattle.beep_steps.specs.Logs.{moments, IsLawfulOn, Shows, ShowsFault, StopsInRead}
+use Rattle.beep_listener.specs.beep_logged.specs.Logged.{IsSound}
+use Rattle.beep_listener.specs.beep_link.specs.declared.ended.Ended.{Ended}
+use Rattle.beep_listener.specs.beep_link.specs.Causes.{octets_read}
+use Rattle.beep_listener.specs.beep_steps.specs.Logs.{moments, IsLawfulOn, Shows, ShowsFault, StopsInRead}
 use Rattle.beep_runs.specs.Replayed.{IsUnwritten, IsFineBefore, IsReplayedTo}
 use Rattle.beep_runs.proofs.GotLemmas.{gots, gots-got_all, gots-put_all, in-read, knows}
 
@@ -55,8 +55,8 @@ module _ (terms : Terms) (log : List Entry) (verdict : Verdict) (old new : List 
   pub sound-fine : IsSound terms (moments log) → verdict ≡ Verdict.Fine
   sound-fine sound = r.verdict_is ∙ fine-of r.past.fault (ap (λ (p : Past). p.fault) (same sound.past sound.shows) ∙ sound.going)
 
-  pub fault-told : (rule : Rule) (place : ℕ) → ShowsFault terms rule place (moments log) → verdict ≡ Verdict.Broken rule place
-  fault-told rule place f =
+  pub fault-shown : (rule : Rule) (place : ℕ) → ShowsFault terms rule place (moments log) → verdict ≡ Verdict.Broken rule place
+  fault-shown rule place f =
       r.verdict_is ∙ ap verdict_of (ap (λ (p : Past). p.fault) (same f.broken.past f.broken.shows) ∙ f.broken.fault_is) ∙ ap (λ (n : ℕ). Verdict.Broken rule n) (sym f.place_is)
 
 -- where a session stopped in a read, a rule was broken in it or not at all
@@ -85,7 +85,7 @@ stopped-fine terms (ended ∷ log) verdict old new r s = absurd s
 pub replayed : (terms : Terms) (cause : Ended) (log : List Entry) (verdict : Verdict) (old new : List ℕ) → Shows terms cause log → Replays (log_said log) verdict old new
     → IsReplayedTo cause log verdict
 replayed terms Ended.Released log verdict old new s r = sound-fine terms log verdict old new r s.sound
-replayed terms (Ended.Broken rule place) log verdict old new s r = fault-told terms log verdict old new r rule place s.0
+replayed terms (Ended.Broken rule place) log verdict old new s r = fault-shown terms log verdict old new r rule place s.0
 replayed terms Ended.WriteFault log verdict old new s r = stopped-fine terms log verdict old new r s
 replayed terms Ended.WireFault log verdict old new s r = sound-fine terms log verdict old new r s
 replayed terms Ended.NoMemory log verdict old new s r = elim s as (λ _. IsFineBefore log verdict) [

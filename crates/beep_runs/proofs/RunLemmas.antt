@@ -1,19 +1,19 @@
 -- What became of a link that was asked for, used and shut.
 use Rattle.std.proofs.Common.{◌≡◌, ◌≢◌, ◌⊎◌, inl, inr, ⊎_elim, ℕ, ◌+◌, false, List, Option, None, Some, sym, ap, ◌∙◌, subst, arith}
-use Rattle.beep_wires.specs.Links.{Link, Counts, IsFresh, SameBeside}
-use Rattle.beep_journal.specs.declared.role.Role.{Role}
-use Rattle.beep_lawful.specs.declared.terms.Terms.{Terms}
-use Rattle.beep_settings.specs.declared.settings.Settings.{Settings}
-use Rattle.beep_wires.specs.Log.{Entry}
-use Rattle.beep_link.specs.declared.ended.Ended.{Ended}
-use Rattle.beep_link.specs.Causes.{IsCaused, Keeps, Seen, WhereKnown}
-use Rattle.beep_steps.specs.Ends.{reads_of}
-use Rattle.beep_steps.specs.Logs.{IsLawfulOn, Shows, terms_by}
-use Rattle.beep_steps.specs.Refusing.{GoesUnrefused}
-use Rattle.beep_steps.specs.EachEnd.{EachEndOn}
-use Rattle.beep_steps.specs.Resting.{AreShort}
-use Rattle.beep_steps.proofs.EachLemmas.{each-then}
-use Rattle.beep_steps.specs.Sending.{sender_plan, SendsAll}
+use Rattle.beep_listener.specs.beep_wires.specs.Links.{Link, Counts, IsFresh, SameBeside}
+use Rattle.beep_listener.specs.beep_journal.specs.declared.role.Role.{Role}
+use Rattle.beep_listener.specs.beep_lawful.specs.declared.terms.Terms.{Terms}
+use Rattle.beep_listener.specs.beep_settings.specs.declared.settings.Settings.{Settings}
+use Rattle.beep_listener.specs.beep_wires.specs.Log.{Entry}
+use Rattle.beep_listener.specs.beep_link.specs.declared.ended.Ended.{Ended}
+use Rattle.beep_listener.specs.beep_link.specs.Causes.{IsCaused, Keeps, Seen, WhereKnown}
+use Rattle.beep_listener.specs.beep_steps.specs.Ends.{reads_of}
+use Rattle.beep_listener.specs.beep_steps.specs.Logs.{IsLawfulOn, Shows, terms_by}
+use Rattle.beep_listener.specs.beep_steps.specs.Refusing.{GoesUnrefused, ReadsOnlyGoing}
+use Rattle.beep_listener.specs.beep_steps.specs.EachEnd.{EachEndOn}
+use Rattle.beep_listener.specs.beep_steps.specs.Resting.{AreShort}
+use Rattle.beep_listener.specs.beep_steps.proofs.EachLemmas.{each-then}
+use Rattle.beep_listener.specs.beep_steps.specs.Sending.{sender_plan, SendsAll}
 use Rattle.beep_listener.specs.Listening.{listener_plan}
 use Rattle.beep_recorder.specs.Kept.{Recording, RecordsKnown}
 use Rattle.beep_runs.specs.Runs.{HasListened, IsRecorded, Ran, SentAll}
@@ -30,14 +30,14 @@ starved terms (Ended.Cut left) log s = inl s.sound
 starved terms (Ended.Idle reads) log s = inl s.sound
 starved terms (Ended.Spent octets) log s = inl s.sound
 
-starved-told : (terms : Terms) (cause : Ended) (log : Option (List Entry)) → WhereKnown (Shows terms cause) log → WhereKnown (Shows terms Ended.NoMemory) log
-starved-told terms cause None s = tt
-starved-told terms cause (Some log) s = starved terms cause log s
+starved-known : (terms : Terms) (cause : Ended) (log : Option (List Entry)) → WhereKnown (Shows terms cause) log → WhereKnown (Shows terms Ended.NoMemory) log
+starved-known terms cause None s = tt
+starved-known terms cause (Some log) s = starved terms cause log s
 
 module _ (role : Role) (settings : Settings) (cause : Ended) (before given used after : Seen) (link : ℕ) (is : link ≡ before.counts.given)
     (fresh : IsFresh (given.state link)) (others : SameBeside link before.state given.state) (one : given.counts.given ≡ before.counts.given + 1) (quiets : given.counts.quiets ≡ before.counts.quiets)
     (keeps : Keeps link given used) (caused : IsCaused cause (reads_of settings) (record { link = given.state link; quiets = given.counts.quiets }) (record { link = used.state link; quiets = used.counts.quiets }))
-    (lawful : WhereKnown (IsLawfulOn (terms_by role settings)) (used.state link).log) (told : WhereKnown (Shows (terms_by role settings) cause) (used.state link).log)
+    (lawful : WhereKnown (IsLawfulOn (terms_by role settings)) (used.state link).log) (shown : WhereKnown (Shows (terms_by role settings) cause) (used.state link).log)
     (shut : after.state link ≡ record (used.state link) { is_open = false }) (beside : SameBeside link used.state after.state) (counts : after.counts ≡ used.counts) where
   ran-by : (result : Ended) → IsCaused result (reads_of settings) (record { link = given.state link; quiets = given.counts.quiets }) (record { link = used.state link; quiets = used.counts.quiets })
       → WhereKnown (Shows (terms_by role settings) result) (used.state link).log → Ran role settings result before after
@@ -49,7 +49,7 @@ module _ (role : Role) (settings : Settings) (cause : Ended) (before given used 
         (ap (λ (k : Counts). k.quiets) (sym counts))
         (subst (λ (q : ℕ). IsCaused result (reads_of settings) (record { link = given.state link; quiets = q }) (record { link = used.state link; quiets = used.counts.quiets })) quiets c);
     lawful = lawful;
-    told = t;
+    shown = t;
     shut = subst (λ (n : ℕ). after.state n ≡ record (used.state link) { is_open = false }) is shut;
     given = ap (λ (k : Counts). k.given) counts ∙ keeps.given ∙ one;
     others = subst (λ (n : ℕ). SameBeside n before.state after.state) is (λ n away. beside n away ∙ keeps.others n away ∙ others n away);
@@ -58,8 +58,8 @@ module _ (role : Role) (settings : Settings) (cause : Ended) (before given used 
   -- what ended the session ended the run, or memory ran out as the record was made
   pub ran : (result : Ended) → (result ≡ cause) ⊎ (result ≡ Ended.NoMemory) → Ran role settings result before after
   ran result = elim [
-    | inl same ↦ subst (λ (e : Ended). Ran role settings e before after) (sym same) (ran-by cause caused told)
-    | inr short ↦ subst (λ (e : Ended). Ran role settings e before after) (sym short) (ran-by Ended.NoMemory tt (starved-told (terms_by role settings) cause (used.state link).log told))
+    | inl same ↦ subst (λ (e : Ended). Ran role settings e before after) (sym same) (ran-by cause caused shown)
+    | inr short ↦ subst (λ (e : Ended). Ran role settings e before after) (sym short) (ran-by Ended.NoMemory tt (starved-known (terms_by role settings) cause (used.state link).log shown))
   ]
 
   -- the record is of the link that was given
@@ -85,11 +85,13 @@ goes-unrefused terms cause result log unrefused =
 -- what was sent by the end of the session was sent by the end of the run
 pub sent_all : (settings : Settings) (lines : List (List ℕ)) (cause result : Ended) (before used after : Seen) (link : ℕ) → link ≡ before.counts.given → after.state link ≡ record (used.state link) { is_open = false }
     → (cause ≡ Ended.Released → WhereKnown (SendsAll (sender_plan settings lines)) (used.state link).log)
-    → WhereKnown (GoesUnrefused (terms_by Role.Initiator settings) cause) (used.state link).log → (AreShort lines → WhereKnown (EachEndOn (sender_plan settings lines) cause) (used.state link).log) → (result ≡ cause) ⊎ (result ≡ Ended.NoMemory) → SentAll settings lines result before after
-sent_all settings lines cause result before used after link is shut sent unrefused each ended = record {
+    → WhereKnown (GoesUnrefused (terms_by Role.Initiator settings) cause) (used.state link).log → WhereKnown (ReadsOnlyGoing (terms_by Role.Initiator settings)) (used.state link).log
+    → (AreShort lines → WhereKnown (EachEndOn (sender_plan settings lines) cause) (used.state link).log) → (result ≡ cause) ⊎ (result ≡ Ended.NoMemory) → SentAll settings lines result before after
+sent_all settings lines cause result before used after link is shut sent unrefused waits each ended = record {
   all = λ released. on (SendsAll (sender_plan settings lines)) (⊎_elim (λ same. sent (sym same ∙ released))
       (λ short. absurd (let h : Ended.NoMemory ≡ Ended.Released = sym short ∙ released in cc)) ended);
   unrefused = on (GoesUnrefused (terms_by Role.Initiator settings) result) (goes-unrefused (terms_by Role.Initiator settings) cause result (used.state link).log unrefused ended);
+  waits = on (ReadsOnlyGoing (terms_by Role.Initiator settings)) waits;
   each = λ short. on (EachEndOn (sender_plan settings lines) result) (each-then (sender_plan settings lines) cause result (used.state link).log (each short) ended);
 }
   where
@@ -98,9 +100,11 @@ sent_all settings lines cause result before used after link is shut sent unrefus
 
 -- what a listener kept by the end of its session it kept by the end of the run
 pub has_listened : (settings : Settings) (cause result : Ended) (before used after : Seen) (link : ℕ) → link ≡ before.counts.given → after.state link ≡ record (used.state link) { is_open = false }
-    → WhereKnown (GoesUnrefused (terms_by Role.Listener settings) cause) (used.state link).log → WhereKnown (EachEndOn (listener_plan settings) cause) (used.state link).log → (result ≡ cause) ⊎ (result ≡ Ended.NoMemory) → HasListened settings result before after
-has_listened settings cause result before used after link is shut unrefused each ended = record {
+    → WhereKnown (GoesUnrefused (terms_by Role.Listener settings) cause) (used.state link).log → WhereKnown (ReadsOnlyGoing (terms_by Role.Listener settings)) (used.state link).log
+    → WhereKnown (EachEndOn (listener_plan settings) cause) (used.state link).log → (result ≡ cause) ⊎ (result ≡ Ended.NoMemory) → HasListened settings result before after
+has_listened settings cause result before used after link is shut unrefused waits each ended = record {
   unrefused = on (GoesUnrefused (terms_by Role.Listener settings) result) (goes-unrefused (terms_by Role.Listener settings) cause result (used.state link).log unrefused ended);
+  waits = on (ReadsOnlyGoing (terms_by Role.Listener settings)) waits;
   each = on (EachEndOn (listener_plan settings) result) (each-then (listener_plan settings) cause result (used.state link).log each ended);
 }
   where

@@ -2,11 +2,11 @@
 -- what ended the run (RFC 3080, section 2.2.1).
 -- The code judges the log anew, and knows of no run.
 use Rattle.std.specs.Prelude.{◌≡◌, ℕ, ◌+◌, ◌≤◌, ◌<◌, List, [], ◌∷◌, length}
-use Rattle.beep_frame.specs.Modulo.{modulo_2_64}
-use Rattle.beep_wires.specs.Log.{Entry, read, wrote, quiet, ended}
-use Rattle.beep_record.specs.declared.verdict.Verdict.{Verdict}
-use Rattle.beep_link.specs.declared.ended.Ended.{Ended}
-use Rattle.beep_link.specs.Causes.{octets_read}
+use Rattle.beep_listener.specs.beep_frame.specs.Modulo.{modulo_2_64}
+use Rattle.beep_listener.specs.beep_wires.specs.Log.{Entry, read, wrote, quiet, ended}
+use Rattle.beep_recorder.specs.beep_record.specs.declared.verdict.Verdict.{Verdict}
+use Rattle.beep_listener.specs.beep_link.specs.declared.ended.Ended.{Ended}
+use Rattle.beep_listener.specs.beep_link.specs.Causes.{octets_read}
 
 -- no rule is broken by what was written
 abbrev pub IsUnwritten : Verdict → Type 0

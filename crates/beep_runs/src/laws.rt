@@ -1,13 +1,13 @@
 //! What the log of a run is replayed to, as facts: each function does nothing, and its contract is
 //! the fact.
 ghost use Rattle.std.specs.Prelude.{ℕ, List};
-ghost use Rattle.beep_lawful.specs.declared.terms.Terms.{Terms};
-ghost use Rattle.beep_wires.specs.Log.{Entry};
-ghost use Rattle.beep_record.specs.declared.verdict.Verdict.{Verdict};
-ghost use Rattle.beep_record.specs.Verdicts.{Replays};
+ghost use Rattle.beep_listener.specs.beep_lawful.specs.declared.terms.Terms.{Terms};
+ghost use Rattle.beep_listener.specs.beep_wires.specs.Log.{Entry};
+ghost use Rattle.beep_recorder.specs.beep_record.specs.declared.verdict.Verdict.{Verdict};
+ghost use Rattle.beep_recorder.specs.beep_record.specs.Verdicts.{Replays};
 ghost use Rattle.beep_recorder.specs.Said.{log_said};
-ghost use Rattle.beep_link.specs.declared.ended.Ended.{Ended};
-ghost use Rattle.beep_steps.specs.Logs.{IsLawfulOn, Shows};
+ghost use Rattle.beep_listener.specs.beep_link.specs.declared.ended.Ended.{Ended};
+ghost use Rattle.beep_listener.specs.beep_steps.specs.Logs.{IsLawfulOn, Shows};
 ghost use Rattle.beep_runs.specs.Replayed.{IsUnwritten, IsReplayedTo};
 
 /// Where what was written on a link is lawful, the log of the link is never replayed to a rule that

@@ -6,3 +6,9 @@ pub mod laws;
 mod recorded;
 
 pub use recorded::{listen_recorded, send_recorded};
+
+// Crates below, which are named through this one.
+pub use beep_listener;
+pub use beep_listener::{beep_memory, beep_octets, beep_settings, beep_wires, prof_raw};
+pub use beep_recorder::beep_record;
+pub use beep_sender;

@@ -1,20 +1,20 @@
 //! One session over a link that is recorded.
 ghost use Rattle.std.specs.Prelude.{◌≡◌, ◌≢◌, ◌⊎◌, ℕ, List, Some, chars, IfOk, IfErr};
-ghost use Rattle.beep_journal.specs.declared.role.Role.{Role as RoleValue};
-ghost use Rattle.beep_link.specs.declared.ended.Ended.{Ended as EndedValue};
-ghost use Rattle.beep_wires.specs.Links.{accept, dial};
-ghost use Rattle.beep_steps.specs.Ends.{AreFit};
+ghost use Rattle.beep_listener.specs.beep_journal.specs.declared.role.Role.{Role as RoleValue};
+ghost use Rattle.beep_listener.specs.beep_link.specs.declared.ended.Ended.{Ended as EndedValue};
+ghost use Rattle.beep_listener.specs.beep_wires.specs.Links.{accept, dial};
+ghost use Rattle.beep_listener.specs.beep_steps.specs.Ends.{AreFit};
 ghost use Rattle.beep_recorder.specs.Kept.{Recording, RecordsKnown};
 ghost use Rattle.beep_runs.specs.Runs.{AsksThis, HasListened, IsRecorded, NotGiven, Ran, seen_of, SentAll};
 
+use beep_listener::beep_octets::{NoMemory, Octets};
+use beep_listener::beep_settings::Settings;
+use beep_listener::beep_wires::{NullSink, WireError, Wires};
+use beep_listener::prof_raw::Entries;
 use beep_listener::{Ended, listen_end};
-use beep_octets::{NoMemory, Octets};
-use beep_record::Role;
+use beep_recorder::beep_record::Role;
 use beep_recorder::{Known, Recorder};
 use beep_sender::send_end;
-use beep_settings::Settings;
-use beep_wires::{NullSink, WireError, Wires};
-use prof_raw::Entries;
 use std::alloc::Global;
 use std::marker::Brand;
 

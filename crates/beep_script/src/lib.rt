@@ -21,3 +21,6 @@ pub use lines_heard::{entries, lines};
 pub use refusals::refusal;
 pub use scripts::script;
 pub use settled::is_settled;
+
+// Crates below, which are named through this one.
+pub use prof_raw;

@@ -1,27 +1,27 @@
 -- What each step of a sender leaves of what it gave on channel zero.
 use Rattle.std.proofs.Common.{◌≡◌, ◌∙◌, refl, sym, ap, subst, ℕ, zero, suc, ◌≤◌, ◌==◌, Bool, true, false, not, ◌&&◌, List, [], ◌∷◌, Option, None, Some, arith}
 use Rattle.std.specs.Prelude.{◌≢◌, Result, Ok, Err, IfErr, IfOk, OnOk}
-use Rattle.beep_frame.specs.declared.head.Head.{Head}
-use Rattle.beep_frame.specs.declared.kind.Kind.{Kind}
-use Rattle.beep_frame.specs.Frame.{is_nul}
-use Rattle.beep_history.specs.declared.journal.Side.{Side}
-use Rattle.beep_history.specs.Journal.{Item, passed}
-use Rattle.beep_journal.specs.Log.{Moment}
-use Rattle.beep_mgmt.specs.Form.{PlainProfile, close, start}
-use Rattle.beep_mgmt.specs.Message.{message_text}
-use Rattle.beep_standing.specs.Standing.{Marks}
-use Rattle.beep_answering.specs.Sent.{closing_of}
-use Rattle.beep_answering.specs.declared.settled.Settled.{Settled}
-use Rattle.beep_peer.specs.Peering.{IsPeer}
-use Rattle.beep_session.specs.Acts.{AsksZero, start_text}
-use Rattle.beep_session.specs.Channels.{Gives, IsOfPeer, IsStill}
-use Rattle.beep_session.specs.Lawfully.{KeepsUpright}
-use Rattle.beep_session.specs.Session.{Held}
-use Rattle.beep_speaking.specs.declared.emit.Emit.{Emit}
-use Rattle.beep_talk.specs.AtZero.{ZeroMessage, profile_of, zero_message}
-use Rattle.beep_talk.specs.Plan.{PlainPlan}
-use Rattle.beep_script.specs.Desk.{asks, asks_where, grants_own}
-use Rattle.beep_desk.proofs.AskLemmas.{sender-none, sender-release, sender-start}
+use Rattle.beep_steps.specs.beep_frame.specs.declared.head.Head.{Head}
+use Rattle.beep_steps.specs.beep_frame.specs.declared.kind.Kind.{Kind}
+use Rattle.beep_steps.specs.beep_frame.specs.Frame.{is_nul}
+use Rattle.beep_steps.specs.beep_history.specs.declared.journal.Side.{Side}
+use Rattle.beep_steps.specs.beep_history.specs.Journal.{Item, passed}
+use Rattle.beep_steps.specs.beep_journal.specs.Log.{Moment}
+use Rattle.beep_steps.specs.beep_mgmt.specs.Form.{PlainProfile, close, start}
+use Rattle.beep_steps.specs.beep_mgmt.specs.Message.{message_text}
+use Rattle.beep_steps.specs.beep_standing.specs.Standing.{Marks}
+use Rattle.beep_steps.specs.beep_answering.specs.Sent.{closing_of}
+use Rattle.beep_steps.specs.beep_answering.specs.declared.settled.Settled.{Settled}
+use Rattle.beep_steps.specs.beep_peer.specs.Peering.{IsPeer}
+use Rattle.beep_steps.specs.beep_session.specs.Acts.{AsksZero, start_text}
+use Rattle.beep_steps.specs.beep_session.specs.Channels.{Gives, IsOfPeer, IsStill}
+use Rattle.beep_steps.specs.beep_session.specs.Lawfully.{KeepsUpright}
+use Rattle.beep_steps.specs.beep_session.specs.Session.{Held}
+use Rattle.beep_steps.specs.beep_speaking.specs.declared.emit.Emit.{Emit}
+use Rattle.beep_steps.specs.beep_talk.specs.AtZero.{ZeroMessage, profile_of, zero_message}
+use Rattle.beep_steps.specs.beep_talk.specs.Plan.{PlainPlan}
+use Rattle.beep_steps.specs.beep_script.specs.Desk.{asks, asks_where, grants_own}
+use Rattle.beep_steps.specs.beep_desk.proofs.AskLemmas.{sender-none, sender-release, sender-start}
 use Rattle.beep_steps.specs.Desking.{AsksSo, DesksWithin, EndsLinesSo, SaidDesk, closes_own}
 use Rattle.beep_steps.specs.Logs.{AreTaken}
 use Rattle.beep_steps.specs.Scripting.{ScriptedOn}

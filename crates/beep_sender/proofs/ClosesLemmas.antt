@@ -1,18 +1,18 @@
 -- The close of channel 1 that a sender gives joins its desk, and it is never refused.
 use Rattle.std.proofs.Common.{◌≡◌, ◌∙◌, refl, sym, ap, subst, ℕ, Bool, true, false, not, ◌&&◌, List, [], Option, None, Some, arith}
 use Rattle.std.specs.Prelude.{is_some, nat_lt}
-use Rattle.beep_journal.specs.Life.{is_there}
-use Rattle.beep_journal.specs.Log.{Moment}
-use Rattle.beep_lives.specs.Lives.{live_at}
-use Rattle.beep_peer.specs.Peering.{is_over}
-use Rattle.beep_peer.specs.Acts.{close_refusal}
-use Rattle.beep_peer.specs.declared.refusals.CloseError.{CloseError}
-use Rattle.beep_session.specs.Channels.{Closes, is_closing}
-use Rattle.beep_session.specs.Lawfully.{KeepsUpright}
-use Rattle.beep_session.specs.Session.{Held}
-use Rattle.beep_mgmt.specs.Form.{close}
-use Rattle.beep_mgmt.specs.Message.{message_text}
-use Rattle.beep_talk.specs.Plan.{PlainPlan}
+use Rattle.beep_steps.specs.beep_journal.specs.Life.{is_there}
+use Rattle.beep_steps.specs.beep_journal.specs.Log.{Moment}
+use Rattle.beep_steps.specs.beep_lives.specs.Lives.{live_at}
+use Rattle.beep_steps.specs.beep_peer.specs.Peering.{is_over}
+use Rattle.beep_steps.specs.beep_peer.specs.Acts.{close_refusal}
+use Rattle.beep_steps.specs.beep_peer.specs.declared.refusals.CloseError.{CloseError}
+use Rattle.beep_steps.specs.beep_session.specs.Channels.{Closes, is_closing}
+use Rattle.beep_steps.specs.beep_session.specs.Lawfully.{KeepsUpright}
+use Rattle.beep_steps.specs.beep_session.specs.Session.{Held}
+use Rattle.beep_steps.specs.beep_mgmt.specs.Form.{close}
+use Rattle.beep_steps.specs.beep_mgmt.specs.Message.{message_text}
+use Rattle.beep_steps.specs.beep_talk.specs.Plan.{PlainPlan}
 use Rattle.beep_steps.specs.Desking.{AsksClose, DesksWithin}
 use Rattle.beep_steps.specs.Logs.{AreTaken}
 use Rattle.beep_steps.specs.Scripting.{ScriptedOn}

@@ -3,21 +3,21 @@ use Rattle.std.proofs.Common.{◌≡◌, ℕ, zero, suc, ◌+◌, ◌<◌, ◌�
 use Rattle.std.specs.List.{list_all}
 use Rattle.std.proofs.lemmas.List.{append_assoc, append-nil, take_all}
 use Rattle.std.proofs.lemmas.Grind.{flat_map-append}
-use Rattle.beep_frame.specs.declared.kind.Kind.{Kind}
-use Rattle.beep_frame.specs.declared.tag.Tag.{Tag}
-use Rattle.beep_frame.specs.Frame.{is_msg, is_ans}
-use Rattle.beep_frame.specs.Modulo.{modulo_2_64}
-use Rattle.beep_history.specs.Marks.{Mark, octet, end}
-use Rattle.beep_exchange.specs.Given.{ends_reply, message_number}
-use Rattle.beep_channel.specs.Stands.{ends_of, answers_after, answers_with}
-use Rattle.beep_outbox.specs.Queue.{message_marks as given_marks}
-use Rattle.beep_giving.specs.Giving.{next_message}
-use Rattle.beep_lawful.specs.declared.limits.TheConstants.{MESSAGE_NUMBERS}
-use Rattle.prof_raw.specs.Entries.{body_of}
-use Rattle.beep_talk.specs.Talk.{message_of, answers_from, nul}
-use Rattle.beep_script.specs.Script.{message_marks}
-use Rattle.beep_script.specs.Sending.{is_of_reply, answers_of, whole_answer, LinesGiven, some_given, all_given}
-use Rattle.beep_script.proofs.SentLemmas.{reply-marks}
+use Rattle.beep_steps.specs.beep_frame.specs.declared.kind.Kind.{Kind}
+use Rattle.beep_steps.specs.beep_frame.specs.declared.tag.Tag.{Tag}
+use Rattle.beep_steps.specs.beep_frame.specs.Frame.{is_msg, is_ans}
+use Rattle.beep_steps.specs.beep_frame.specs.Modulo.{modulo_2_64}
+use Rattle.beep_steps.specs.beep_history.specs.Marks.{Mark, octet, end}
+use Rattle.beep_steps.specs.beep_exchange.specs.Given.{ends_reply, message_number}
+use Rattle.beep_steps.specs.beep_channel.specs.Stands.{ends_of, answers_after, answers_with}
+use Rattle.beep_steps.specs.beep_outbox.specs.Queue.{message_marks as given_marks}
+use Rattle.beep_steps.specs.beep_giving.specs.Giving.{next_message}
+use Rattle.beep_steps.specs.beep_lawful.specs.declared.limits.TheConstants.{MESSAGE_NUMBERS}
+use Rattle.beep_steps.specs.prof_raw.specs.Entries.{body_of}
+use Rattle.beep_steps.specs.beep_talk.specs.Talk.{message_of, answers_from, nul}
+use Rattle.beep_steps.specs.beep_script.specs.Script.{message_marks}
+use Rattle.beep_steps.specs.beep_script.specs.Sending.{is_of_reply, answers_of, whole_answer, LinesGiven, some_given, all_given}
+use Rattle.beep_steps.specs.beep_script.proofs.SentLemmas.{reply-marks}
 
 -- ---- the answers that were given
 

@@ -1,10 +1,10 @@
 -- An end that stands for a log was refused nothing, whatever ended it then.
 use Rattle.std.proofs.Common.{◌≡◌, Bool, List, sym, ap, subst}
-use Rattle.beep_journal.specs.Log.{Moment}
-use Rattle.beep_wires.specs.Log.{Entry}
-use Rattle.beep_session.specs.Lawfully.{terms_of}
-use Rattle.beep_talk.specs.declared.plan.Command.{Command}
-use Rattle.beep_link.specs.declared.ended.Ended.{Ended}
+use Rattle.beep_steps.specs.beep_journal.specs.Log.{Moment}
+use Rattle.beep_steps.specs.beep_wires.specs.Log.{Entry}
+use Rattle.beep_steps.specs.beep_session.specs.Lawfully.{terms_of}
+use Rattle.beep_steps.specs.beep_talk.specs.declared.plan.Command.{Command}
+use Rattle.beep_steps.specs.beep_link.specs.declared.ended.Ended.{Ended}
 use Rattle.beep_steps.specs.Logs.{command_of, moments}
 use Rattle.beep_steps.specs.Refusing.{GoesUnrefused, IsUnrefused}
 use Rattle.beep_steps.specs.Turning.{none_refused, IsCalm}

@@ -2,22 +2,22 @@
 use Rattle.std.proofs.Common.{◌≡◌, ℕ, zero, suc, ◌+◌, ◌≤◌, ◌==◌, Bool, true, false, if◌then◌else◌, List, [], ◌∷◌, ◌++◌, map, flat_map, length, slice_get, Some, refl, sym, ap, ◌∙◌, arith}
 use Rattle.std.proofs.lemmas.Bool.Decides.{nat_tests}
 use Rattle.std.proofs.lemmas.Grind.{flat_map-append}
-use Rattle.beep_frame.specs.declared.kind.Kind.{Kind}
-use Rattle.beep_frame.specs.declared.tag.Tag.{Tag}
-use Rattle.beep_frame.specs.Modulo.{modulo_2_64}
-use Rattle.beep_history.specs.Marks.{Mark, octet, end, mark_modulo_2_64}
-use Rattle.beep_exchange.specs.Given.{ends_reply}
-use Rattle.beep_channel.specs.Stands.{ends_of}
-use Rattle.beep_outbox.specs.Queue.{message_marks as given_marks}
-use Rattle.beep_giving.specs.Giving.{next_message}
-use Rattle.prof_raw.specs.Entries.{body_of}
-use Rattle.beep_talk.specs.declared.plan.Command.{Command}
-use Rattle.beep_talk.specs.Plan.{PlainPlan}
-use Rattle.beep_talk.specs.Talk.{answers_from, nul, reply_of}
-use Rattle.beep_script.specs.Script.{message_marks}
-use Rattle.beep_replies.specs.Replies.{replies}
-use Rattle.beep_replies.proofs.SaidLemmas.{next-reply}
-use Rattle.beep_replies.proofs.PlacedLemmas.{replies_marks}
+use Rattle.beep_steps.specs.beep_frame.specs.declared.kind.Kind.{Kind}
+use Rattle.beep_steps.specs.beep_frame.specs.declared.tag.Tag.{Tag}
+use Rattle.beep_steps.specs.beep_frame.specs.Modulo.{modulo_2_64}
+use Rattle.beep_steps.specs.beep_history.specs.Marks.{Mark, octet, end, mark_modulo_2_64}
+use Rattle.beep_steps.specs.beep_exchange.specs.Given.{ends_reply}
+use Rattle.beep_steps.specs.beep_channel.specs.Stands.{ends_of}
+use Rattle.beep_steps.specs.beep_outbox.specs.Queue.{message_marks as given_marks}
+use Rattle.beep_steps.specs.beep_giving.specs.Giving.{next_message}
+use Rattle.beep_steps.specs.prof_raw.specs.Entries.{body_of}
+use Rattle.beep_steps.specs.beep_talk.specs.declared.plan.Command.{Command}
+use Rattle.beep_steps.specs.beep_talk.specs.Plan.{PlainPlan}
+use Rattle.beep_steps.specs.beep_talk.specs.Talk.{answers_from, nul, reply_of}
+use Rattle.beep_steps.specs.beep_script.specs.Script.{message_marks}
+use Rattle.beep_steps.specs.beep_replies.specs.Replies.{replies}
+use Rattle.beep_steps.specs.beep_replies.proofs.SaidLemmas.{next-reply}
+use Rattle.beep_steps.specs.beep_replies.proofs.PlacedLemmas.{replies_marks}
 use Rattle.beep_steps.specs.Scripting.{RepliesGiven, part_given, whole_given}
 use Rattle.beep_steps.proofs.ScriptLemmas.{answers-given}
 use Rattle.beep_sender.proofs.GivesLemmas.{within-of, ends-append, no-ends, next-answer, next-nul}

@@ -1,13 +1,13 @@
 -- What a sender is left with where a line found no room.
 use Rattle.std.proofs.Common.{◌≡◌, ◌∙◌, sym, ap, subst, arith, ℕ, ◌+◌, ◌≤◌, List, [], ◌∷◌, ◌++◌, length, length-append, Some}
-use Rattle.beep_history.specs.declared.limits.TheConstants.{MAX_MESSAGE}
-use Rattle.beep_lives.specs.Lives.{live_at}
-use Rattle.beep_giving.specs.Giving.{reply_refusal_at}
-use Rattle.beep_outbox.specs.declared.give_error.GiveError.{GiveError}
-use Rattle.beep_session.specs.Channels.{IsStill}
-use Rattle.beep_session.specs.Session.{Held}
-use Rattle.prof_raw.specs.declared.line.TheConstants.{ENTRY_MAX}
-use Rattle.prof_raw.specs.Entries.{body_of, line_end}
+use Rattle.beep_steps.specs.beep_history.specs.declared.limits.TheConstants.{MAX_MESSAGE}
+use Rattle.beep_steps.specs.beep_lives.specs.Lives.{live_at}
+use Rattle.beep_steps.specs.beep_giving.specs.Giving.{reply_refusal_at}
+use Rattle.beep_steps.specs.beep_outbox.specs.declared.give_error.GiveError.{GiveError}
+use Rattle.beep_steps.specs.beep_session.specs.Channels.{IsStill}
+use Rattle.beep_steps.specs.beep_session.specs.Session.{Held}
+use Rattle.beep_steps.specs.prof_raw.specs.declared.line.TheConstants.{ENTRY_MAX}
+use Rattle.beep_steps.specs.prof_raw.specs.Entries.{body_of, line_end}
 use Rattle.beep_steps.specs.Resting.{HasRepliedAt, HoldsStill, IsFullAt}
 use Rattle.beep_steps.proofs.RestCalls.{full-replied, still-replied, unchanged-still}
 

@@ -1,13 +1,13 @@
 -- What each step of a sender leaves of its script above channel zero.
 use Rattle.std.proofs.Common.{◌≡◌, ℕ, ◌+◌, ◌≤◌, List, [], ◌∷◌, length, slice_get, Some, refl, sym, subst}
 use Rattle.std.specs.Prelude.{Result, Ok, OnOk}
-use Rattle.beep_frame.specs.declared.kind.Kind.{Kind}
-use Rattle.beep_journal.specs.Log.{Moment}
-use Rattle.beep_session.specs.Channels.{IsOpen, Gives}
-use Rattle.beep_session.specs.Lawfully.{KeepsUpright}
-use Rattle.beep_session.specs.Session.{Held}
-use Rattle.prof_raw.specs.Entries.{body_of}
-use Rattle.beep_talk.specs.Plan.{PlainPlan}
+use Rattle.beep_steps.specs.beep_frame.specs.declared.kind.Kind.{Kind}
+use Rattle.beep_steps.specs.beep_journal.specs.Log.{Moment}
+use Rattle.beep_steps.specs.beep_session.specs.Channels.{IsOpen, Gives}
+use Rattle.beep_steps.specs.beep_session.specs.Lawfully.{KeepsUpright}
+use Rattle.beep_steps.specs.beep_session.specs.Session.{Held}
+use Rattle.beep_steps.specs.prof_raw.specs.Entries.{body_of}
+use Rattle.beep_steps.specs.beep_talk.specs.Plan.{PlainPlan}
 use Rattle.beep_steps.specs.Sending.{Progress, at_next}
 use Rattle.beep_steps.specs.Scripting.{ScriptedOn, KeepsScripting}
 use Rattle.beep_steps.proofs.CallScripts.{gives-scripts}

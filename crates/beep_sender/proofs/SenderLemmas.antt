@@ -1,19 +1,19 @@
 -- What each step of a sender leaves of what it has said.
 use Rattle.std.proofs.Common.{◌≡◌, ℕ, ◌+◌, ◌≤◌, Bool, true, false, ◌||◌, List, [], ◌∷◌, length, slice_get, Some, refl, sym, ap, ◌∙◌, subst}
 use Rattle.std.specs.Prelude.{Result, Ok, Err, OnOk, IfOk}
-use Rattle.beep_frame.specs.declared.kind.Kind.{Kind}
-use Rattle.beep_history.specs.Journal.{Item}
-use Rattle.beep_journal.specs.Life.{is_there}
-use Rattle.beep_journal.specs.Log.{Moment}
-use Rattle.beep_standing.specs.Standing.{Marks}
-use Rattle.beep_peer.specs.Peering.{IsPeer}
-use Rattle.beep_session.specs.Channels.{IsOpen, Gives}
-use Rattle.beep_session.specs.Lawfully.{terms_of, KeepsUpright}
-use Rattle.beep_lawful.specs.declared.terms.Terms.{Terms}
-use Rattle.beep_session.specs.Session.{Held}
-use Rattle.prof_raw.specs.Entries.{body_of}
-use Rattle.beep_talk.specs.declared.plan.Command.{Command}
-use Rattle.beep_talk.specs.Plan.{PlainPlan}
+use Rattle.beep_steps.specs.beep_frame.specs.declared.kind.Kind.{Kind}
+use Rattle.beep_steps.specs.beep_history.specs.Journal.{Item}
+use Rattle.beep_steps.specs.beep_journal.specs.Life.{is_there}
+use Rattle.beep_steps.specs.beep_journal.specs.Log.{Moment}
+use Rattle.beep_steps.specs.beep_standing.specs.Standing.{Marks}
+use Rattle.beep_steps.specs.beep_peer.specs.Peering.{IsPeer}
+use Rattle.beep_steps.specs.beep_session.specs.Channels.{IsOpen, Gives}
+use Rattle.beep_steps.specs.beep_session.specs.Lawfully.{terms_of, KeepsUpright}
+use Rattle.beep_steps.specs.beep_lawful.specs.declared.terms.Terms.{Terms}
+use Rattle.beep_steps.specs.beep_session.specs.Session.{Held}
+use Rattle.beep_steps.specs.prof_raw.specs.Entries.{body_of}
+use Rattle.beep_steps.specs.beep_talk.specs.declared.plan.Command.{Command}
+use Rattle.beep_steps.specs.beep_talk.specs.Plan.{PlainPlan}
 use Rattle.beep_steps.specs.Sending.{Progress, SendsOn, SendsWaiting, KeepsSending, at_next}
 use Rattle.beep_steps.proofs.CallSends.{gives-sends}
 use Rattle.beep_sender.specs.Sender.{plan_by}

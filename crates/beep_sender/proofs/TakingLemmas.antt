@@ -1,19 +1,19 @@
 -- A frame that arrived is taken, part by part, until nothing of it is left.
 use Rattle.std.proofs.Common.{◌≡◌, ◌∙◌, refl, sym, ap, subst, ℕ, suc, ◌==◌, ◌≤◌, ◌+◌, Bool, true, false, ◌&&◌, if◌then◌else◌, List, [], ◌∷◌, ◌++◌, length, map, length-append, arith}
-use Rattle.beep_frame.specs.declared.head.Head.{Head}
-use Rattle.beep_frame.specs.declared.tag.Tag.{Tag}
-use Rattle.beep_history.specs.declared.journal.Side.{Side}
-use Rattle.beep_history.specs.Journal.{Item}
-use Rattle.beep_history.specs.Marks.{Mark, octet, end, tag_of, mark_modulo_2_64}
-use Rattle.beep_inbox.specs.declared.part.Part.{Part}
-use Rattle.beep_inbox.specs.Laws.{part_marks}
-use Rattle.beep_journal.specs.Life.{history, is_released, is_there, life_now, life_under_way}
-use Rattle.beep_journal.specs.Log.{Moment}
-use Rattle.beep_journal.proofs.MomentLemmas.{equal-number}
-use Rattle.beep_session.specs.Looks.{IsTakenAt}
-use Rattle.beep_session.specs.Session.{Held}
-use Rattle.beep_talk.specs.Plan.{PlainPlan}
-use Rattle.beep_script.specs.Desk.{asks}
+use Rattle.beep_steps.specs.beep_frame.specs.declared.head.Head.{Head}
+use Rattle.beep_steps.specs.beep_frame.specs.declared.tag.Tag.{Tag}
+use Rattle.beep_steps.specs.beep_history.specs.declared.journal.Side.{Side}
+use Rattle.beep_steps.specs.beep_history.specs.Journal.{Item}
+use Rattle.beep_steps.specs.beep_history.specs.Marks.{Mark, octet, end, tag_of, mark_modulo_2_64}
+use Rattle.beep_steps.specs.beep_inbox.specs.declared.part.Part.{Part}
+use Rattle.beep_steps.specs.beep_inbox.specs.Laws.{part_marks}
+use Rattle.beep_steps.specs.beep_journal.specs.Life.{history, is_released, is_there, life_now, life_under_way}
+use Rattle.beep_steps.specs.beep_journal.specs.Log.{Moment}
+use Rattle.beep_steps.specs.beep_journal.proofs.MomentLemmas.{equal-number}
+use Rattle.beep_steps.specs.beep_session.specs.Looks.{IsTakenAt}
+use Rattle.beep_steps.specs.beep_session.specs.Session.{Held}
+use Rattle.beep_steps.specs.beep_talk.specs.Plan.{PlainPlan}
+use Rattle.beep_steps.specs.beep_script.specs.Desk.{asks}
 use Rattle.beep_steps.specs.Desking.{DesksWithin}
 use Rattle.beep_steps.specs.Logs.{AreTaken, StandsOn, StaysOn}
 use Rattle.beep_steps.specs.Scripting.{ScriptedOn}

@@ -3,20 +3,20 @@
 -- 3195, section 3.1).
 -- The code keeps how many requests it asked alone.
 use Rattle.std.specs.Prelude.{◌≡◌, ℕ, ◌==◌, ◌≤◌, false, not, ◌&&◌, ◌+◌, List, [], length}
-use Rattle.beep_frame.specs.declared.head.Head.{Head}
-use Rattle.beep_frame.specs.declared.head.TheConstants.{MAX_NUMBER}
-use Rattle.beep_frame.specs.Frame.{is_nul}
-use Rattle.beep_history.specs.declared.journal.Side.{Side}
-use Rattle.beep_history.specs.Journal.{passed}
-use Rattle.beep_history.specs.Marks.{Mark}
-use Rattle.beep_journal.specs.Life.{is_released}
-use Rattle.beep_journal.specs.Log.{Moment}
-use Rattle.beep_mgmt.specs.Form.{close}
-use Rattle.beep_answering.specs.declared.settled.Settled.{Settled}
-use Rattle.beep_session.specs.Session.{Held}
-use Rattle.beep_speaking.specs.declared.emit.Emit.{Emit}
-use Rattle.beep_talk.specs.Plan.{PlainPlan}
-use Rattle.beep_script.specs.Desk.{asks, asks_where}
+use Rattle.beep_steps.specs.beep_frame.specs.declared.head.Head.{Head}
+use Rattle.beep_steps.specs.beep_frame.specs.declared.head.TheConstants.{MAX_NUMBER}
+use Rattle.beep_steps.specs.beep_frame.specs.Frame.{is_nul}
+use Rattle.beep_steps.specs.beep_history.specs.declared.journal.Side.{Side}
+use Rattle.beep_steps.specs.beep_history.specs.Journal.{passed}
+use Rattle.beep_steps.specs.beep_history.specs.Marks.{Mark}
+use Rattle.beep_steps.specs.beep_journal.specs.Life.{is_released}
+use Rattle.beep_steps.specs.beep_journal.specs.Log.{Moment}
+use Rattle.beep_steps.specs.beep_mgmt.specs.Form.{close}
+use Rattle.beep_steps.specs.beep_answering.specs.declared.settled.Settled.{Settled}
+use Rattle.beep_steps.specs.beep_session.specs.Session.{Held}
+use Rattle.beep_steps.specs.beep_speaking.specs.declared.emit.Emit.{Emit}
+use Rattle.beep_steps.specs.beep_talk.specs.Plan.{PlainPlan}
+use Rattle.beep_steps.specs.beep_script.specs.Desk.{asks, asks_where}
 use Rattle.beep_steps.specs.Desking.{AsksClose, AsksSo, DesksOn, DesksWaiting, DesksWithin}
 use Rattle.beep_steps.specs.Logs.{AreTaken, StandsOn}
 use Rattle.beep_steps.specs.Sending.{Progress}

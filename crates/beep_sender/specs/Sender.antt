@@ -1,10 +1,10 @@
 -- What a sender is to do, and that it stands for a log (RFC 3195, section 3.1).
 use Rattle.std.specs.Prelude.{ℕ, List, []}
-use Rattle.beep_journal.specs.Log.{Moment}
-use Rattle.beep_session.specs.Lawfully.{terms_of}
-use Rattle.beep_session.specs.Session.{Held}
-use Rattle.beep_talk.specs.declared.plan.Command.{Command}
-use Rattle.beep_talk.specs.Plan.{PlainPlan}
+use Rattle.beep_steps.specs.beep_journal.specs.Log.{Moment}
+use Rattle.beep_steps.specs.beep_session.specs.Lawfully.{terms_of}
+use Rattle.beep_steps.specs.beep_session.specs.Session.{Held}
+use Rattle.beep_steps.specs.beep_talk.specs.declared.plan.Command.{Command}
+use Rattle.beep_steps.specs.beep_talk.specs.Plan.{PlainPlan}
 use Rattle.beep_sender.specs.declared.sender.Sender.{Sender}
 use Rattle.beep_steps.specs.Scripting.{ScriptedOn, ScriptedWaiting}
 use Rattle.beep_steps.specs.Refusing.{IsUnrefused}

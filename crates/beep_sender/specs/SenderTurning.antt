@@ -3,27 +3,27 @@
 -- These are proofs, since the members of an impl cite nothing else of its crate.
 use Rattle.std.specs.Prelude.{◌≡◌, Bool, false, List, [], ◌∷◌, ◌++◌, ℕ}
 use Rattle.std.proofs.Common.{subst}
-use Rattle.beep_journal.specs.Log.{Moment, put_all}
-use Rattle.beep_peer.specs.Peering.{is_over}
-use Rattle.beep_session.specs.Session.{Held}
-use Rattle.beep_session.specs.Lawfully.{terms_of}
-use Rattle.beep_logged.proofs.EndLemmas.{put-append}
-use Rattle.beep_logged.proofs.ReadLemmas.{quiet-logged, over-logged}
-use Rattle.beep_logged.specs.Logged.{IsLogged}
-use Rattle.beep_wires.specs.Log.{Entry, wrote, quiet, ended}
-use Rattle.beep_link.specs.Causes.{IsOfFaults, IsOfReads}
-use Rattle.beep_link.specs.declared.ended.Ended.{Ended}
-use Rattle.beep_talk.specs.declared.plan.Command.{Command}
-use Rattle.beep_talk.specs.Plan.{PlainPlan}
-use Rattle.beep_script.specs.Prompt.{IsIdle}
-use Rattle.beep_steps.specs.Desking.{DesksOn, ShowsToldZero}
+use Rattle.beep_steps.specs.beep_journal.specs.Log.{Moment, put_all}
+use Rattle.beep_steps.specs.beep_peer.specs.Peering.{is_over}
+use Rattle.beep_steps.specs.beep_session.specs.Session.{Held}
+use Rattle.beep_steps.specs.beep_session.specs.Lawfully.{terms_of}
+use Rattle.beep_steps.specs.beep_logged.proofs.EndLemmas.{put-append}
+use Rattle.beep_steps.specs.beep_logged.proofs.ReadLemmas.{quiet-logged, over-logged}
+use Rattle.beep_steps.specs.beep_logged.specs.Logged.{IsLogged}
+use Rattle.beep_steps.specs.beep_wires.specs.Log.{Entry, wrote, quiet, ended}
+use Rattle.beep_steps.specs.beep_link.specs.Causes.{IsOfFaults, IsOfReads}
+use Rattle.beep_steps.specs.beep_link.specs.declared.ended.Ended.{Ended}
+use Rattle.beep_steps.specs.beep_talk.specs.declared.plan.Command.{Command}
+use Rattle.beep_steps.specs.beep_talk.specs.Plan.{PlainPlan}
+use Rattle.beep_steps.specs.beep_script.specs.Prompt.{IsIdle}
+use Rattle.beep_steps.specs.Desking.{DesksOn, ShowsSaidZero}
 use Rattle.beep_steps.specs.Logs.{moments}
 use Rattle.beep_steps.specs.Refusing.{IsUnrefused}
 use Rattle.beep_steps.specs.Resting.{AreShort, IsAwake, RestsAt, TellsIdle}
 use Rattle.beep_steps.specs.Scripting.{ScriptedOn, TellsScripted}
 use Rattle.beep_steps.specs.Sending.{Progress}
 use Rattle.beep_steps.specs.Turning.{shown_on, stops_sending, spends_sending}
-use Rattle.beep_steps.proofs.DeskTold.{told-goes}
+use Rattle.beep_steps.proofs.DeskSaid.{said-goes}
 use Rattle.beep_steps.proofs.EndScripts.{goes-script}
 use Rattle.beep_steps.proofs.PartLemmas.{none-waits}
 use Rattle.beep_steps.proofs.SendRests.{sender-idle}
@@ -32,7 +32,7 @@ use Rattle.beep_sender.specs.Asking.{AsksOn}
 -- what the log of a link shows of a sender that ended so, what it said on channel zero, and of
 -- lines that are short that nothing was due where the settings stopped it
 abbrev pub TellsAsking : PlainPlan → Ended → List Entry → Type 0
-TellsAsking plan cause log = TellsScripted plan cause log × ShowsToldZero plan (moments log)
+TellsAsking plan cause log = TellsScripted plan cause log × ShowsSaidZero plan (moments log)
     × (AreShort plan.lines → TellsIdle plan cause (moments log))
 
 module _ (plan : PlainPlan) (progress : Progress) (session : Held) where
@@ -69,10 +69,11 @@ module _ (plan : PlainPlan) (progress : Progress) (session : Held) where
 
   pub stops_scripting : terms_of session ≡ plan.terms → (log : List Entry) (octets : List ℕ)
       (cause : Ended) → IsOfFaults cause
-      → ScriptedOn plan progress session (put_all octets (moments log))
+      → ScriptedOn plan progress session (put_all octets (moments log)) → (closing : Bool)
+      → IsUnrefused Command.Send closing (put_all octets (moments log))
       → TellsScripted plan cause log
-  stops_scripting same log octets cause is s = record {
-    tells = stops_sending plan progress session same log octets cause is s.sends;
+  stops_scripting same log octets cause is s closing u = record {
+    tells = stops_sending plan progress session same log octets cause is s.sends closing u;
     script = goes-script plan progress session octets (moments log) s;
   }
 
@@ -122,8 +123,8 @@ module _ (plan : PlainPlan) (session : Held) where
 
   -- whatever of what is to be written was written
   pub ends_asking : (log : List Entry) (octets : List ℕ)
-      → AsksOn plan session (put_all octets (moments log)) → ShowsToldZero plan (moments log)
-  ends_asking log octets a = told-goes plan session octets (moments log) a.0.on a.0.listed
+      → AsksOn plan session (put_all octets (moments log)) → ShowsSaidZero plan (moments log)
+  ends_asking log octets a = said-goes plan session octets (moments log) a.0.on a.0.listed
 
   -- where it rests nothing of its script is due
   pub idle_asking : (progress : Progress) (log : List Entry)

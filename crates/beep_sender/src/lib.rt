@@ -5,6 +5,6 @@
 mod sender;
 mod sending;
 
-pub use beep_link::Ended;
 pub use beep_steps::are_fit;
+pub use beep_steps::beep_link::Ended;
 pub use sending::send_end;

@@ -1,18 +1,18 @@
 //! What a sender does as messages come and go: it starts a channel, answers the peer's request with
 //! its lines, closes the channel and releases the session (RFC 3195, section 3.1).
 ghost use Rattle.std.specs.Prelude.{◌≡◌, ◌≤◌, ◌<◌, ◌∷◌, [], ℕ, List, None, Some, vec_len, false, true, IfErr, IfOk, OnOk};
-ghost use Rattle.beep_wires.specs.Counts.{Rose};
-ghost use Rattle.beep_wires.specs.Log.{Entry, read as came};
-ghost use Rattle.beep_journal.specs.Log.{Moment, put_all};
-ghost use Rattle.beep_peer.specs.Peering.{is_over};
-ghost use Rattle.beep_talk.specs.declared.plan.Command.{Command};
-ghost use Rattle.beep_talk.specs.Plan.{PlainPlan};
-ghost use Rattle.beep_speaking.specs.declared.emit.Emit.{Emit as EmitValue};
-ghost use Rattle.beep_session.specs.Lawfully.{terms_of};
-ghost use Rattle.beep_link.specs.Causes.{ended_by, WithText};
-ghost use Rattle.beep_answering.specs.Sent.{is_uri as is_uri_text};
-ghost use Rattle.beep_link.specs.declared.end.TheConstants.{FRAME_ROOM};
-ghost use Rattle.beep_link.specs.declared.ended.Stop.{Stop as StopValue};
+ghost use Rattle.beep_steps.specs.beep_wires.specs.Counts.{Rose};
+ghost use Rattle.beep_steps.specs.beep_wires.specs.Log.{Entry, read as came};
+ghost use Rattle.beep_steps.specs.beep_journal.specs.Log.{Moment, put_all};
+ghost use Rattle.beep_steps.specs.beep_peer.specs.Peering.{is_over};
+ghost use Rattle.beep_steps.specs.beep_talk.specs.declared.plan.Command.{Command};
+ghost use Rattle.beep_steps.specs.beep_talk.specs.Plan.{PlainPlan};
+ghost use Rattle.beep_steps.specs.beep_speaking.specs.declared.emit.Emit.{Emit as EmitValue};
+ghost use Rattle.beep_steps.specs.beep_session.specs.Lawfully.{terms_of};
+ghost use Rattle.beep_steps.specs.beep_link.specs.Causes.{ended_by, WithText};
+ghost use Rattle.beep_steps.specs.beep_answering.specs.Sent.{is_uri as is_uri_text};
+ghost use Rattle.beep_steps.specs.beep_link.specs.declared.end.TheConstants.{FRAME_ROOM};
+ghost use Rattle.beep_steps.specs.beep_link.specs.declared.ended.Stop.{Stop as StopValue};
 ghost use Rattle.beep_sender.specs.declared.sender.TheConstants.{CHANNEL, TAKEN};
 ghost use Rattle.beep_steps.specs.Logs.{moments};
 ghost use Rattle.beep_steps.specs.Refusing.{closing_by};
@@ -25,17 +25,17 @@ mod hearing;
 mod noting;
 mod taking;
 
-use beep_chars::Text;
-use beep_frame::Head;
-use beep_link::{BUFFER, End, FRAME_ROOM, Stop};
-use beep_octets::{NoMemory, Octets};
-use beep_session::Session;
-use beep_speaking::Emit;
+use beep_steps::beep_chars::Text;
+use beep_steps::beep_frame::Head;
+use beep_steps::beep_link::{BUFFER, End, FRAME_ROOM, Stop};
+use beep_steps::beep_octets::{NoMemory, Octets};
+use beep_steps::beep_session::Session;
+use beep_steps::beep_speaking::Emit;
+use beep_steps::beep_wires::Sink;
+use beep_steps::prof_raw::Entries;
 use beep_steps::say_next;
-use beep_wires::Sink;
 use giving::{answer_some, close_channel};
 use noting::{ends_lines, is_closing_by};
-use prof_raw::Entries;
 use std::alloc::Global;
 
 /// The channel on which lines are sent.
@@ -250,7 +250,7 @@ impl End for Sender<'_> {
 
     ghost stops = { λ one log octets _ ended is s. (
       stops_scripting (plan_of one) (progress_of one) one.session
-          (λ i. terms_of one.session) log octets ended is s.0.0,
+          (λ i. terms_of one.session) log octets ended is s.0.0 one.is_closing s.1,
       ends_asking (plan_of one) one.session log octets s.0.1,
       λ short. faults_idle (plan_of one) ended (moments log) is,
     ) };

@@ -1,11 +1,11 @@
 //! A sender over one link.
 ghost use Rattle.std.specs.Prelude.{◌≡◌, ◌≢◌, ◌≤◌, ◌+◌, ◌*◌, [], IfOk};
-ghost use Rattle.beep_journal.specs.declared.role.Role.{Role as RoleValue};
-ghost use Rattle.beep_link.specs.Causes.{IsBounded, IsCaused, IsUnused, Keeps, WhereKnown};
-ghost use Rattle.beep_link.specs.declared.ended.Ended.{Ended as EndedValue};
+ghost use Rattle.beep_steps.specs.beep_journal.specs.declared.role.Role.{Role as RoleValue};
+ghost use Rattle.beep_steps.specs.beep_link.specs.Causes.{IsBounded, IsCaused, IsUnused, Keeps, WhereKnown};
+ghost use Rattle.beep_steps.specs.beep_link.specs.declared.ended.Ended.{Ended as EndedValue};
 ghost use Rattle.beep_steps.specs.Ends.{AreFit, reads_of};
-ghost use Rattle.beep_steps.specs.Logs.{IsLawfulOn, ReadsOnlyGoing, Shows, terms_by};
-ghost use Rattle.beep_steps.specs.Refusing.{GoesUnrefused};
+ghost use Rattle.beep_steps.specs.Logs.{IsLawfulOn, Shows, terms_by};
+ghost use Rattle.beep_steps.specs.Refusing.{GoesUnrefused, ReadsOnlyGoing};
 ghost use Rattle.beep_steps.specs.EachEnd.{EachEndOn};
 ghost use Rattle.beep_steps.specs.Resting.{AreShort, IsPromptOn};
 ghost use Rattle.beep_steps.specs.Scripting.{KeepsWholeOn};
@@ -13,16 +13,16 @@ ghost use Rattle.beep_steps.specs.Sending.{sender_plan, SendsAll};
 ghost use Rattle.beep_sender.specs.Sender.{plan_of, SendsBy, StandsBy};
 
 use crate::sender::Sender;
-use beep_answering::Offers;
-use beep_journal::Role;
-use beep_link::{Ended, run_turns};
-use beep_octets::NoMemory;
-use beep_session::Session;
-use beep_settings::Settings;
+use beep_steps::beep_answering::Offers;
+use beep_steps::beep_journal::Role;
+use beep_steps::beep_link::{Ended, run_turns};
+use beep_steps::beep_octets::NoMemory;
+use beep_steps::beep_session::Session;
+use beep_steps::beep_settings::Settings;
+use beep_steps::beep_wires::{NullSink, Wires};
 use beep_steps::laws::{what_a_sender_asks_is_read, what_a_sender_greets_with_is_read};
+use beep_steps::prof_raw::Entries;
 use beep_steps::{limits_of, reads_of};
-use beep_wires::{NullSink, Wires};
-use prof_raw::Entries;
 use std::alloc::Global;
 
 /// Sends lines on one link, until its session ends. Each has 1 to 8,192 octets, and no LF.
@@ -44,7 +44,7 @@ pub fn send_end<W: Wires>(
     // ended.
     ensures lawful { WhereKnown (IsLawfulOn (terms_by RoleValue.Initiator settings.now))
         (W.state wires.new link).log }
-    ensures told { WhereKnown (Shows (terms_by RoleValue.Initiator settings.now) result)
+    ensures shown { WhereKnown (Shows (terms_by RoleValue.Initiator settings.now) result)
         (W.state wires.new link).log }
     ensures unrefused { WhereKnown (GoesUnrefused (terms_by RoleValue.Initiator settings.now)
         result) (W.state wires.new link).log }

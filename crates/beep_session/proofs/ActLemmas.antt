@@ -4,20 +4,20 @@ use Rattle.std.specs.Prelude.{OnOk, OnErr}
 use Rattle.std.proofs.lemmas.Bool.Decides.{nat_tests}
 use Rattle.std.proofs.Math.Logic.{∥∥₁_elim, ∥∥₁_map}
 use denote.Struct.Props.{props}
-use Rattle.beep_frame.specs.declared.head.Head.{Head}
-use Rattle.beep_octets.specs.declared.octets.NoMemory.{NoMemory}
-use Rattle.beep_history.specs.Journal.{Item}
-use Rattle.beep_hearing.specs.declared.stopped.Stopped.{Stopped}
-use Rattle.beep_outbox.specs.Queue.{message_marks}
-use Rattle.beep_lives.specs.Lives.{live_at}
-use Rattle.beep_channel.specs.Held.{Live}
-use Rattle.beep_standing.specs.Standing.{Marks, with_marks, AreLive}
-use Rattle.beep_peer.specs.declared.peer.Peer.{Peer}
-use Rattle.beep_peer.specs.Peering.{Holds, IsPeer, IsGoing, IsReached, AreHeld, is_over, zero_waits}
-use Rattle.beep_peer.specs.Acts.{GivesZero, IsUnchanged, close_refusal}
-use Rattle.beep_peer.specs.Asking.{MayCloseWhere}
-use Rattle.beep_peer.proofs.MayLemmas.{may-close}
-use Rattle.beep_peer.proofs.UnchangedLemmas.{unchanged-upright}
+use Rattle.beep_giving.specs.beep_frame.specs.declared.head.Head.{Head}
+use Rattle.beep_giving.specs.beep_octets.specs.declared.octets.NoMemory.{NoMemory}
+use Rattle.beep_giving.specs.beep_history.specs.Journal.{Item}
+use Rattle.beep_giving.specs.beep_hearing.specs.declared.stopped.Stopped.{Stopped}
+use Rattle.beep_giving.specs.beep_outbox.specs.Queue.{message_marks}
+use Rattle.beep_giving.specs.beep_lives.specs.Lives.{live_at}
+use Rattle.beep_giving.specs.beep_channel.specs.Held.{Live}
+use Rattle.beep_giving.specs.beep_standing.specs.Standing.{Marks, with_marks, AreLive}
+use Rattle.beep_giving.specs.beep_peer.specs.declared.peer.Peer.{Peer}
+use Rattle.beep_giving.specs.beep_peer.specs.Peering.{Holds, IsPeer, IsGoing, IsReached, AreHeld, is_over, zero_waits}
+use Rattle.beep_giving.specs.beep_peer.specs.Acts.{GivesZero, IsUnchanged, close_refusal}
+use Rattle.beep_giving.specs.beep_peer.specs.Asking.{MayCloseWhere}
+use Rattle.beep_giving.specs.beep_peer.proofs.MayLemmas.{may-close}
+use Rattle.beep_giving.specs.beep_peer.proofs.UnchangedLemmas.{unchanged-upright}
 use Rattle.beep_session.specs.Session.{Held}
 use Rattle.beep_session.specs.Lawfully.{terms_of, KeepsUpright}
 use Rattle.beep_session.specs.Acts.{AsksZero}

@@ -8,27 +8,27 @@ use Rattle.std.proofs.lemmas.Bool.Decides.{nat_tests}
 use Rattle.std.proofs.lemmas.List.{length-take}
 use Rattle.std.specs.Prelude.{drop}
 use denote.Struct.Props.{props}
-use Rattle.beep_frame.specs.declared.head.Head.{Head}
-use Rattle.beep_frame.specs.declared.limits.TheConstants.{MAX_PAYLOAD}
-use Rattle.beep_frame.specs.Frame.{Frame, framed}
-use Rattle.beep_frame.specs.Spelling.{header}
-use Rattle.beep_frame.specs.Stream.{IsWithin}
-use Rattle.beep_frame.specs.Decoding.{DecoderState, WasFed}
-use Rattle.beep_frame.specs.Fed.{fed_of}
-use Rattle.beep_history.specs.Journal.{Item}
-use Rattle.beep_history.specs.declared.journal.Side.{Side}
-use Rattle.beep_history.specs.Broken.{under_way}
-use Rattle.beep_history.specs.Marks.{Mark}
-use Rattle.beep_channel.specs.Held.{Live}
-use Rattle.beep_channel.specs.Stands.{Stands}
-use Rattle.beep_channel.proofs.BoundedLemmas.{ends-bounded}
-use Rattle.beep_channel.proofs.CallLemmas.{bounded-any}
+use Rattle.beep_giving.specs.beep_frame.specs.declared.head.Head.{Head}
+use Rattle.beep_giving.specs.beep_frame.specs.declared.limits.TheConstants.{MAX_PAYLOAD}
+use Rattle.beep_giving.specs.beep_frame.specs.Frame.{Frame, framed}
+use Rattle.beep_giving.specs.beep_frame.specs.Spelling.{header}
+use Rattle.beep_giving.specs.beep_frame.specs.Stream.{IsWithin}
+use Rattle.beep_giving.specs.beep_frame.specs.Decoding.{DecoderState, WasFed}
+use Rattle.beep_giving.specs.beep_frame.specs.Fed.{fed_of}
+use Rattle.beep_giving.specs.beep_history.specs.Journal.{Item}
+use Rattle.beep_giving.specs.beep_history.specs.declared.journal.Side.{Side}
+use Rattle.beep_giving.specs.beep_history.specs.Broken.{under_way}
+use Rattle.beep_giving.specs.beep_history.specs.Marks.{Mark}
+use Rattle.beep_giving.specs.beep_channel.specs.Held.{Live}
+use Rattle.beep_giving.specs.beep_channel.specs.Stands.{Stands}
+use Rattle.beep_giving.specs.beep_channel.proofs.BoundedLemmas.{ends-bounded}
+use Rattle.beep_giving.specs.beep_channel.proofs.CallLemmas.{bounded-any}
 use Rattle.std.proofs.lemmas.Grind.{merely}
-use Rattle.beep_lives.specs.Lives.{live_at, IsAscendingFrom}
-use Rattle.beep_standing.specs.Standing.{Marks, AreLive}
-use Rattle.beep_hearing.specs.declared.ear.Ear.{Ear}
-use Rattle.beep_hearing.specs.Hears.{Hears, Waits}
-use Rattle.beep_peer.specs.Peering.{AreStanding}
+use Rattle.beep_giving.specs.beep_lives.specs.Lives.{live_at, IsAscendingFrom}
+use Rattle.beep_giving.specs.beep_standing.specs.Standing.{Marks, AreLive}
+use Rattle.beep_giving.specs.beep_hearing.specs.declared.ear.Ear.{Ear}
+use Rattle.beep_giving.specs.beep_hearing.specs.Hears.{Hears, Waits}
+use Rattle.beep_giving.specs.beep_peer.specs.Peering.{AreStanding}
 use Rattle.beep_session.specs.Bounded.{octets_held, all_held, frame_held, IsLifeBounded}
 use Rattle.beep_session.proofs.ActLemmas.{SomeStanding}
 

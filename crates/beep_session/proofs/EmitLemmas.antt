@@ -1,13 +1,13 @@
 -- What goes out leaves of a peer.
 use Rattle.std.proofs.Common.{ℕ, List, ◌∷◌, sym, subst}
 use Rattle.std.proofs.Math.Logic.{∥∥₁_map}
-use Rattle.beep_history.specs.declared.journal.Side.{Side}
-use Rattle.beep_history.specs.Journal.{Item, began, passed, told}
-use Rattle.beep_standing.specs.Standing.{Marks}
-use Rattle.beep_speaking.specs.declared.emit.Emit.{Emit}
-use Rattle.beep_peer.specs.declared.peer.Peer.{Peer}
-use Rattle.beep_peer.specs.Peering.{IsPeer, IsGoing, IsReached}
-use Rattle.beep_peer.specs.Calls.{Speaks}
+use Rattle.beep_giving.specs.beep_history.specs.declared.journal.Side.{Side}
+use Rattle.beep_giving.specs.beep_history.specs.Journal.{Item, began, passed, told}
+use Rattle.beep_giving.specs.beep_standing.specs.Standing.{Marks}
+use Rattle.beep_giving.specs.beep_speaking.specs.declared.emit.Emit.{Emit}
+use Rattle.beep_giving.specs.beep_peer.specs.declared.peer.Peer.{Peer}
+use Rattle.beep_giving.specs.beep_peer.specs.Peering.{IsPeer, IsGoing, IsReached}
+use Rattle.beep_giving.specs.beep_peer.specs.Calls.{Speaks}
 use Rattle.beep_session.proofs.ActLemmas.{SomePeer, going-reached}
 
 -- what a frame or a SEQ leaves stands for the journal with it

@@ -4,22 +4,22 @@ use Rattle.std.proofs.Math.Logic.{∥∥₁_elim, ∥∥₁_map}
 use Rattle.std.proofs.lemmas.Grind.{merely}
 use denote.Struct.Props.{props}
 use Rattle.std.specs.Option.{option_map_or}
-use Rattle.beep_frame.specs.declared.head.Head.{Head}
-use Rattle.beep_history.specs.declared.journal.Side.{Side}
-use Rattle.beep_history.specs.Journal.{Item, passed}
-use Rattle.beep_channel.specs.Held.{Live}
-use Rattle.beep_standing.specs.Standing.{Marks}
-use Rattle.beep_hearing.specs.declared.ear.Ear.{Ear}
-use Rattle.beep_hearing.specs.declared.heard.Heard.{Heard}
-use Rattle.beep_hearing.specs.declared.stopped.Stopped.{Stopped}
-use Rattle.beep_hearing.specs.Hears.{IsEar, EndsZero, Brings, KeepsZeroRoom}
-use Rattle.beep_hearing.specs.Answers.{Answers, IsHeld}
-use Rattle.beep_management.specs.Managed.{octets_prepared}
-use Rattle.beep_peer.specs.declared.peer.Peer.{Peer}
+use Rattle.beep_giving.specs.beep_frame.specs.declared.head.Head.{Head}
+use Rattle.beep_giving.specs.beep_history.specs.declared.journal.Side.{Side}
+use Rattle.beep_giving.specs.beep_history.specs.Journal.{Item, passed}
+use Rattle.beep_giving.specs.beep_channel.specs.Held.{Live}
+use Rattle.beep_giving.specs.beep_standing.specs.Standing.{Marks}
+use Rattle.beep_giving.specs.beep_hearing.specs.declared.ear.Ear.{Ear}
+use Rattle.beep_giving.specs.beep_hearing.specs.declared.heard.Heard.{Heard}
+use Rattle.beep_giving.specs.beep_hearing.specs.declared.stopped.Stopped.{Stopped}
+use Rattle.beep_giving.specs.beep_hearing.specs.Hears.{IsEar, EndsZero, Brings, KeepsZeroRoom}
+use Rattle.beep_giving.specs.beep_hearing.specs.Answers.{Answers, IsHeld}
+use Rattle.beep_giving.specs.beep_management.specs.Managed.{octets_prepared}
+use Rattle.beep_giving.specs.beep_peer.specs.declared.peer.Peer.{Peer}
 use Rattle.beep_session.specs.Events.{event_of}
-use Rattle.beep_peer.specs.Peering.{IsPeer, IsGoing, IsWaiting, IsReached}
+use Rattle.beep_giving.specs.beep_peer.specs.Peering.{IsPeer, IsGoing, IsWaiting, IsReached}
 use Rattle.beep_session.specs.Feeds.{Gains, ZeroWaits, Feeds}
-use Rattle.beep_peer.proofs.GainLemmas.{gained-managed, gained-released, gained-few}
+use Rattle.beep_giving.specs.beep_peer.proofs.GainLemmas.{gained-managed, gained-released, gained-few}
 
 same-head : (a b : Head) → Some a ≡ Some b → a ≡ b
 same-head a b e = ap (λ (o : Option Head). option_map_or (λ (x : Head). x) o a) e

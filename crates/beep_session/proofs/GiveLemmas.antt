@@ -2,15 +2,15 @@
 use Rattle.std.proofs.Common.{◌≡◌, ℕ, ◌++◌, List, Option, None, Some, Result, Ok, Err, sym, subst}
 use Rattle.std.specs.Prelude.{OnOk, OnErr, IfSome, IfNone}
 use Rattle.std.proofs.Math.Logic.{∥∥₁_map}
-use Rattle.beep_frame.specs.declared.kind.Kind.{Kind}
-use Rattle.beep_history.specs.Journal.{Item}
-use Rattle.beep_inbox.specs.declared.part.Part.{Part}
-use Rattle.beep_inbox.specs.Laws.{part_marks}
-use Rattle.beep_outbox.specs.Queue.{message_marks}
-use Rattle.beep_standing.specs.Standing.{Marks, with_marks}
-use Rattle.beep_peer.specs.declared.peer.Peer.{Peer}
-use Rattle.beep_peer.specs.Peering.{IsPeer, IsGoing, IsReached}
-use Rattle.beep_peer.specs.Acts.{IsUnchanged}
+use Rattle.beep_giving.specs.beep_frame.specs.declared.kind.Kind.{Kind}
+use Rattle.beep_giving.specs.beep_history.specs.Journal.{Item}
+use Rattle.beep_giving.specs.beep_inbox.specs.declared.part.Part.{Part}
+use Rattle.beep_giving.specs.beep_inbox.specs.Laws.{part_marks}
+use Rattle.beep_giving.specs.beep_outbox.specs.Queue.{message_marks}
+use Rattle.beep_giving.specs.beep_standing.specs.Standing.{Marks, with_marks}
+use Rattle.beep_giving.specs.beep_peer.specs.declared.peer.Peer.{Peer}
+use Rattle.beep_giving.specs.beep_peer.specs.Peering.{IsPeer, IsGoing, IsReached}
+use Rattle.beep_giving.specs.beep_peer.specs.Acts.{IsUnchanged}
 use Rattle.beep_giving.specs.Giving.{next_message, GivesMessage, TakesMarks}
 use Rattle.beep_session.specs.Session.{Held}
 use Rattle.beep_session.specs.Channels.{IsOfPeer, Gives, Takes}

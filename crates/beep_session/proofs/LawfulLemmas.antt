@@ -3,33 +3,33 @@ use Rattle.std.proofs.Common.{◌≡◌, ℕ, ◌≤◌, ◌==◌, Bool, true, f
 use Rattle.std.specs.List.{list_any}
 use Rattle.std.proofs.lemmas.Bool.Decides.{nat_tests}
 use Rattle.std.proofs.lemmas.List.{append_cancel_left}
-use Rattle.beep_frame.specs.declared.kind.Kind.{Kind}
-use Rattle.beep_history.specs.declared.journal.Side.{Side}
-use Rattle.beep_history.specs.Journal.{Item, began, passed, told}
-use Rattle.beep_history.specs.Marks.{marks}
-use Rattle.beep_journal.specs.Zero.{zero_history}
-use Rattle.beep_journal.specs.Lives.{Event as Moment, is_live}
-use Rattle.beep_journal.specs.Life.{is_there}
-use Rattle.beep_journal.specs.Broken.{none_tunes}
-use Rattle.beep_exchange.specs.Given.{ends_reply}
-use Rattle.beep_channel.specs.Held.{Live}
-use Rattle.beep_channel.specs.Stands.{ends_of}
-use Rattle.beep_standing.specs.Standing.{Marks, AreLiveBy}
-use Rattle.beep_spoken.specs.Spoken.{kinds_of}
-use Rattle.beep_hearing.specs.Hears.{Join, MayJoin, ends_zero, SameAbove}
-use Rattle.beep_lawful.specs.declared.terms.Terms.{Terms}
-use Rattle.beep_lawful.specs.Lawful.{IsLawful}
-use Rattle.beep_management.specs.Managed.{Managed}
-use Rattle.beep_management.specs.Manages.{Manages}
-use Rattle.beep_upright.specs.Turns.{kinds_at}
-use Rattle.beep_upright.specs.Upright.{asked_at, AreReady, IsUpright}
-use Rattle.beep_upright.proofs.ReadyLemmas.{less-asked}
-use Rattle.beep_upright.proofs.StillLemmas.{header-heard, part-heard, seq-passes}
-use Rattle.beep_peer.specs.declared.peer.Peer.{Peer}
-use Rattle.beep_peer.specs.Peering.{is_over}
-use Rattle.beep_peer.specs.Lawfully.{IsLawfulPeer}
-use Rattle.beep_peer.proofs.GainLemmas.{gained-events, gained-managed}
-use Rattle.beep_peer.proofs.KindsLemmas.{kinds-by, asked-by, asked-none}
+use Rattle.beep_giving.specs.beep_frame.specs.declared.kind.Kind.{Kind}
+use Rattle.beep_giving.specs.beep_history.specs.declared.journal.Side.{Side}
+use Rattle.beep_giving.specs.beep_history.specs.Journal.{Item, began, passed, told}
+use Rattle.beep_giving.specs.beep_history.specs.Marks.{marks}
+use Rattle.beep_giving.specs.beep_journal.specs.Zero.{zero_history}
+use Rattle.beep_giving.specs.beep_journal.specs.Lives.{Event as Moment, is_live}
+use Rattle.beep_giving.specs.beep_journal.specs.Life.{is_there}
+use Rattle.beep_giving.specs.beep_journal.specs.Broken.{none_tunes}
+use Rattle.beep_giving.specs.beep_exchange.specs.Given.{ends_reply}
+use Rattle.beep_giving.specs.beep_channel.specs.Held.{Live}
+use Rattle.beep_giving.specs.beep_channel.specs.Stands.{ends_of}
+use Rattle.beep_giving.specs.beep_standing.specs.Standing.{Marks, AreLiveBy}
+use Rattle.beep_giving.specs.beep_spoken.specs.Spoken.{kinds_of}
+use Rattle.beep_giving.specs.beep_hearing.specs.Hears.{Join, MayJoin, ends_zero, SameAbove}
+use Rattle.beep_giving.specs.beep_lawful.specs.declared.terms.Terms.{Terms}
+use Rattle.beep_giving.specs.beep_lawful.specs.Lawful.{IsLawful}
+use Rattle.beep_giving.specs.beep_management.specs.Managed.{Managed}
+use Rattle.beep_giving.specs.beep_management.specs.Manages.{Manages}
+use Rattle.beep_giving.specs.beep_upright.specs.Turns.{kinds_at}
+use Rattle.beep_giving.specs.beep_upright.specs.Upright.{asked_at, AreReady, IsUpright}
+use Rattle.beep_giving.specs.beep_upright.proofs.ReadyLemmas.{less-asked}
+use Rattle.beep_giving.specs.beep_upright.proofs.StillLemmas.{header-heard, part-heard, seq-passes}
+use Rattle.beep_giving.specs.beep_peer.specs.declared.peer.Peer.{Peer}
+use Rattle.beep_giving.specs.beep_peer.specs.Peering.{is_over}
+use Rattle.beep_giving.specs.beep_peer.specs.Lawfully.{IsLawfulPeer}
+use Rattle.beep_giving.specs.beep_peer.proofs.GainLemmas.{gained-events, gained-managed}
+use Rattle.beep_giving.specs.beep_peer.proofs.KindsLemmas.{kinds-by, asked-by, asked-none}
 use Rattle.beep_session.specs.declared.event.Event.{Event}
 use Rattle.beep_session.specs.Feeds.{Feeds}
 use Rattle.beep_session.specs.Lawfully.{FeedsLawfully}

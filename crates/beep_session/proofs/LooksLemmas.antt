@@ -1,8 +1,8 @@
 -- What is taken, by place.
 use Rattle.std.proofs.Common.{◌≡◌, ℕ, suc, zero, ◌<◌, ◌≤◌, ◌==◌, Bool, true, false, if◌then◌else◌, List, [], ◌∷◌, length, None, Some, refl, ap, arith, eqb-true}
 use Rattle.std.specs.Prelude.{slice_get}
-use Rattle.beep_channel.specs.Held.{Live}
-use Rattle.beep_lives.specs.Lives.{live_at, numbers}
+use Rattle.beep_giving.specs.beep_channel.specs.Held.{Live}
+use Rattle.beep_giving.specs.beep_lives.specs.Lives.{live_at, numbers}
 use Rattle.beep_session.specs.Looks.{IsTakenAt}
 
 -- where the channel of a number stands

@@ -4,17 +4,17 @@ use Rattle.std.specs.Prelude.{IsSome, OnOk, OnErr}
 use Rattle.std.specs.Option.{option_map_or}
 use Rattle.std.proofs.Math.Logic.{∥∥₁_elim, ∥∥₁_map}
 use denote.Struct.Props.{props}
-use Rattle.beep_octets.specs.declared.octets.NoMemory.{NoMemory}
-use Rattle.beep_frame.specs.declared.head.Head.{Head}
-use Rattle.beep_history.specs.declared.journal.Side.{Side}
-use Rattle.beep_history.specs.Journal.{Item, passed}
-use Rattle.beep_lives.specs.Lives.{live_at}
-use Rattle.beep_hearing.specs.declared.stopped.Stopped.{Stopped}
-use Rattle.beep_standing.specs.Standing.{Marks}
-use Rattle.beep_peer.specs.declared.peer.Peer.{Peer}
-use Rattle.beep_answering.specs.declared.settled.Settled.{Settled}
-use Rattle.beep_peer.specs.Peering.{WaitsIn, IsWaiting, IsReached, zero_waits}
-use Rattle.beep_peer.specs.Calls.{Settles}
+use Rattle.beep_giving.specs.beep_octets.specs.declared.octets.NoMemory.{NoMemory}
+use Rattle.beep_giving.specs.beep_frame.specs.declared.head.Head.{Head}
+use Rattle.beep_giving.specs.beep_history.specs.declared.journal.Side.{Side}
+use Rattle.beep_giving.specs.beep_history.specs.Journal.{Item, passed}
+use Rattle.beep_giving.specs.beep_lives.specs.Lives.{live_at}
+use Rattle.beep_giving.specs.beep_hearing.specs.declared.stopped.Stopped.{Stopped}
+use Rattle.beep_giving.specs.beep_standing.specs.Standing.{Marks}
+use Rattle.beep_giving.specs.beep_peer.specs.declared.peer.Peer.{Peer}
+use Rattle.beep_giving.specs.beep_answering.specs.declared.settled.Settled.{Settled}
+use Rattle.beep_giving.specs.beep_peer.specs.Peering.{WaitsIn, IsWaiting, IsReached, zero_waits}
+use Rattle.beep_giving.specs.beep_peer.specs.Calls.{Settles}
 use Rattle.beep_session.proofs.ActLemmas.{SomePeer, SomeStanding}
 
 -- a message waits in some journal

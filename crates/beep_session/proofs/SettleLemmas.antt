@@ -3,31 +3,31 @@ use Rattle.std.proofs.Common.{◌≡◌, ℕ, ◌-◌, ◌∷◌, ◌++◌, Bool
 use Rattle.std.specs.Prelude.{◌↔◌, IsOk, IfOk, IfErr, OnOk, OnErr}
 use Rattle.std.proofs.Math.Logic.{∥∥₁_elim, ∥∥₁_map}
 use denote.Struct.Props.{props}
-use Rattle.beep_frame.specs.declared.head.Head.{Head}
-use Rattle.beep_frame.specs.declared.rule.Rule.{Rule}
-use Rattle.beep_frame.specs.Frame.{is_msg}
-use Rattle.beep_frame.specs.Modulo.{modulo_2_64}
-use Rattle.beep_mgmt.specs.Form.{Form}
-use Rattle.beep_mgmt.specs.Message.{message_said}
-use Rattle.beep_history.specs.declared.journal.Side.{Side}
-use Rattle.beep_history.specs.Journal.{Item, passed}
-use Rattle.beep_journal.specs.Zero.{zero_history, gathered, completes_form}
-use Rattle.beep_journal.specs.declared.role.Role.{Role}
-use Rattle.beep_standing.specs.Standing.{Marks}
-use Rattle.beep_hearing.specs.declared.stopped.Stopped.{Stopped}
-use Rattle.beep_decide.specs.Decide.{PlainOffer, decide}
+use Rattle.beep_giving.specs.beep_frame.specs.declared.head.Head.{Head}
+use Rattle.beep_giving.specs.beep_frame.specs.declared.rule.Rule.{Rule}
+use Rattle.beep_giving.specs.beep_frame.specs.Frame.{is_msg}
+use Rattle.beep_giving.specs.beep_frame.specs.Modulo.{modulo_2_64}
+use Rattle.beep_giving.specs.beep_mgmt.specs.Form.{Form}
+use Rattle.beep_giving.specs.beep_mgmt.specs.Message.{message_said}
+use Rattle.beep_giving.specs.beep_history.specs.declared.journal.Side.{Side}
+use Rattle.beep_giving.specs.beep_history.specs.Journal.{Item, passed}
+use Rattle.beep_giving.specs.beep_journal.specs.Zero.{zero_history, gathered, completes_form}
+use Rattle.beep_giving.specs.beep_journal.specs.declared.role.Role.{Role}
+use Rattle.beep_giving.specs.beep_standing.specs.Standing.{Marks}
+use Rattle.beep_giving.specs.beep_hearing.specs.declared.stopped.Stopped.{Stopped}
+use Rattle.beep_giving.specs.beep_decide.specs.Decide.{PlainOffer, decide}
 use Rattle.beep_session.specs.declared.limits.Limits.{Limits}
-use Rattle.beep_peer.specs.declared.settle_error.SettleError.{SettleError}
-use Rattle.beep_peer.specs.declared.peer.Peer.{Peer}
-use Rattle.beep_answering.specs.declared.settled.Settled.{Settled}
-use Rattle.beep_asked.specs.Kept.{Kept, oldest}
-use Rattle.beep_answering.specs.Decided.{IsSettledBy, IsSettledAs}
-use Rattle.beep_peer.specs.Peering.{WaitsIn, IsWaiting, IsReached}
-use Rattle.beep_peer.specs.Calls.{Settles, SettlesReply, SettlesRequest}
+use Rattle.beep_giving.specs.beep_peer.specs.declared.settle_error.SettleError.{SettleError}
+use Rattle.beep_giving.specs.beep_peer.specs.declared.peer.Peer.{Peer}
+use Rattle.beep_giving.specs.beep_answering.specs.declared.settled.Settled.{Settled}
+use Rattle.beep_giving.specs.beep_asked.specs.Kept.{Kept, oldest}
+use Rattle.beep_giving.specs.beep_answering.specs.Decided.{IsSettledBy, IsSettledAs}
+use Rattle.beep_giving.specs.beep_peer.specs.Peering.{WaitsIn, IsWaiting, IsReached}
+use Rattle.beep_giving.specs.beep_peer.specs.Calls.{Settles, SettlesReply, SettlesRequest}
 use Rattle.beep_session.specs.Session.{Held}
-use Rattle.beep_peer.specs.Standing.{standing_of}
-use Rattle.beep_peer.proofs.WaitingLemmas.{says-whole}
-use Rattle.beep_hearing.specs.Hears.{Passes}
+use Rattle.beep_giving.specs.beep_peer.specs.Standing.{standing_of}
+use Rattle.beep_giving.specs.beep_peer.proofs.WaitingLemmas.{says-whole}
+use Rattle.beep_giving.specs.beep_hearing.specs.Hears.{Passes}
 use Rattle.beep_session.proofs.ActLemmas.{SomeStanding}
 use Rattle.beep_session.proofs.ReachedLemmas.{reached-settled, for-head}
 

@@ -4,17 +4,17 @@ use Rattle.std.specs.Prelude.{IsSome}
 use Rattle.std.specs.List.{list_all}
 use Rattle.std.proofs.lemmas.List.{length-map}
 use Rattle.std.proofs.lemmas.List.Folds.{list_all-map}
-use Rattle.beep_journal.specs.declared.role.Role.{Role}
-use Rattle.beep_channel.specs.Held.{Live}
-use Rattle.beep_lives.specs.Lives.{live_at, numbers}
-use Rattle.beep_decide.specs.declared.decision.Offer.{Offer}
-use Rattle.beep_decide.specs.Decide.{PlainOffer, PlainStanding}
-use Rattle.beep_decide.specs.Plain.{plain_offer}
-use Rattle.beep_management.specs.Managed.{numbers_of}
-use Rattle.beep_peer.specs.declared.peer.Peer.{Peer}
-use Rattle.beep_peer.specs.Standing.{rest_of}
-use Rattle.beep_answering.specs.Sent.{is_uri}
-use Rattle.beep_peer.specs.Standing.{standing_of}
+use Rattle.beep_giving.specs.beep_journal.specs.declared.role.Role.{Role}
+use Rattle.beep_giving.specs.beep_channel.specs.Held.{Live}
+use Rattle.beep_giving.specs.beep_lives.specs.Lives.{live_at, numbers}
+use Rattle.beep_giving.specs.beep_decide.specs.declared.decision.Offer.{Offer}
+use Rattle.beep_giving.specs.beep_decide.specs.Decide.{PlainOffer, PlainStanding}
+use Rattle.beep_giving.specs.beep_decide.specs.Plain.{plain_offer}
+use Rattle.beep_giving.specs.beep_management.specs.Managed.{numbers_of}
+use Rattle.beep_giving.specs.beep_peer.specs.declared.peer.Peer.{Peer}
+use Rattle.beep_giving.specs.beep_peer.specs.Standing.{rest_of}
+use Rattle.beep_giving.specs.beep_answering.specs.Sent.{is_uri}
+use Rattle.beep_giving.specs.beep_peer.specs.Standing.{standing_of}
 
 -- ---- how many stand
 

@@ -6,36 +6,36 @@ use Rattle.std.proofs.Math.Logic.{∥∥₁_elim}
 use Rattle.std.proofs.lemmas.Bool.Decides.{nat_tests}
 use Rattle.std.proofs.lemmas.List.{length-append, length-map}
 use denote.Struct.Props.{props}
-use Rattle.beep_frame.specs.declared.head.Head.{Head}
-use Rattle.beep_frame.specs.declared.seq.Seq.{Seq}
-use Rattle.beep_history.specs.declared.journal.Side.{Side}
-use Rattle.beep_history.specs.Journal.{Item, began, passed, told}
-use Rattle.beep_history.specs.Marks.{Mark, octet, end, marks, mark_modulo_2_64, waiting, Request, requests, begins_request, is_answered}
-use Rattle.beep_journal.specs.Lives.{Event as Moment, is_live, live_life}
-use Rattle.beep_journal.specs.Life.{is_there, is_of_life, life, life_now, history}
-use Rattle.beep_exchange.specs.Given.{ends_reply}
-use Rattle.beep_exchange.specs.Kept.{Kept}
-use Rattle.beep_inbox.specs.Runs.{Run, AllMarked, has_mark, marks_of as untaken_marks}
-use Rattle.beep_outbox.specs.Queue.{Message, marks_of as unsent_marks}
-use Rattle.beep_channel.specs.Fits.{asks, as_number}
-use Rattle.beep_channel.specs.Sums.{ended_of}
-use Rattle.beep_channel.specs.Held.{Held, Live, is_held_drained}
-use Rattle.beep_channel.specs.Stands.{Stands}
-use Rattle.beep_channel.proofs.JudgedLemmas.{equal}
-use Rattle.beep_lives.specs.Lives.{live_at}
-use Rattle.beep_lives.proofs.ListLemmas.{live-number}
-use Rattle.beep_standing.specs.Standing.{Marks, AreLiveBy}
-use Rattle.beep_hearing.specs.declared.ear.Ear.{Ear}
-use Rattle.beep_hearing.specs.declared.heard.Heard.{Heard}
-use Rattle.beep_hearing.specs.Hears.{IsEar, Join, MayJoin, ends_zero, SameAbove}
-use Rattle.beep_hearing.specs.declared.stopped.Stopped.{Stopped}
-use Rattle.beep_hearing.specs.Answers.{Answers}
-use Rattle.beep_management.specs.declared.wait.Wait.{Wait}
-use Rattle.beep_management.specs.Managed.{Prepared, Managed, first_of}
-use Rattle.beep_peer.specs.declared.peer.Peer.{Peer}
-use Rattle.beep_peer.specs.Peering.{IsGoing, IsReached}
-use Rattle.beep_peer.specs.Waiting.{IsDrainedAt, HasCome, IsStuck}
-use Rattle.beep_peer.proofs.GainLemmas.{gained-events}
+use Rattle.beep_giving.specs.beep_frame.specs.declared.head.Head.{Head}
+use Rattle.beep_giving.specs.beep_frame.specs.declared.seq.Seq.{Seq}
+use Rattle.beep_giving.specs.beep_history.specs.declared.journal.Side.{Side}
+use Rattle.beep_giving.specs.beep_history.specs.Journal.{Item, began, passed, told}
+use Rattle.beep_giving.specs.beep_history.specs.Marks.{Mark, octet, end, marks, mark_modulo_2_64, waiting, Request, requests, begins_request, is_answered}
+use Rattle.beep_giving.specs.beep_journal.specs.Lives.{Event as Moment, is_live, live_life}
+use Rattle.beep_giving.specs.beep_journal.specs.Life.{is_there, is_of_life, life, life_now, history}
+use Rattle.beep_giving.specs.beep_exchange.specs.Given.{ends_reply}
+use Rattle.beep_giving.specs.beep_exchange.specs.Kept.{Kept}
+use Rattle.beep_giving.specs.beep_inbox.specs.Runs.{Run, AllMarked, has_mark, marks_of as untaken_marks}
+use Rattle.beep_giving.specs.beep_outbox.specs.Queue.{Message, marks_of as unsent_marks}
+use Rattle.beep_giving.specs.beep_channel.specs.Fits.{asks, as_number}
+use Rattle.beep_giving.specs.beep_channel.specs.Sums.{ended_of}
+use Rattle.beep_giving.specs.beep_channel.specs.Held.{Held, Live, is_held_drained}
+use Rattle.beep_giving.specs.beep_channel.specs.Stands.{Stands}
+use Rattle.beep_giving.specs.beep_channel.proofs.JudgedLemmas.{equal}
+use Rattle.beep_giving.specs.beep_lives.specs.Lives.{live_at}
+use Rattle.beep_giving.specs.beep_lives.proofs.ListLemmas.{live-number}
+use Rattle.beep_giving.specs.beep_standing.specs.Standing.{Marks, AreLiveBy}
+use Rattle.beep_giving.specs.beep_hearing.specs.declared.ear.Ear.{Ear}
+use Rattle.beep_giving.specs.beep_hearing.specs.declared.heard.Heard.{Heard}
+use Rattle.beep_giving.specs.beep_hearing.specs.Hears.{IsEar, Join, MayJoin, ends_zero, SameAbove}
+use Rattle.beep_giving.specs.beep_hearing.specs.declared.stopped.Stopped.{Stopped}
+use Rattle.beep_giving.specs.beep_hearing.specs.Answers.{Answers}
+use Rattle.beep_giving.specs.beep_management.specs.declared.wait.Wait.{Wait}
+use Rattle.beep_giving.specs.beep_management.specs.Managed.{Prepared, Managed, first_of}
+use Rattle.beep_giving.specs.beep_peer.specs.declared.peer.Peer.{Peer}
+use Rattle.beep_giving.specs.beep_peer.specs.Peering.{IsGoing, IsReached}
+use Rattle.beep_giving.specs.beep_peer.specs.Waiting.{IsDrainedAt, HasCome, IsStuck}
+use Rattle.beep_giving.specs.beep_peer.proofs.GainLemmas.{gained-events}
 use Rattle.beep_session.proofs.FeedLemmas.{to-ear}
 
 -- ---- the history of a life grows by what arrives

@@ -2,17 +2,17 @@
 -- 2.3.1.3).
 -- Each speaks of every journal for which the session stood: none is kept.
 use Rattle.std.specs.Prelude.{◌≡◌, ℕ, ◌++◌, ◌∷◌, [], nat_lt, min, List, length, Option, None}
-use Rattle.beep_frame.specs.declared.kind.Kind.{Kind}
-use Rattle.beep_history.specs.Journal.{Item}
-use Rattle.beep_text.specs.declared.limits.TheConstants.{MAX_TEXT}
-use Rattle.beep_mgmt.specs.Form.{PlainProfile, start}
-use Rattle.beep_mgmt.specs.Message.{message_text}
-use Rattle.beep_outbox.specs.Queue.{Message, message_marks}
-use Rattle.beep_standing.specs.Standing.{Marks, with_marks}
-use Rattle.beep_peer.specs.declared.peer.Peer.{Peer}
-use Rattle.beep_peer.specs.declared.refusals.StartError.{StartError}
-use Rattle.beep_peer.specs.Acts.{first_of_causes, either_cause, start_refusal}
-use Rattle.beep_peer.specs.Peering.{IsPeer}
+use Rattle.beep_giving.specs.beep_frame.specs.declared.kind.Kind.{Kind}
+use Rattle.beep_giving.specs.beep_history.specs.Journal.{Item}
+use Rattle.beep_giving.specs.beep_text.specs.declared.limits.TheConstants.{MAX_TEXT}
+use Rattle.beep_giving.specs.beep_mgmt.specs.Form.{PlainProfile, start}
+use Rattle.beep_giving.specs.beep_mgmt.specs.Message.{message_text}
+use Rattle.beep_giving.specs.beep_outbox.specs.Queue.{Message, message_marks}
+use Rattle.beep_giving.specs.beep_standing.specs.Standing.{Marks, with_marks}
+use Rattle.beep_giving.specs.beep_peer.specs.declared.peer.Peer.{Peer}
+use Rattle.beep_giving.specs.beep_peer.specs.declared.refusals.StartError.{StartError}
+use Rattle.beep_giving.specs.beep_peer.specs.Acts.{first_of_causes, either_cause, start_refusal}
+use Rattle.beep_giving.specs.beep_peer.specs.Peering.{IsPeer}
 use Rattle.beep_session.specs.declared.limits.TheConstants.{GREATEST_SIZE}
 
 -- a MSG of these octets was given to channel zero: the peer stands for the same octets and journal,

@@ -3,14 +3,14 @@
 -- is kept than can be read.
 use Rattle.std.specs.Prelude.{◌≡◌, ℕ, ◌+◌, ◌*◌, ◌≤◌, List, [], ◌∷◌, length, Some}
 use Rattle.std.specs.Option.{option_map_or}
-use Rattle.beep_frame.specs.declared.limits.TheConstants.{MAX_PAYLOAD}
-use Rattle.beep_history.specs.declared.limits.TheConstants.{MAX_REQUESTS, MAX_ANSWERS}
-use Rattle.beep_text.specs.declared.limits.TheConstants.{MAX_TEXT}
-use Rattle.beep_inbox.specs.Runs.{octets_of}
-use Rattle.beep_channel.specs.Held.{Live}
-use Rattle.beep_channel.specs.Stands.{untaken_ends}
-use Rattle.beep_lives.specs.Lives.{live_at}
-use Rattle.beep_hearing.specs.declared.ear.Ear.{Ear}
+use Rattle.beep_giving.specs.beep_frame.specs.declared.limits.TheConstants.{MAX_PAYLOAD}
+use Rattle.beep_giving.specs.beep_history.specs.declared.limits.TheConstants.{MAX_REQUESTS, MAX_ANSWERS}
+use Rattle.beep_giving.specs.beep_text.specs.declared.limits.TheConstants.{MAX_TEXT}
+use Rattle.beep_giving.specs.beep_inbox.specs.Runs.{octets_of}
+use Rattle.beep_giving.specs.beep_channel.specs.Held.{Live}
+use Rattle.beep_giving.specs.beep_channel.specs.Stands.{untaken_ends}
+use Rattle.beep_giving.specs.beep_lives.specs.Lives.{live_at}
+use Rattle.beep_giving.specs.beep_hearing.specs.declared.ear.Ear.{Ear}
 use Rattle.beep_session.specs.Session.{Held}
 
 -- ---- what is held

@@ -2,16 +2,16 @@
 -- Each speaks of every journal for which the session stood: none is kept.
 use Rattle.std.specs.Prelude.{◌≡◌, ℕ, ◌<◌, ◌||◌, Bool, false, List, IsSome}
 use Rattle.std.specs.Option.{option_map_or}
-use Rattle.beep_frame.specs.declared.kind.Kind.{Kind}
-use Rattle.beep_history.specs.Journal.{Item}
-use Rattle.beep_inbox.specs.declared.part.Part.{Part}
-use Rattle.beep_lives.specs.Lives.{live_at}
-use Rattle.beep_standing.specs.Standing.{Marks}
-use Rattle.beep_asked.specs.Kept.{closes}
-use Rattle.beep_mgmt.specs.Message.{message_text}
-use Rattle.beep_answering.specs.Sent.{closing_of}
-use Rattle.beep_peer.specs.Peering.{IsPeer, is_over, zero_waits}
-use Rattle.beep_peer.specs.Acts.{IsUnchanged}
+use Rattle.beep_giving.specs.beep_frame.specs.declared.kind.Kind.{Kind}
+use Rattle.beep_giving.specs.beep_history.specs.Journal.{Item}
+use Rattle.beep_giving.specs.beep_inbox.specs.declared.part.Part.{Part}
+use Rattle.beep_giving.specs.beep_lives.specs.Lives.{live_at}
+use Rattle.beep_giving.specs.beep_standing.specs.Standing.{Marks}
+use Rattle.beep_giving.specs.beep_asked.specs.Kept.{closes}
+use Rattle.beep_giving.specs.beep_mgmt.specs.Message.{message_text}
+use Rattle.beep_giving.specs.beep_answering.specs.Sent.{closing_of}
+use Rattle.beep_giving.specs.beep_peer.specs.Peering.{IsPeer, is_over, zero_waits}
+use Rattle.beep_giving.specs.beep_peer.specs.Acts.{IsUnchanged}
 use Rattle.beep_giving.specs.Giving.{GivesMessage, TakesMarks}
 use Rattle.beep_giving.specs.Looks.{answers_of}
 use Rattle.beep_session.specs.Acts.{AsksZero}

@@ -1,6 +1,6 @@
 -- What a feed answers, by what was heard.
 use Rattle.std.specs.Prelude.{Bool, true, false}
-use Rattle.beep_hearing.specs.declared.heard.Heard.{Heard}
+use Rattle.beep_giving.specs.beep_hearing.specs.declared.heard.Heard.{Heard}
 use Rattle.beep_session.specs.declared.event.Event.{Event}
 
 -- octets were used, and no rule is broken by them: a frame or a message ended, or all octets are

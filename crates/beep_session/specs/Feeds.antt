@@ -3,14 +3,14 @@
 -- Each speaks of every journal for which the peer stood: none is kept.
 use Rattle.std.specs.Prelude.{◌≡◌, ℕ, ◌==◌, false, List, ◌∷◌, ◌++◌}
 use Rattle.std.specs.List.{list_any}
-use Rattle.beep_frame.specs.declared.head.Head.{Head}
-use Rattle.beep_history.specs.declared.journal.Side.{Side}
-use Rattle.beep_history.specs.Journal.{Item, passed}
-use Rattle.beep_standing.specs.Standing.{Marks}
-use Rattle.beep_hearing.specs.Hears.{SameAbove, Join, ends_zero, is_above, Breaks}
+use Rattle.beep_giving.specs.beep_frame.specs.declared.head.Head.{Head}
+use Rattle.beep_giving.specs.beep_history.specs.declared.journal.Side.{Side}
+use Rattle.beep_giving.specs.beep_history.specs.Journal.{Item, passed}
+use Rattle.beep_giving.specs.beep_standing.specs.Standing.{Marks}
+use Rattle.beep_giving.specs.beep_hearing.specs.Hears.{SameAbove, Join, ends_zero, is_above, Breaks}
 use Rattle.beep_session.specs.declared.event.Event.{Event}
-use Rattle.beep_peer.specs.declared.peer.Peer.{Peer}
-use Rattle.beep_peer.specs.Peering.{IsPeer, WaitsIn}
+use Rattle.beep_giving.specs.beep_peer.specs.declared.peer.Peer.{Peer}
+use Rattle.beep_giving.specs.beep_peer.specs.Peering.{IsPeer, WaitsIn}
 
 -- these octets brought these items, of which none ends a message of channel zero, and the peer
 -- stands for the journal with them

@@ -2,15 +2,15 @@
 -- to 2.3; RFC 3081, section 3.1).
 -- The code keeps no journal, and tests none of this: each call leaves what goes out lawful.
 use Rattle.std.specs.Prelude.{ℕ, List, ◌++◌}
-use Rattle.beep_history.specs.Journal.{Item}
-use Rattle.beep_journal.specs.Broken.{none_tunes}
-use Rattle.beep_lawful.specs.declared.terms.Terms.{Terms}
-use Rattle.beep_lawful.specs.Lawful.{IsLawful}
-use Rattle.beep_standing.specs.Standing.{Marks}
-use Rattle.beep_upright.specs.Upright.{IsUpright}
-use Rattle.beep_peer.specs.declared.peer.Peer.{Peer}
-use Rattle.beep_peer.specs.Peering.{IsPeer}
-use Rattle.beep_peer.specs.Lawfully.{IsLawfulPeer}
+use Rattle.beep_giving.specs.beep_history.specs.Journal.{Item}
+use Rattle.beep_giving.specs.beep_journal.specs.Broken.{none_tunes}
+use Rattle.beep_giving.specs.beep_lawful.specs.declared.terms.Terms.{Terms}
+use Rattle.beep_giving.specs.beep_lawful.specs.Lawful.{IsLawful}
+use Rattle.beep_giving.specs.beep_standing.specs.Standing.{Marks}
+use Rattle.beep_giving.specs.beep_upright.specs.Upright.{IsUpright}
+use Rattle.beep_giving.specs.beep_peer.specs.declared.peer.Peer.{Peer}
+use Rattle.beep_giving.specs.beep_peer.specs.Peering.{IsPeer}
+use Rattle.beep_giving.specs.beep_peer.specs.Lawfully.{IsLawfulPeer}
 use Rattle.beep_session.specs.declared.event.Event.{Event}
 use Rattle.beep_session.specs.Feeds.{Gains, ZeroWaits}
 use Rattle.beep_session.specs.Session.{Held}

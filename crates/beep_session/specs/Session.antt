@@ -1,16 +1,16 @@
 -- What a contract sees of a session: its parts that stand for a journal, and its terms.
 use Rattle.std.specs.Prelude.{◌≡◌, ◌<◌, ◌≤◌, true, List, length}
 use Rattle.std.specs.List.{list_all}
-use Rattle.beep_journal.specs.declared.role.Role.{Role}
-use Rattle.beep_seq.specs.declared.limits.TheConstants.{MIN_WINDOW, MAX_WINDOW}
-use Rattle.beep_decide.specs.Decide.{PlainOffer}
+use Rattle.beep_giving.specs.beep_journal.specs.declared.role.Role.{Role}
+use Rattle.beep_giving.specs.beep_seq.specs.declared.limits.TheConstants.{MIN_WINDOW, MAX_WINDOW}
+use Rattle.beep_giving.specs.beep_decide.specs.Decide.{PlainOffer}
 use Rattle.beep_session.specs.declared.limits.Limits.{Limits}
 use Rattle.beep_settings.specs.declared.limits.TheConstants.{MAX_PIECE}
-use Rattle.beep_answering.specs.declared.offers.TheConstants.{MAX_OFFERS}
-use Rattle.beep_peer.specs.declared.peer.Peer.{Peer}
-use Rattle.beep_answering.specs.Decided.{NoneTunes}
-use Rattle.beep_peer.specs.Peering.{IsReached}
-use Rattle.beep_answering.specs.Sent.{is_uri}
+use Rattle.beep_giving.specs.beep_answering.specs.declared.offers.TheConstants.{MAX_OFFERS}
+use Rattle.beep_giving.specs.beep_peer.specs.declared.peer.Peer.{Peer}
+use Rattle.beep_giving.specs.beep_answering.specs.Decided.{NoneTunes}
+use Rattle.beep_giving.specs.beep_peer.specs.Peering.{IsReached}
+use Rattle.beep_giving.specs.beep_answering.specs.Sent.{is_uri}
 
 -- which end it is, what it offers, what it sets for itself, and the parts that stand for a journal
 pub record Held : Type 0 where

@@ -1,8 +1,8 @@
 //! What a feed answers.
 ghost use Rattle.std.specs.Prelude.{◌≡◌};
 
-use beep_frame::Rule;
-use beep_hearing::Heard;
+use beep_giving::beep_frame::Rule;
+use beep_giving::beep_hearing::Heard;
 
 /// What came of the octets of a feed.
 #[derive(Clone, Copy, Debug)]

@@ -2,16 +2,16 @@
 //! reply, an answer after the NUL, two channels at once. A request after the close is refused by
 //! the condition of `ask`.
 ghost use Rattle.std.specs.Prelude.{◌≡◌, ◌≢◌, ◌<◌, ◌^◌, ◌&&◌, not, nat_lt, [], ℕ, List, length, None, Some, is_some, true, false, IsSome, IfSome, IfNone, IfOk, IfErr, OnOk, OnErr};
-ghost use Rattle.beep_frame.specs.declared.kind.Kind.{Kind as KindValue};
-ghost use Rattle.beep_frame.specs.Frame.{is_msg};
-ghost use Rattle.beep_frame.specs.Modulo.{modulo_2_64};
-ghost use Rattle.beep_history.specs.Journal.{Item};
-ghost use Rattle.beep_outbox.specs.declared.give_error.GiveError.{GiveError as GiveErrorValue};
-ghost use Rattle.beep_channel.specs.declared.ask_error.AskError.{AskError as AskErrorValue};
-ghost use Rattle.beep_channel.specs.Stands.{ends_of};
-ghost use Rattle.beep_lives.specs.Lives.{live_at};
-ghost use Rattle.beep_standing.specs.Standing.{Marks};
-ghost use Rattle.beep_peer.specs.Peering.{IsPeer, is_over, zero_waits};
+ghost use Rattle.beep_giving.specs.beep_frame.specs.declared.kind.Kind.{Kind as KindValue};
+ghost use Rattle.beep_giving.specs.beep_frame.specs.Frame.{is_msg};
+ghost use Rattle.beep_giving.specs.beep_frame.specs.Modulo.{modulo_2_64};
+ghost use Rattle.beep_giving.specs.beep_history.specs.Journal.{Item};
+ghost use Rattle.beep_giving.specs.beep_outbox.specs.declared.give_error.GiveError.{GiveError as GiveErrorValue};
+ghost use Rattle.beep_giving.specs.beep_channel.specs.declared.ask_error.AskError.{AskError as AskErrorValue};
+ghost use Rattle.beep_giving.specs.beep_channel.specs.Stands.{ends_of};
+ghost use Rattle.beep_giving.specs.beep_lives.specs.Lives.{live_at};
+ghost use Rattle.beep_giving.specs.beep_standing.specs.Standing.{Marks};
+ghost use Rattle.beep_giving.specs.beep_peer.specs.Peering.{IsPeer, is_over, zero_waits};
 ghost use Rattle.beep_giving.specs.Giving.{ask_refusal_at, reply_refusal_at};
 ghost use Rattle.beep_giving.specs.Looks.{owes_of, answers_of, inbox_of};
 ghost use Rattle.beep_session.specs.Channels.{IsOpen, is_closing, IsStill, Gives, Takes};
@@ -20,12 +20,12 @@ mod open;
 mod reply;
 
 use crate::session::Session;
-use beep_channel::AskError;
-use beep_frame::Kind;
-use beep_inbox::Part;
-use beep_octets::NoMemory;
-use beep_outbox::GiveError;
-use beep_peer::CloseError;
+use beep_giving::beep_channel::AskError;
+use beep_giving::beep_frame::Kind;
+use beep_giving::beep_inbox::Part;
+use beep_giving::beep_octets::NoMemory;
+use beep_giving::beep_outbox::GiveError;
+use beep_giving::beep_peer::CloseError;
 
 /// A live channel whose close this end has not asked for. It holds the session.
 #[derive(Drop)]

@@ -1,12 +1,12 @@
 //! What a program lists in a start, and what an end may offer (RFC 3080, section 2.3.1.2).
 ghost use Rattle.std.specs.Prelude.{◌≡◌, ◌∷◌, [], ℕ, map, true, false, None, IfOk};
-ghost use Rattle.beep_mgmt.specs.Form.{plain_profile, start as start_form};
-ghost use Rattle.beep_mgmt.specs.Written.{is_writable, comes_back};
-ghost use Rattle.beep_answering.specs.Sent.{is_uri as is_uri_text, plain_listed};
+ghost use Rattle.beep_giving.specs.beep_mgmt.specs.Form.{plain_profile, start as start_form};
+ghost use Rattle.beep_giving.specs.beep_mgmt.specs.Written.{is_writable, comes_back};
+ghost use Rattle.beep_giving.specs.beep_answering.specs.Sent.{is_uri as is_uri_text, plain_listed};
 
-use beep_chars::{MAX_URI, Text};
-use beep_mgmt::{Encoding, Profile, Profiles};
-use beep_octets::{NoMemory, Octets};
+use beep_giving::beep_chars::{MAX_URI, Text};
+use beep_giving::beep_mgmt::{Encoding, Profile, Profiles};
+use beep_giving::beep_octets::{NoMemory, Octets};
 use std::alloc::Global;
 
 /// Whether a URI may be offered: it has 1 to `MAX_URI` characters, all of them allowed.

@@ -1,25 +1,25 @@
 //! One peer of a session.
 ghost use Rattle.std.specs.Prelude.{◌≡◌, ◌≢◌, ◌<◌, ◌≤◌, ◌+◌, ◌-◌, ◌++◌, ◌∷◌, [], ℕ, List, length, take, map, min, true, false, None, Some, Err, IfOk, IsOk, OnOk, OnErr, option_map};
 ghost use Rattle.std.specs.List.{list_all};
-ghost use Rattle.beep_frame.specs.declared.rule.Rule.{Rule as RuleValue};
-ghost use Rattle.beep_frame.specs.declared.head.Head.{Head as HeadValue};
-ghost use Rattle.beep_frame.specs.declared.seq.Seq.{Seq as SeqValue};
-ghost use Rattle.beep_frame.specs.declared.spelling.TheConstants.{SPELL_ROOM};
+ghost use Rattle.beep_giving.specs.beep_frame.specs.declared.rule.Rule.{Rule as RuleValue};
+ghost use Rattle.beep_giving.specs.beep_frame.specs.declared.head.Head.{Head as HeadValue};
+ghost use Rattle.beep_giving.specs.beep_frame.specs.declared.seq.Seq.{Seq as SeqValue};
+ghost use Rattle.beep_giving.specs.beep_frame.specs.declared.spelling.TheConstants.{SPELL_ROOM};
 ghost use Rattle.beep_settings.specs.declared.limits.TheConstants.{MAX_PIECE};
-ghost use Rattle.beep_frame.specs.Modulo.{modulo_2_64};
-ghost use Rattle.beep_frame.specs.Frame.{is_msg};
-ghost use Rattle.beep_history.specs.declared.journal.Side.{Side};
-ghost use Rattle.beep_history.specs.Journal.{Item, passed};
-ghost use Rattle.beep_mgmt.specs.Form.{form_of};
-ghost use Rattle.beep_mgmt.specs.Message.{message_said, message_text};
-ghost use Rattle.beep_journal.specs.Zero.{zero_history, gathered, completes_form};
-ghost use Rattle.beep_standing.specs.Standing.{Marks, no_marks};
-ghost use Rattle.beep_decide.specs.Decide.{decide as decided};
-ghost use Rattle.beep_decide.specs.Plain.{plain_offer};
-ghost use Rattle.beep_asked.specs.Kept.{Kept, oldest};
-ghost use Rattle.beep_speaking.specs.declared.emit.Emit.{Emit as EmitValue};
+ghost use Rattle.beep_giving.specs.beep_frame.specs.Modulo.{modulo_2_64};
+ghost use Rattle.beep_giving.specs.beep_frame.specs.Frame.{is_msg};
+ghost use Rattle.beep_giving.specs.beep_history.specs.declared.journal.Side.{Side};
+ghost use Rattle.beep_giving.specs.beep_history.specs.Journal.{Item, passed};
+ghost use Rattle.beep_giving.specs.beep_mgmt.specs.Form.{form_of};
+ghost use Rattle.beep_giving.specs.beep_mgmt.specs.Message.{message_said, message_text};
+ghost use Rattle.beep_giving.specs.beep_journal.specs.Zero.{zero_history, gathered, completes_form};
+ghost use Rattle.beep_giving.specs.beep_standing.specs.Standing.{Marks, no_marks};
+ghost use Rattle.beep_giving.specs.beep_decide.specs.Decide.{decide as decided};
+ghost use Rattle.beep_giving.specs.beep_decide.specs.Plain.{plain_offer};
+ghost use Rattle.beep_giving.specs.beep_asked.specs.Kept.{Kept, oldest};
+ghost use Rattle.beep_giving.specs.beep_speaking.specs.declared.emit.Emit.{Emit as EmitValue};
 ghost use Rattle.beep_session.specs.declared.event.Event.{Event as EventValue};
-ghost use Rattle.beep_peer.specs.declared.settle_error.SettleError.{SettleError as SettleErrorValue};
+ghost use Rattle.beep_giving.specs.beep_peer.specs.declared.settle_error.SettleError.{SettleError as SettleErrorValue};
 
 mod acts;
 mod giving;
@@ -27,14 +27,14 @@ mod looks;
 
 use crate::event::Event;
 use crate::limits::Limits;
-use beep_answering::{Offers, Settled, greeting_text};
-use beep_decide::Standing;
-use beep_frame::Head;
-use beep_journal::{Role, message_said};
-use beep_mgmt::Mgmt;
-use beep_octets::{NoMemory, Octets};
-use beep_peer::{Peer, SettleError, settle_reply, settle_request, speak, stand};
-use beep_speaking::Emit;
+use beep_giving::beep_answering::{Offers, Settled, greeting_text};
+use beep_giving::beep_decide::Standing;
+use beep_giving::beep_frame::Head;
+use beep_giving::beep_journal::{Role, message_said};
+use beep_giving::beep_mgmt::Mgmt;
+use beep_giving::beep_octets::{NoMemory, Octets};
+use beep_giving::beep_peer::{Peer, SettleError, settle_reply, settle_request, speak, stand};
+use beep_giving::beep_speaking::Emit;
 use std::alloc::Global;
 use std::marker::Model;
 
@@ -50,7 +50,7 @@ pub struct Session {
 
 impl Model for Session {
     ghost use Rattle.std.specs.Prelude.{map, length, ◌+◌, ◌≤◌};
-    ghost use Rattle.beep_decide.specs.Plain.{plain_offer};
+    ghost use Rattle.beep_giving.specs.beep_decide.specs.Plain.{plain_offer};
     ghost use Rattle.beep_session.specs.Session.{Held, IsSession};
 
     ghost Value = { Held };
@@ -71,20 +71,20 @@ impl Model for Session {
 }
 
 impl Session {
-    ghost use Rattle.beep_peer.specs.Peering.{IsPeer, WaitsIn, is_over, zero_waits};
-    ghost use Rattle.beep_peer.specs.Calls.{Begins, Settles, SettlesReply, SettlesRequest, Speaks, TakesTurn};
-    ghost use Rattle.beep_peer.specs.Left.{left_to_say};
-    ghost use Rattle.beep_peer.specs.Waiting.{IsStuck};
-    ghost use Rattle.beep_peer.specs.Acts.{IsUnchanged};
+    ghost use Rattle.beep_giving.specs.beep_peer.specs.Peering.{IsPeer, WaitsIn, is_over, zero_waits};
+    ghost use Rattle.beep_giving.specs.beep_peer.specs.Calls.{Begins, Settles, SettlesReply, SettlesRequest, Speaks, TakesTurn};
+    ghost use Rattle.beep_giving.specs.beep_peer.specs.Left.{left_to_say};
+    ghost use Rattle.beep_giving.specs.beep_peer.specs.Waiting.{IsStuck};
+    ghost use Rattle.beep_giving.specs.beep_peer.specs.Acts.{IsUnchanged};
     ghost use Rattle.beep_session.specs.Events.{is_going};
     ghost use Rattle.beep_session.specs.Feeds.{Feeds};
-    ghost use Rattle.beep_answering.specs.Decided.{NoneTunes, IsSettledBy, IsSettledAs};
-    ghost use Rattle.beep_answering.specs.Sent.{is_uri, greeting_of};
+    ghost use Rattle.beep_giving.specs.beep_answering.specs.Decided.{NoneTunes, IsSettledBy, IsSettledAs};
+    ghost use Rattle.beep_giving.specs.beep_answering.specs.Sent.{is_uri, greeting_of};
     ghost use Rattle.beep_session.specs.Session.{AreLimits};
-    ghost use Rattle.beep_peer.specs.Standing.{standing_of};
-    ghost use Rattle.beep_upright.specs.Upright.{IsUpright};
-    ghost use Rattle.beep_upright.specs.Frames.{AreFrames, IsFramed};
-    ghost use Rattle.beep_peer.specs.Lawfully.{SpeaksLawfully};
+    ghost use Rattle.beep_giving.specs.beep_peer.specs.Standing.{standing_of};
+    ghost use Rattle.beep_giving.specs.beep_upright.specs.Upright.{IsUpright};
+    ghost use Rattle.beep_giving.specs.beep_upright.specs.Frames.{AreFrames, IsFramed};
+    ghost use Rattle.beep_giving.specs.beep_peer.specs.Lawfully.{SpeaksLawfully};
     ghost use Rattle.beep_session.specs.Lawfully.{terms_of, IsLawfulSession, FeedsLawfully};
 
     /// A session that has begun: its greeting is the first message to go out.
@@ -356,6 +356,3 @@ impl Session {
         speak(&mut self.peer, &mut self.scratch, most, out)
     }
 }
-
-#[cfg(test)]
-mod tests;

@@ -6,3 +6,6 @@ pub mod LastLine
 pub mod Listing
 pub mod Passing
 pub mod Zero
+-- Crates below, which are named through this one.
+pub use Rattle.beep_words
+pub use Rattle.beep_input

@@ -12,3 +12,7 @@ pub use showing::show;
 pub use text::{
     LAST_ROOM, append_broken, append_idle, append_numbered, append_refused, append_written,
 };
+
+// Crates below, which are named through this one.
+pub use beep_input;
+pub use beep_words;

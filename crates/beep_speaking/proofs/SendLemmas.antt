@@ -2,9 +2,9 @@
 use Rattle.std.proofs.Common.{◌≡◌, ℕ, List, length}
 use Rattle.std.proofs.Math.Logic.{∥∥₁_elim}
 use denote.Struct.Props.{props}
-use Rattle.beep_frame.specs.declared.head.Head.{Head}
-use Rattle.beep_channel.specs.Held.{Live}
-use Rattle.beep_lives.specs.Edits.{Sends, Edits}
+use Rattle.beep_standing.specs.beep_frame.specs.declared.head.Head.{Head}
+use Rattle.beep_standing.specs.beep_channel.specs.Held.{Live}
+use Rattle.beep_standing.specs.beep_lives.specs.Edits.{Sends, Edits}
 use Rattle.beep_standing.proofs.DueLemmas.{sent-next}
 use Rattle.beep_speaking.specs.Emits.{IsReached}
 

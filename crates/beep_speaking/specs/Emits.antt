@@ -3,14 +3,14 @@
 -- The code looks at flags; here each channel is asked.
 use Rattle.std.specs.Prelude.{◌≡◌, ℕ, Bool, true, false, List, ◌++◌, length}
 use Rattle.std.specs.List.{list_any}
-use Rattle.beep_frame.specs.declared.head.Head.{Head}
-use Rattle.beep_frame.specs.declared.seq.Seq.{Seq}
-use Rattle.beep_frame.specs.Frame.{framed, seq_frame}
-use Rattle.beep_frame.specs.Spelling.{spelling}
-use Rattle.beep_history.specs.Journal.{Item}
-use Rattle.beep_channel.specs.Held.{Live}
-use Rattle.beep_lives.specs.Lives.{can_send, owes_seq, IsFirstOf}
-use Rattle.beep_lives.specs.Edits.{Sends, Tells, Edits}
+use Rattle.beep_standing.specs.beep_frame.specs.declared.head.Head.{Head}
+use Rattle.beep_standing.specs.beep_frame.specs.declared.seq.Seq.{Seq}
+use Rattle.beep_standing.specs.beep_frame.specs.Frame.{framed, seq_frame}
+use Rattle.beep_standing.specs.beep_frame.specs.Spelling.{spelling}
+use Rattle.beep_standing.specs.beep_history.specs.Journal.{Item}
+use Rattle.beep_standing.specs.beep_channel.specs.Held.{Live}
+use Rattle.beep_standing.specs.beep_lives.specs.Lives.{can_send, owes_seq, IsFirstOf}
+use Rattle.beep_standing.specs.beep_lives.specs.Edits.{Sends, Tells, Edits}
 use Rattle.beep_standing.specs.Standing.{Marks, AreLiveBy}
 use Rattle.beep_speaking.specs.declared.emit.Emit.{Emit}
 

@@ -1,14 +1,14 @@
 //! The frame or SEQ that goes out next.
 ghost use Rattle.std.specs.Prelude.{◌≡◌, ◌+◌, ◌<◌, ◌≤◌, true, false, length, IfSome, IfNone};
 ghost use Rattle.std.specs.List.{list_any};
-ghost use Rattle.beep_octets.specs.Held.{KeepsRoom};
-ghost use Rattle.beep_frame.specs.declared.spelling.TheConstants.{SPELL_ROOM, SEQ_ROOM};
-ghost use Rattle.beep_lives.specs.Lives.{can_send};
+ghost use Rattle.beep_standing.specs.beep_octets.specs.Held.{KeepsRoom};
+ghost use Rattle.beep_standing.specs.beep_frame.specs.declared.spelling.TheConstants.{SPELL_ROOM, SEQ_ROOM};
+ghost use Rattle.beep_standing.specs.beep_lives.specs.Lives.{can_send};
 ghost use Rattle.beep_speaking.specs.Emits.{TellsNext, SendsNext, NoSeq, Emits, IsReached};
 
-use beep_frame::{Head, SEQ_ROOM, SPELL_ROOM, Seq, spell, spell_seq};
-use beep_lives::Lives;
-use beep_octets::Octets;
+use beep_standing::beep_frame::{Head, SEQ_ROOM, SPELL_ROOM, Seq, spell, spell_seq};
+use beep_standing::beep_lives::Lives;
+use beep_standing::beep_octets::Octets;
 
 /// What went out.
 #[derive(Clone, Copy, Debug)]

@@ -1,14 +1,14 @@
 //! What goes out joins the journal for which the channels stand: each function does nothing, and
 //! its contract is the fact.
 ghost use Rattle.std.specs.Prelude.{◌≡◌, ℕ, ◌==◌, ◌∷◌, ◌++◌, List, Bool, true, false};
-ghost use Rattle.beep_frame.specs.declared.head.Head.{Head};
-ghost use Rattle.beep_frame.specs.declared.seq.Seq.{Seq};
-ghost use Rattle.beep_frame.specs.Frame.{framed, seq_frame};
-ghost use Rattle.beep_frame.specs.Spelling.{spelling};
-ghost use Rattle.beep_history.specs.declared.journal.Side.{Side};
-ghost use Rattle.beep_history.specs.Journal.{Item, began, passed, told};
-ghost use Rattle.beep_journal.specs.Life.{history, is_there};
-ghost use Rattle.beep_channel.specs.Held.{Live};
+ghost use Rattle.beep_standing.specs.beep_frame.specs.declared.head.Head.{Head};
+ghost use Rattle.beep_standing.specs.beep_frame.specs.declared.seq.Seq.{Seq};
+ghost use Rattle.beep_standing.specs.beep_frame.specs.Frame.{framed, seq_frame};
+ghost use Rattle.beep_standing.specs.beep_frame.specs.Spelling.{spelling};
+ghost use Rattle.beep_standing.specs.beep_history.specs.declared.journal.Side.{Side};
+ghost use Rattle.beep_standing.specs.beep_history.specs.Journal.{Item, began, passed, told};
+ghost use Rattle.beep_standing.specs.beep_journal.specs.Life.{history, is_there};
+ghost use Rattle.beep_standing.specs.beep_channel.specs.Held.{Live};
 ghost use Rattle.beep_standing.specs.Standing.{Marks, AreLive, AreLiveBy};
 ghost use Rattle.beep_standing.specs.Due.{has_due, has_ready};
 ghost use Rattle.beep_speaking.specs.declared.emit.Emit.{Emit};

@@ -1,3 +1,19 @@
 pub mod Standing
 pub mod Moving
 pub mod Due
+-- Crates below, which are named through this one.
+pub use Rattle.beep_octets
+pub use Rattle.beep_frame
+pub use Rattle.beep_seq
+pub use Rattle.beep_history
+pub use Rattle.beep_exchange
+pub use Rattle.beep_inbox
+pub use Rattle.beep_outbox
+pub use Rattle.beep_channel
+pub use Rattle.beep_turns
+pub use Rattle.beep_lives
+pub use Rattle.beep_chars
+pub use Rattle.beep_mime
+pub use Rattle.beep_text
+pub use Rattle.beep_mgmt
+pub use Rattle.beep_journal

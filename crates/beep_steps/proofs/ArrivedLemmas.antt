@@ -1,12 +1,12 @@
 -- What a frame that arrives adds to the marks of its live life.
 use Rattle.std.proofs.Common.{◌≡◌, ◌∙◌, refl, sym, ap, ℕ, ◌==◌, Bool, true, false, List, ◌∷◌, ◌++◌, append-nil, arith}
 use Rattle.std.proofs.lemmas.Bool.Decides.{nat_tests}
-use Rattle.beep_frame.specs.declared.head.Head.{Head}
-use Rattle.beep_history.specs.declared.journal.Side.{Side}
-use Rattle.beep_history.specs.Journal.{Item, passed}
-use Rattle.beep_history.specs.Marks.{marks, frame_marks, tag_of}
-use Rattle.beep_journal.specs.Life.{history, is_there, life_now, life_under_way}
-use Rattle.beep_journal.proofs.JournalLemmas.{above-history}
+use Rattle.beep_session.specs.beep_frame.specs.declared.head.Head.{Head}
+use Rattle.beep_session.specs.beep_history.specs.declared.journal.Side.{Side}
+use Rattle.beep_session.specs.beep_history.specs.Journal.{Item, passed}
+use Rattle.beep_session.specs.beep_history.specs.Marks.{marks, frame_marks, tag_of}
+use Rattle.beep_session.specs.beep_journal.specs.Life.{history, is_there, life_now, life_under_way}
+use Rattle.beep_session.specs.beep_journal.proofs.JournalLemmas.{above-history}
 use Rattle.beep_steps.specs.Steps.{arrived_marks}
 
 pub turn : (a b : ℕ) → (a == b) ≡ false → (b == a) ≡ false

@@ -1,19 +1,19 @@
 -- What a sender asks for the item that happened last, by what came, went out or was settled.
 use Rattle.std.proofs.Common.{◌≡◌, ◌∙◌, refl, sym, ap, ℕ, ◌≤◌, ◌==◌, Bool, true, false, not, ◌&&◌, List, [], ◌∷◌, None}
-use Rattle.beep_frame.specs.declared.head.Head.{Head}
-use Rattle.beep_frame.specs.declared.kind.Kind.{Kind}
-use Rattle.beep_frame.specs.Frame.{is_nul}
-use Rattle.beep_history.specs.declared.journal.Side.{Side}
-use Rattle.beep_history.specs.Journal.{Item, began, passed}
-use Rattle.beep_mgmt.specs.Form.{close, start}
-use Rattle.beep_journal.specs.Log.{Moment}
-use Rattle.beep_speaking.specs.declared.emit.Emit.{Emit}
-use Rattle.beep_answering.specs.declared.settled.Settled.{Settled}
+use Rattle.beep_session.specs.beep_frame.specs.declared.head.Head.{Head}
+use Rattle.beep_session.specs.beep_frame.specs.declared.kind.Kind.{Kind}
+use Rattle.beep_session.specs.beep_frame.specs.Frame.{is_nul}
+use Rattle.beep_session.specs.beep_history.specs.declared.journal.Side.{Side}
+use Rattle.beep_session.specs.beep_history.specs.Journal.{Item, began, passed}
+use Rattle.beep_session.specs.beep_mgmt.specs.Form.{close, start}
+use Rattle.beep_session.specs.beep_journal.specs.Log.{Moment}
+use Rattle.beep_session.specs.beep_speaking.specs.declared.emit.Emit.{Emit}
+use Rattle.beep_session.specs.beep_answering.specs.declared.settled.Settled.{Settled}
 use Rattle.beep_session.specs.Session.{Held}
-use Rattle.beep_talk.specs.declared.plan.Command.{Command}
-use Rattle.beep_talk.specs.AtZero.{profile_of, zero_message}
-use Rattle.beep_talk.specs.Plan.{PlainPlan}
-use Rattle.beep_script.specs.Desk.{asks, asks_where, grants_own}
+use Rattle.beep_desk.specs.beep_talk.specs.declared.plan.Command.{Command}
+use Rattle.beep_desk.specs.beep_talk.specs.AtZero.{profile_of, zero_message}
+use Rattle.beep_desk.specs.beep_talk.specs.Plan.{PlainPlan}
+use Rattle.beep_desk.specs.beep_script.specs.Desk.{asks, asks_where, grants_own}
 use Rattle.beep_desk.proofs.AskLemmas.{sender-none, sender-release, sender-sent, sender-start}
 use Rattle.beep_desk.proofs.OnceLemmas.{granting}
 use Rattle.beep_steps.specs.Desking.{AsksSo, DesksWithin, EndsLinesSo, closes_own}

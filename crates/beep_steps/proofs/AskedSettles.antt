@@ -4,34 +4,34 @@ use Rattle.std.specs.Prelude.{nat_lt, slice_get}
 use Rattle.std.specs.Option.{option_map_or}
 use Rattle.std.proofs.lemmas.Bool.Decides.{nat_tests}
 use Rattle.std.proofs.lemmas.List.{take-map}
-use Rattle.beep_frame.specs.declared.head.Head.{Head}
-use Rattle.beep_frame.specs.declared.kind.Kind.{Kind}
-use Rattle.beep_frame.specs.Frame.{is_msg, is_reply, same_kind}
-use Rattle.beep_history.specs.declared.journal.Side.{Side}
-use Rattle.beep_history.specs.Journal.{Item, passed}
-use Rattle.beep_history.specs.Marks.{Request, latest, marks, position_of, requests}
-use Rattle.beep_history.specs.Broken.{KeepsExchangeRules}
-use Rattle.beep_history.proofs.SoundLemmas.{IsDue, Sound}
-use Rattle.beep_history.proofs.PassedLemmas.{sound}
-use Rattle.beep_mgmt.specs.Form.{Form, PlainProfile, greeting, start, chosen, close, okay, fault}
-use Rattle.beep_mgmt.specs.Message.{message_said}
-use Rattle.beep_journal.specs.Lives.{Event}
-use Rattle.beep_journal.specs.Log.{Moment}
-use Rattle.beep_journal.specs.Zero.{asked, completes_form, gathered, has_form, is_grant, said_at, said_to, zero_events, zero_history}
-use Rattle.beep_journal.proofs.MomentLemmas.{equal-number, same-number}
-use Rattle.beep_asked.specs.Kept.{Kept, oldest}
-use Rattle.beep_asked.specs.Asked.{AreAsked, AreWaiting}
-use Rattle.beep_answering.specs.declared.settled.Settled.{Settled}
-use Rattle.beep_answering.specs.Decided.{IsBegunBy, IsClosedBy, IsSettledAs, IsSettledBy, SettledBy, closed_as, refused_as}
-use Rattle.beep_decide.specs.Decide.{Decision, choose, grant_close, refuse, tune}
-use Rattle.beep_management.specs.declared.wait.Wait.{Wait}
+use Rattle.beep_session.specs.beep_frame.specs.declared.head.Head.{Head}
+use Rattle.beep_session.specs.beep_frame.specs.declared.kind.Kind.{Kind}
+use Rattle.beep_session.specs.beep_frame.specs.Frame.{is_msg, is_reply, same_kind}
+use Rattle.beep_session.specs.beep_history.specs.declared.journal.Side.{Side}
+use Rattle.beep_session.specs.beep_history.specs.Journal.{Item, passed}
+use Rattle.beep_session.specs.beep_history.specs.Marks.{Request, latest, marks, position_of, requests}
+use Rattle.beep_session.specs.beep_history.specs.Broken.{KeepsExchangeRules}
+use Rattle.beep_session.specs.beep_history.proofs.SoundLemmas.{IsDue, Sound}
+use Rattle.beep_session.specs.beep_history.proofs.PassedLemmas.{sound}
+use Rattle.beep_session.specs.beep_mgmt.specs.Form.{Form, PlainProfile, greeting, start, chosen, close, okay, fault}
+use Rattle.beep_session.specs.beep_mgmt.specs.Message.{message_said}
+use Rattle.beep_session.specs.beep_journal.specs.Lives.{Event}
+use Rattle.beep_session.specs.beep_journal.specs.Log.{Moment}
+use Rattle.beep_session.specs.beep_journal.specs.Zero.{asked, completes_form, gathered, has_form, is_grant, said_at, said_to, zero_events, zero_history}
+use Rattle.beep_session.specs.beep_journal.proofs.MomentLemmas.{equal-number, same-number}
+use Rattle.beep_session.specs.beep_asked.specs.Kept.{Kept, oldest}
+use Rattle.beep_session.specs.beep_asked.specs.Asked.{AreAsked, AreWaiting}
+use Rattle.beep_session.specs.beep_answering.specs.declared.settled.Settled.{Settled}
+use Rattle.beep_session.specs.beep_answering.specs.Decided.{IsBegunBy, IsClosedBy, IsSettledAs, IsSettledBy, SettledBy, closed_as, refused_as}
+use Rattle.beep_session.specs.beep_decide.specs.Decide.{Decision, choose, grant_close, refuse, tune}
+use Rattle.beep_session.specs.beep_management.specs.declared.wait.Wait.{Wait}
 use Rattle.beep_session.specs.Lawfully.{terms_of}
 use Rattle.beep_session.specs.Session.{Held}
-use Rattle.beep_talk.specs.AtZero.{profile_of}
-use Rattle.beep_talk.specs.Plan.{PlainPlan}
-use Rattle.beep_script.specs.Desk.{grants_own}
-use Rattle.beep_script.specs.Requested.{SenderTexts, requests_from, sender_texts}
-use Rattle.beep_script.proofs.RequestedLemmas.{asked-so, nth, own_forms}
+use Rattle.beep_desk.specs.beep_talk.specs.AtZero.{profile_of}
+use Rattle.beep_desk.specs.beep_talk.specs.Plan.{PlainPlan}
+use Rattle.beep_desk.specs.beep_script.specs.Desk.{grants_own}
+use Rattle.beep_desk.specs.beep_script.specs.Requested.{SenderTexts, requests_from, sender_texts}
+use Rattle.beep_desk.specs.beep_script.proofs.RequestedLemmas.{asked-so, nth, own_forms}
 use Rattle.beep_steps.specs.Desking.{AsksSo, closes_own}
 use Rattle.beep_steps.specs.Logs.{WaitsOn}
 use Rattle.beep_steps.specs.Sending.{Progress, SendsWaiting}

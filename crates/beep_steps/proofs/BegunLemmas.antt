@@ -3,21 +3,21 @@ use Rattle.std.proofs.Common.{◌≡◌, ℕ, ◌+◌, ◌%◌, ◌==◌, nat_lt
 use Rattle.std.specs.Option.{is_none, option_map_or}
 use Rattle.std.proofs.lemmas.Bool.{eqb-true}
 use Rattle.std.proofs.lemmas.Bool.Decides.{nat_tests}
-use Rattle.beep_frame.specs.declared.head.Head.{Head}
-use Rattle.beep_frame.specs.declared.kind.Kind.{Kind}
-use Rattle.beep_frame.specs.declared.seq.Seq.{Seq}
-use Rattle.beep_frame.specs.Frame.{is_msg, same_kind}
-use Rattle.beep_history.specs.declared.journal.Side.{Side}
-use Rattle.beep_history.specs.Journal.{Item, began, passed, told, implied}
-use Rattle.beep_history.specs.Marks.{begins_request, goes_on, requests, previous}
-use Rattle.beep_journal.specs.Broken.{none_tunes}
-use Rattle.beep_journal.specs.Zero.{zero_history}
-use Rattle.beep_journal.specs.Life.{history}
-use Rattle.beep_lawful.specs.declared.breach.Breach.{Breach}
-use Rattle.beep_lawful.specs.declared.limits.TheConstants.{MESSAGE_NUMBERS}
-use Rattle.beep_lawful.specs.declared.terms.Terms.{Terms}
-use Rattle.beep_lawful.specs.Closing.{has_begun}
-use Rattle.beep_lawful.specs.Lawful.{is_apart, breaks_rule, breaks_room, begins_own, breaks_own_number, breaks_asked_closing, breaks_beside_tuning, breaks_after_end, breaks_apart, breaks_content, content_tests, request_said, granted_position, granted_said, first_breach, same_flag, same_head, unlawful_head, unlawful_frame, unlawful_item, is_lawful, IsLawful}
+use Rattle.beep_session.specs.beep_frame.specs.declared.head.Head.{Head}
+use Rattle.beep_session.specs.beep_frame.specs.declared.kind.Kind.{Kind}
+use Rattle.beep_session.specs.beep_frame.specs.declared.seq.Seq.{Seq}
+use Rattle.beep_session.specs.beep_frame.specs.Frame.{is_msg, same_kind}
+use Rattle.beep_session.specs.beep_history.specs.declared.journal.Side.{Side}
+use Rattle.beep_session.specs.beep_history.specs.Journal.{Item, began, passed, told, implied}
+use Rattle.beep_session.specs.beep_history.specs.Marks.{begins_request, goes_on, requests, previous}
+use Rattle.beep_session.specs.beep_journal.specs.Broken.{none_tunes}
+use Rattle.beep_session.specs.beep_journal.specs.Zero.{zero_history}
+use Rattle.beep_session.specs.beep_journal.specs.Life.{history}
+use Rattle.beep_session.specs.beep_lawful.specs.declared.breach.Breach.{Breach}
+use Rattle.beep_session.specs.beep_lawful.specs.declared.limits.TheConstants.{MESSAGE_NUMBERS}
+use Rattle.beep_session.specs.beep_lawful.specs.declared.terms.Terms.{Terms}
+use Rattle.beep_session.specs.beep_lawful.specs.Closing.{has_begun}
+use Rattle.beep_session.specs.beep_lawful.specs.Lawful.{is_apart, breaks_rule, breaks_room, begins_own, breaks_own_number, breaks_asked_closing, breaks_beside_tuning, breaks_after_end, breaks_apart, breaks_content, content_tests, request_said, granted_position, granted_said, first_breach, same_flag, same_head, unlawful_head, unlawful_frame, unlawful_item, is_lawful, IsLawful}
 use Rattle.beep_steps.proofs.RefusalLemmas.{zero-where, begun-same, begun-later, header-requests}
 
 -- ---- what a lawful item is

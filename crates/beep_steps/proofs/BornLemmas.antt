@@ -1,18 +1,18 @@
 -- A life begins by an item that grants its start: no other does, nothing is released, and no close of it waits.
 use Rattle.std.proofs.Common.{◌≡◌, ◌∙◌, refl, sym, ap, subst, ℕ, ◌==◌, ◌<◌, Bool, true, false, ◌||◌, ◌&&◌, not, if◌then◌else◌, List, [], ◌∷◌, ◌++◌, length, Option, arith}
 use Rattle.std.specs.Prelude.{nat_lt}
-use Rattle.beep_frame.specs.Frame.{is_msg}
-use Rattle.beep_history.specs.declared.journal.Side.{Side}
-use Rattle.beep_history.specs.Journal.{Item, began, passed, same_side, told}
-use Rattle.beep_history.specs.Marks.{is_answered}
-use Rattle.beep_mgmt.specs.Form.{Form}
-use Rattle.beep_mgmt.specs.Message.{message_said}
-use Rattle.beep_journal.specs.Lives.{Event, close_came, close_granted, has_ended, has_release, is_live, life_named, lives, start_granted}
-use Rattle.beep_journal.specs.Life.{is_released, life_now}
-use Rattle.beep_journal.specs.Zero.{asked, events, gathered, zero_history}
-use Rattle.beep_journal.proofs.MomentLemmas.{apart-less, equal-number, named-within, other-start, start-lives}
-use Rattle.beep_decide.specs.Asks.{is_close_of}
-use Rattle.beep_script.specs.Desk.{has_peer_close, is_closing}
+use Rattle.beep_session.specs.beep_frame.specs.Frame.{is_msg}
+use Rattle.beep_session.specs.beep_history.specs.declared.journal.Side.{Side}
+use Rattle.beep_session.specs.beep_history.specs.Journal.{Item, began, passed, same_side, told}
+use Rattle.beep_session.specs.beep_history.specs.Marks.{is_answered}
+use Rattle.beep_session.specs.beep_mgmt.specs.Form.{Form}
+use Rattle.beep_session.specs.beep_mgmt.specs.Message.{message_said}
+use Rattle.beep_session.specs.beep_journal.specs.Lives.{Event, close_came, close_granted, has_ended, has_release, is_live, life_named, lives, start_granted}
+use Rattle.beep_session.specs.beep_journal.specs.Life.{is_released, life_now}
+use Rattle.beep_session.specs.beep_journal.specs.Zero.{asked, events, gathered, zero_history}
+use Rattle.beep_session.specs.beep_journal.proofs.MomentLemmas.{apart-less, equal-number, named-within, other-start, start-lives}
+use Rattle.beep_session.specs.beep_decide.specs.Asks.{is_close_of}
+use Rattle.beep_desk.specs.beep_script.specs.Desk.{has_peer_close, is_closing}
 use Rattle.beep_desk.proofs.EventLemmas.{AreLate, Fresh, fresh-of}
 
 -- ---- the peer's requests

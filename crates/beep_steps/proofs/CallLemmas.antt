@@ -1,32 +1,32 @@
 -- What each call of a session leaves of what it stands for.
 use Rattle.std.proofs.Common.{◌≡◌, ℕ, Bool, true, false, not, ◌||◌, ◌&&◌, ◌==◌, if◌then◌else◌, ◌-◌, ◌+◌, List, [], ◌∷◌, ◌++◌, length, None, Some, Option, refl, sym, ap, ◌∙◌, subst, arith, length-append, append_assoc}
 use Rattle.std.specs.Prelude.{is_some, IfSome, IfNone, Result, Ok, Err, OnOk, OnErr}
-use Rattle.beep_frame.specs.declared.head.Head.{Head}
-use Rattle.beep_frame.specs.declared.kind.Kind.{Kind}
-use Rattle.beep_frame.specs.declared.rule.Rule.{Rule}
-use Rattle.beep_frame.specs.Frame.{framed, seq_frame, is_msg}
-use Rattle.beep_frame.specs.Modulo.{modulo_2_64}
-use Rattle.beep_frame.specs.Spelling.{spelling}
-use Rattle.beep_history.specs.declared.journal.Side.{Side}
-use Rattle.beep_history.specs.Journal.{Item, began, passed, told}
-use Rattle.beep_journal.specs.Zero.{zero_history, completes_form}
-use Rattle.beep_journal.specs.Broken.{none_tunes, broken_content}
-use Rattle.beep_journal.specs.Life.{is_released}
-use Rattle.beep_journal.specs.Journal.{spelled}
-use Rattle.beep_journal.specs.Log.{Moment, got_all, put_all}
-use Rattle.beep_inbox.specs.declared.part.Part.{Part}
-use Rattle.beep_standing.specs.Standing.{Marks}
-use Rattle.beep_hearing.specs.Hears.{Breaks, Hears, Join}
-use Rattle.beep_hearing.specs.declared.ear.Ear.{Ear}
-use Rattle.beep_lawful.specs.declared.terms.Terms.{Terms}
-use Rattle.beep_lawful.specs.Lawful.{IsLawful}
-use Rattle.beep_speaking.specs.declared.emit.Emit.{Emit}
-use Rattle.beep_upright.specs.Frames.{AreFrames, IsFramed}
-use Rattle.beep_upright.specs.Upright.{IsUpright}
-use Rattle.beep_peer.specs.Acts.{IsUnchanged}
-use Rattle.beep_peer.specs.Calls.{Settles}
-use Rattle.beep_peer.specs.Peering.{IsPeer, WaitsIn, is_over}
-use Rattle.beep_peer.specs.Lawfully.{IsLawfulPeer, SpeaksLawfully}
+use Rattle.beep_session.specs.beep_frame.specs.declared.head.Head.{Head}
+use Rattle.beep_session.specs.beep_frame.specs.declared.kind.Kind.{Kind}
+use Rattle.beep_session.specs.beep_frame.specs.declared.rule.Rule.{Rule}
+use Rattle.beep_session.specs.beep_frame.specs.Frame.{framed, seq_frame, is_msg}
+use Rattle.beep_session.specs.beep_frame.specs.Modulo.{modulo_2_64}
+use Rattle.beep_session.specs.beep_frame.specs.Spelling.{spelling}
+use Rattle.beep_session.specs.beep_history.specs.declared.journal.Side.{Side}
+use Rattle.beep_session.specs.beep_history.specs.Journal.{Item, began, passed, told}
+use Rattle.beep_session.specs.beep_journal.specs.Zero.{zero_history, completes_form}
+use Rattle.beep_session.specs.beep_journal.specs.Broken.{none_tunes, broken_content}
+use Rattle.beep_session.specs.beep_journal.specs.Life.{is_released}
+use Rattle.beep_session.specs.beep_journal.specs.Journal.{spelled}
+use Rattle.beep_session.specs.beep_journal.specs.Log.{Moment, got_all, put_all}
+use Rattle.beep_session.specs.beep_inbox.specs.declared.part.Part.{Part}
+use Rattle.beep_session.specs.beep_standing.specs.Standing.{Marks}
+use Rattle.beep_session.specs.beep_hearing.specs.Hears.{Breaks, Hears, Join}
+use Rattle.beep_session.specs.beep_hearing.specs.declared.ear.Ear.{Ear}
+use Rattle.beep_session.specs.beep_lawful.specs.declared.terms.Terms.{Terms}
+use Rattle.beep_session.specs.beep_lawful.specs.Lawful.{IsLawful}
+use Rattle.beep_session.specs.beep_speaking.specs.declared.emit.Emit.{Emit}
+use Rattle.beep_session.specs.beep_upright.specs.Frames.{AreFrames, IsFramed}
+use Rattle.beep_session.specs.beep_upright.specs.Upright.{IsUpright}
+use Rattle.beep_session.specs.beep_peer.specs.Acts.{IsUnchanged}
+use Rattle.beep_session.specs.beep_peer.specs.Calls.{Settles}
+use Rattle.beep_session.specs.beep_peer.specs.Peering.{IsPeer, WaitsIn, is_over}
+use Rattle.beep_session.specs.beep_peer.specs.Lawfully.{IsLawfulPeer, SpeaksLawfully}
 use Rattle.beep_session.specs.declared.event.Event.{Event}
 use Rattle.beep_session.specs.Acts.{AsksZero}
 use Rattle.beep_session.specs.Channels.{IsOfPeer, IsStill, Gives, Takes, Closes}
@@ -37,7 +37,7 @@ use Rattle.beep_logged.specs.Logged.{IsLogged, IsLoggedWaiting}
 use Rattle.beep_logged.proofs.ReadLemmas.{read-joins, read-waits, read-breaks, settled, broken-settled}
 use Rattle.beep_logged.proofs.EndLemmas.{put-append}
 use Rattle.beep_logged.proofs.WriteLemmas.{frame-written, seq-written, lawful-frame}
-use Rattle.beep_inbox.specs.Laws.{part_marks}
+use Rattle.beep_session.specs.beep_inbox.specs.Laws.{part_marks}
 use Rattle.beep_steps.specs.Logs.{StandsOn, WaitsOn, StaysOn, ShowsFault}
 use Rattle.beep_steps.proofs.TakenLemmas.{TakesMore, from-more, same-more, to-all, with-more}
 

@@ -3,30 +3,30 @@ use Rattle.std.proofs.Common.{◌≡◌, ℕ, ◌≤◌, ◌==◌, true, false, 
 use Rattle.std.specs.Prelude.{IfSome, IfNone}
 use Rattle.std.proofs.lemmas.Bool.Decides.{nat_tests}
 use Rattle.std.proofs.Common.{arith}
-use Rattle.beep_frame.specs.declared.kind.Kind.{Kind}
-use Rattle.beep_history.specs.Journal.{Item}
-use Rattle.beep_history.specs.Marks.{Mark}
-use Rattle.beep_journal.specs.Life.{is_there}
-use Rattle.beep_journal.specs.Log.{Moment}
-use Rattle.beep_lawful.specs.declared.terms.Terms.{Terms}
-use Rattle.beep_mgmt.specs.Form.{PlainProfile, start}
-use Rattle.beep_mgmt.specs.Message.{message_text}
-use Rattle.beep_answering.specs.Sent.{closing_of}
-use Rattle.beep_talk.specs.AtZero.{profile_of}
-use Rattle.beep_inbox.specs.declared.part.Part.{Part}
-use Rattle.beep_outbox.specs.Queue.{message_marks}
-use Rattle.beep_standing.specs.Standing.{Marks, with_marks}
-use Rattle.beep_standing.proofs.SendLemmas.{with-same, with-other}
-use Rattle.beep_giving.specs.Giving.{next_message}
-use Rattle.beep_peer.specs.Acts.{IsUnchanged}
-use Rattle.beep_peer.specs.Peering.{IsPeer}
+use Rattle.beep_session.specs.beep_frame.specs.declared.kind.Kind.{Kind}
+use Rattle.beep_session.specs.beep_history.specs.Journal.{Item}
+use Rattle.beep_session.specs.beep_history.specs.Marks.{Mark}
+use Rattle.beep_session.specs.beep_journal.specs.Life.{is_there}
+use Rattle.beep_session.specs.beep_journal.specs.Log.{Moment}
+use Rattle.beep_session.specs.beep_lawful.specs.declared.terms.Terms.{Terms}
+use Rattle.beep_session.specs.beep_mgmt.specs.Form.{PlainProfile, start}
+use Rattle.beep_session.specs.beep_mgmt.specs.Message.{message_text}
+use Rattle.beep_session.specs.beep_answering.specs.Sent.{closing_of}
+use Rattle.beep_desk.specs.beep_talk.specs.AtZero.{profile_of}
+use Rattle.beep_session.specs.beep_inbox.specs.declared.part.Part.{Part}
+use Rattle.beep_session.specs.beep_outbox.specs.Queue.{message_marks}
+use Rattle.beep_session.specs.beep_standing.specs.Standing.{Marks, with_marks}
+use Rattle.beep_session.specs.beep_standing.proofs.SendLemmas.{with-same, with-other}
+use Rattle.beep_session.specs.beep_giving.specs.Giving.{next_message}
+use Rattle.beep_session.specs.beep_peer.specs.Acts.{IsUnchanged}
+use Rattle.beep_session.specs.beep_peer.specs.Peering.{IsPeer}
 use Rattle.beep_session.specs.Acts.{AsksZero, start_text}
 use Rattle.beep_session.specs.Channels.{IsOfPeer, IsStill, Gives, Takes, Closes}
 use Rattle.beep_session.specs.Lawfully.{KeepsUpright}
 use Rattle.beep_session.specs.Session.{Held}
-use Rattle.beep_talk.specs.Plan.{PlainPlan}
-use Rattle.beep_script.specs.Requested.{sender_texts}
-use Rattle.beep_script.specs.Sending.{LinesGiven}
+use Rattle.beep_desk.specs.beep_talk.specs.Plan.{PlainPlan}
+use Rattle.beep_desk.specs.beep_script.specs.Requested.{sender_texts}
+use Rattle.beep_desk.specs.beep_script.specs.Sending.{LinesGiven}
 use Rattle.beep_steps.specs.Sending.{Progress}
 use Rattle.beep_steps.specs.Scripting.{RepliesGiven, Scripts, ScriptedOn, ScriptedWaiting, KeepsScripting}
 use Rattle.beep_steps.proofs.CallSends.{unchanged-sends, asks-sends, gives-sends, takes-sends}

@@ -3,44 +3,44 @@ use Rattle.std.proofs.Common.{◌≡◌, ℕ, ◌≤◌, nat_lt, Bool, true, fal
 use Rattle.std.specs.Prelude.{IfSome, IfNone}
 use Rattle.std.specs.List.{list_any}
 use Rattle.std.proofs.lemmas.List.{append-nil}
-use Rattle.beep_frame.specs.declared.kind.Kind.{Kind}
-use Rattle.beep_frame.specs.Frame.{is_msg}
-use Rattle.beep_history.specs.Journal.{Item}
-use Rattle.beep_history.specs.Marks.{Mark}
-use Rattle.beep_journal.specs.Laws.{rest_from}
-use Rattle.beep_journal.specs.Lives.{lives, has_ended}
-use Rattle.beep_journal.specs.Zero.{events}
-use Rattle.beep_journal.specs.Life.{is_there}
-use Rattle.beep_journal.specs.Log.{Moment}
-use Rattle.beep_lawful.specs.declared.terms.Terms.{Terms}
-use Rattle.beep_mgmt.specs.Form.{PlainProfile, start}
-use Rattle.beep_mgmt.specs.Message.{message_text}
-use Rattle.beep_answering.specs.Sent.{closing_of}
-use Rattle.beep_talk.specs.AtZero.{profile_of}
-use Rattle.beep_outbox.specs.Queue.{Message, message_marks, marks_of}
-use Rattle.beep_inbox.specs.declared.part.Part.{Part}
-use Rattle.beep_standing.specs.Standing.{Marks, with_marks}
-use Rattle.beep_standing.proofs.SendLemmas.{with-same, with-other}
-use Rattle.beep_spoken.specs.Spoken.{Spoken}
-use Rattle.beep_management.specs.Managed.{Prepared}
-use Rattle.beep_management.specs.Manages.{ArePrepared}
-use Rattle.beep_hearing.specs.declared.ear.Ear.{Ear}
-use Rattle.beep_hearing.specs.Hears.{Hears}
-use Rattle.beep_giving.specs.Giving.{next_message}
-use Rattle.beep_peer.specs.declared.peer.Peer.{Peer}
-use Rattle.beep_peer.specs.Acts.{IsUnchanged}
-use Rattle.beep_peer.proofs.LetLemmas.{left-words}
-use Rattle.beep_peer.specs.Calls.{GivesFirst, words_of}
-use Rattle.beep_peer.specs.Peering.{IsPeer}
-use Rattle.beep_peer.specs.Waiting.{AreGiven}
+use Rattle.beep_session.specs.beep_frame.specs.declared.kind.Kind.{Kind}
+use Rattle.beep_session.specs.beep_frame.specs.Frame.{is_msg}
+use Rattle.beep_session.specs.beep_history.specs.Journal.{Item}
+use Rattle.beep_session.specs.beep_history.specs.Marks.{Mark}
+use Rattle.beep_session.specs.beep_journal.specs.Laws.{rest_from}
+use Rattle.beep_session.specs.beep_journal.specs.Lives.{lives, has_ended}
+use Rattle.beep_session.specs.beep_journal.specs.Zero.{events}
+use Rattle.beep_session.specs.beep_journal.specs.Life.{is_there}
+use Rattle.beep_session.specs.beep_journal.specs.Log.{Moment}
+use Rattle.beep_session.specs.beep_lawful.specs.declared.terms.Terms.{Terms}
+use Rattle.beep_session.specs.beep_mgmt.specs.Form.{PlainProfile, start}
+use Rattle.beep_session.specs.beep_mgmt.specs.Message.{message_text}
+use Rattle.beep_session.specs.beep_answering.specs.Sent.{closing_of}
+use Rattle.beep_desk.specs.beep_talk.specs.AtZero.{profile_of}
+use Rattle.beep_session.specs.beep_outbox.specs.Queue.{Message, message_marks, marks_of}
+use Rattle.beep_session.specs.beep_inbox.specs.declared.part.Part.{Part}
+use Rattle.beep_session.specs.beep_standing.specs.Standing.{Marks, with_marks}
+use Rattle.beep_session.specs.beep_standing.proofs.SendLemmas.{with-same, with-other}
+use Rattle.beep_session.specs.beep_spoken.specs.Spoken.{Spoken}
+use Rattle.beep_session.specs.beep_management.specs.Managed.{Prepared}
+use Rattle.beep_session.specs.beep_management.specs.Manages.{ArePrepared}
+use Rattle.beep_session.specs.beep_hearing.specs.declared.ear.Ear.{Ear}
+use Rattle.beep_session.specs.beep_hearing.specs.Hears.{Hears}
+use Rattle.beep_session.specs.beep_giving.specs.Giving.{next_message}
+use Rattle.beep_session.specs.beep_peer.specs.declared.peer.Peer.{Peer}
+use Rattle.beep_session.specs.beep_peer.specs.Acts.{IsUnchanged}
+use Rattle.beep_session.specs.beep_peer.proofs.LetLemmas.{left-words}
+use Rattle.beep_session.specs.beep_peer.specs.Calls.{GivesFirst, words_of}
+use Rattle.beep_session.specs.beep_peer.specs.Peering.{IsPeer}
+use Rattle.beep_session.specs.beep_peer.specs.Waiting.{AreGiven}
 use Rattle.beep_session.specs.Acts.{AsksZero, start_text}
 use Rattle.beep_session.specs.Channels.{IsOfPeer, IsStill, Gives, Takes, Closes}
 use Rattle.beep_session.specs.Lawfully.{KeepsUpright}
 use Rattle.beep_session.specs.Session.{Held}
-use Rattle.beep_talk.specs.Plan.{PlainPlan}
-use Rattle.beep_script.specs.Requested.{requests_from, sender_texts}
-use Rattle.beep_script.specs.Sending.{LinesGiven}
-use Rattle.beep_script.proofs.RequestedLemmas.{requests-append, one-request, one-rest}
+use Rattle.beep_desk.specs.beep_talk.specs.Plan.{PlainPlan}
+use Rattle.beep_desk.specs.beep_script.specs.Requested.{requests_from, sender_texts}
+use Rattle.beep_desk.specs.beep_script.specs.Sending.{LinesGiven}
+use Rattle.beep_desk.specs.beep_script.proofs.RequestedLemmas.{requests-append, one-request, one-rest}
 use Rattle.beep_steps.specs.Sending.{Progress, Sends, IsSender, SendsOn, KeepsSending}
 use Rattle.beep_steps.proofs.CallLemmas.{on-so}
 use Rattle.beep_steps.proofs.SendsLemmas.{given-sends}

@@ -2,18 +2,18 @@
 use Rattle.std.proofs.Common.{◌≡◌, ℕ, ◌==◌, nat_le, Bool, true, false, not, ◌&&◌, ◌||◌, if◌then◌else◌, List, Option, None, Some, refl, sym, ap, ◌∙◌, arith}
 use Rattle.std.proofs.lemmas.Bool.{eqb-true}
 use Rattle.std.proofs.lemmas.Bool.Decides.{nat_tests}
-use Rattle.beep_frame.specs.declared.kind.Kind.{Kind}
-use Rattle.beep_frame.specs.Frame.{is_msg, same_kind}
-use Rattle.beep_mgmt.specs.Form.{Form, PlainProfile, greeting, start, chosen, close, okay, fault}
-use Rattle.beep_journal.specs.Lives.{Event, is_live}
-use Rattle.beep_journal.specs.Zero.{has_form, is_grant}
-use Rattle.beep_decide.specs.Decide.{PlainStanding, Decision, refuse, choose, tune, grant_close, is_among, decide}
-use Rattle.beep_asked.specs.Kept.{Kept}
-use Rattle.beep_management.specs.declared.wait.Wait.{Wait}
-use Rattle.beep_answering.specs.declared.settled.Settled.{Settled}
-use Rattle.beep_answering.specs.Decided.{SettledBy, IsSettledAs, IsBegunBy, IsClosedBy, refused_as}
-use Rattle.beep_talk.specs.declared.plan.Command.{Command}
-use Rattle.beep_script.specs.Refused.{fault_code, close_code}
+use Rattle.beep_session.specs.beep_frame.specs.declared.kind.Kind.{Kind}
+use Rattle.beep_session.specs.beep_frame.specs.Frame.{is_msg, same_kind}
+use Rattle.beep_session.specs.beep_mgmt.specs.Form.{Form, PlainProfile, greeting, start, chosen, close, okay, fault}
+use Rattle.beep_session.specs.beep_journal.specs.Lives.{Event, is_live}
+use Rattle.beep_session.specs.beep_journal.specs.Zero.{has_form, is_grant}
+use Rattle.beep_session.specs.beep_decide.specs.Decide.{PlainStanding, Decision, refuse, choose, tune, grant_close, is_among, decide}
+use Rattle.beep_session.specs.beep_asked.specs.Kept.{Kept}
+use Rattle.beep_session.specs.beep_management.specs.declared.wait.Wait.{Wait}
+use Rattle.beep_session.specs.beep_answering.specs.declared.settled.Settled.{Settled}
+use Rattle.beep_session.specs.beep_answering.specs.Decided.{SettledBy, IsSettledAs, IsBegunBy, IsClosedBy, refused_as}
+use Rattle.beep_desk.specs.beep_talk.specs.declared.plan.Command.{Command}
+use Rattle.beep_desk.specs.beep_script.specs.Refused.{fault_code, close_code}
 use Rattle.beep_steps.specs.Refusing.{denial_of, closed_so, one_of, refused_so}
 
 -- ---- a reply

@@ -1,31 +1,31 @@
 -- What each answer of a session leaves of a listener that keeps its script on channel zero.
 use Rattle.std.proofs.Common.{◌≡◌, ◌∙◌, refl, sym, ap, subst, ℕ, Bool, true, false, List, ◌∷◌, ◌++◌, Option, None, Some}
 use Rattle.std.specs.Prelude.{IfNone, IfSome}
-use Rattle.beep_frame.specs.declared.head.Head.{Head}
-use Rattle.beep_frame.specs.declared.seq.Seq.{Seq}
-use Rattle.beep_frame.specs.Frame.{is_msg}
-use Rattle.beep_history.specs.declared.journal.Side.{Side}
-use Rattle.beep_history.specs.Journal.{Item, passed}
-use Rattle.beep_mgmt.specs.Message.{message_said}
-use Rattle.beep_journal.specs.Log.{Moment, got_all, put_all}
-use Rattle.beep_journal.specs.Zero.{completes_form, gathered, zero_history}
-use Rattle.beep_inbox.specs.declared.part.Part.{Part}
-use Rattle.beep_standing.specs.Standing.{Marks}
-use Rattle.beep_answering.specs.declared.settled.Settled.{Settled}
-use Rattle.beep_speaking.specs.declared.emit.Emit.{Emit}
-use Rattle.beep_upright.specs.Frames.{AreFrames, IsFramed}
-use Rattle.beep_upright.specs.Upright.{IsUpright}
-use Rattle.beep_peer.specs.declared.peer.Peer.{Peer}
-use Rattle.beep_peer.specs.Calls.{SettlesReply, SettlesRequest, Speaks}
-use Rattle.beep_peer.specs.Lawfully.{SpeaksLawfully}
-use Rattle.beep_peer.specs.Peering.{IsPeer, is_over}
-use Rattle.beep_peer.specs.Standing.{standing_of}
-use Rattle.beep_peer.specs.Waiting.{IsStuck}
+use Rattle.beep_session.specs.beep_frame.specs.declared.head.Head.{Head}
+use Rattle.beep_session.specs.beep_frame.specs.declared.seq.Seq.{Seq}
+use Rattle.beep_session.specs.beep_frame.specs.Frame.{is_msg}
+use Rattle.beep_session.specs.beep_history.specs.declared.journal.Side.{Side}
+use Rattle.beep_session.specs.beep_history.specs.Journal.{Item, passed}
+use Rattle.beep_session.specs.beep_mgmt.specs.Message.{message_said}
+use Rattle.beep_session.specs.beep_journal.specs.Log.{Moment, got_all, put_all}
+use Rattle.beep_session.specs.beep_journal.specs.Zero.{completes_form, gathered, zero_history}
+use Rattle.beep_session.specs.beep_inbox.specs.declared.part.Part.{Part}
+use Rattle.beep_session.specs.beep_standing.specs.Standing.{Marks}
+use Rattle.beep_session.specs.beep_answering.specs.declared.settled.Settled.{Settled}
+use Rattle.beep_session.specs.beep_speaking.specs.declared.emit.Emit.{Emit}
+use Rattle.beep_session.specs.beep_upright.specs.Frames.{AreFrames, IsFramed}
+use Rattle.beep_session.specs.beep_upright.specs.Upright.{IsUpright}
+use Rattle.beep_session.specs.beep_peer.specs.declared.peer.Peer.{Peer}
+use Rattle.beep_session.specs.beep_peer.specs.Calls.{SettlesReply, SettlesRequest, Speaks}
+use Rattle.beep_session.specs.beep_peer.specs.Lawfully.{SpeaksLawfully}
+use Rattle.beep_session.specs.beep_peer.specs.Peering.{IsPeer, is_over}
+use Rattle.beep_session.specs.beep_peer.specs.Standing.{standing_of}
+use Rattle.beep_session.specs.beep_peer.specs.Waiting.{IsStuck}
 use Rattle.beep_session.specs.declared.event.Event.{Event}
 use Rattle.beep_session.specs.Channels.{IsOfPeer, Takes}
 use Rattle.beep_session.specs.Lawfully.{terms_of, FeedsLawfully, IsLawfulSession, KeepsUpright}
 use Rattle.beep_session.specs.Session.{Held}
-use Rattle.beep_talk.specs.Plan.{PlainPlan}
+use Rattle.beep_desk.specs.beep_talk.specs.Plan.{PlainPlan}
 use Rattle.beep_served.specs.Served.{HaveProfile}
 use Rattle.beep_served.proofs.ProfileLemmas.{have-profile}
 use Rattle.beep_steps.specs.Desking.{DesksOn, DesksWaiting, DesksWithin, SaidDesk}

@@ -1,29 +1,29 @@
 -- Once all that came is taken, a sender's desk is what its script says: where nothing is asked, and where what is asked is given.
 use Rattle.std.proofs.Common.{◌≡◌, ◌∙◌, refl, sym, ap, subst, ℕ, zero, suc, ◌+◌, ◌≤◌, true, List, [], ◌∷◌, ◌++◌, length, map, take, Option, None, Some, append-nil, arith}
 use Rattle.std.specs.Prelude.{is_some}
-use Rattle.beep_frame.specs.declared.kind.Kind.{Kind}
-use Rattle.beep_history.specs.declared.journal.Side.{Side}
-use Rattle.beep_history.specs.Journal.{Item}
-use Rattle.beep_history.specs.Marks.{Mark, marks, mark_modulo_2_64}
-use Rattle.beep_mgmt.specs.Form.{Form}
-use Rattle.beep_mgmt.specs.Message.{message_said, message_text}
-use Rattle.beep_journal.specs.Log.{Moment}
-use Rattle.beep_journal.specs.Zero.{zero_history}
-use Rattle.beep_channel.specs.Held.{Live}
-use Rattle.beep_lives.specs.Lives.{live_at}
-use Rattle.beep_outbox.specs.Queue.{message_marks, marks_of as unsent_marks}
-use Rattle.beep_standing.specs.Standing.{Marks, with_marks}
-use Rattle.beep_standing.proofs.SendLemmas.{with-same}
-use Rattle.beep_upright.specs.Upright.{IsUpright}
-use Rattle.beep_peer.specs.Peering.{IsPeer}
+use Rattle.beep_session.specs.beep_frame.specs.declared.kind.Kind.{Kind}
+use Rattle.beep_session.specs.beep_history.specs.declared.journal.Side.{Side}
+use Rattle.beep_session.specs.beep_history.specs.Journal.{Item}
+use Rattle.beep_session.specs.beep_history.specs.Marks.{Mark, marks, mark_modulo_2_64}
+use Rattle.beep_session.specs.beep_mgmt.specs.Form.{Form}
+use Rattle.beep_session.specs.beep_mgmt.specs.Message.{message_said, message_text}
+use Rattle.beep_session.specs.beep_journal.specs.Log.{Moment}
+use Rattle.beep_session.specs.beep_journal.specs.Zero.{zero_history}
+use Rattle.beep_session.specs.beep_channel.specs.Held.{Live}
+use Rattle.beep_session.specs.beep_lives.specs.Lives.{live_at}
+use Rattle.beep_session.specs.beep_outbox.specs.Queue.{message_marks, marks_of as unsent_marks}
+use Rattle.beep_session.specs.beep_standing.specs.Standing.{Marks, with_marks}
+use Rattle.beep_session.specs.beep_standing.proofs.SendLemmas.{with-same}
+use Rattle.beep_session.specs.beep_upright.specs.Upright.{IsUpright}
+use Rattle.beep_session.specs.beep_peer.specs.Peering.{IsPeer}
 use Rattle.beep_session.specs.Acts.{AsksZero}
 use Rattle.beep_session.specs.Channels.{IsOfPeer}
 use Rattle.beep_session.specs.Lawfully.{terms_of, KeepsUpright}
 use Rattle.beep_session.specs.Session.{Held}
-use Rattle.beep_talk.specs.AtZero.{ZeroMessage, answer_message, zero_message}
-use Rattle.beep_talk.specs.Plan.{PlainPlan}
-use Rattle.beep_script.specs.Desk.{asks, desk}
-use Rattle.beep_script.specs.Requested.{requests_from, sender_texts}
+use Rattle.beep_desk.specs.beep_talk.specs.AtZero.{ZeroMessage, answer_message, zero_message}
+use Rattle.beep_desk.specs.beep_talk.specs.Plan.{PlainPlan}
+use Rattle.beep_desk.specs.beep_script.specs.Desk.{asks, desk}
+use Rattle.beep_desk.specs.beep_script.specs.Requested.{requests_from, sender_texts}
 use Rattle.beep_desk.specs.Desks.{AreGivenFor, IsDeskOf, StandsIn}
 use Rattle.beep_desk.specs.Listed.{ArePlacedFrom, AskInTurn, asked_positions}
 use Rattle.beep_desk.specs.Waiting.{SaysAll}

@@ -2,33 +2,33 @@
 use Rattle.std.proofs.Common.{◌≡◌, ◌∙◌, refl, sym, ap, ℕ, ◌+◌, ◌≤◌, ◌==◌, Bool, true, false, ◌&&◌, ◌||◌, if◌then◌else◌, List, [], length, map, Option, None, Some, arith}
 use Rattle.std.specs.Prelude.{nat_le, nat_lt, option_map}
 use Rattle.std.proofs.lemmas.Bool.Decides.{nat_tests}
-use Rattle.beep_frame.specs.Frame.{is_msg}
-use Rattle.beep_history.specs.declared.journal.Side.{Side}
-use Rattle.beep_history.specs.declared.limits.TheConstants.{MAX_MESSAGE, MAX_REQUESTS}
-use Rattle.beep_history.specs.Journal.{Item}
-use Rattle.beep_history.specs.Marks.{mark_modulo_2_64, marks}
-use Rattle.beep_journal.specs.Lives.{Event, is_live, life_named, live_life, lives}
-use Rattle.beep_journal.specs.Life.{history, is_there}
-use Rattle.beep_journal.specs.Log.{Moment}
-use Rattle.beep_journal.specs.Zero.{asked, events, zero_history}
-use Rattle.beep_outbox.specs.declared.give_error.GiveError.{GiveError}
-use Rattle.beep_outbox.specs.Queue.{Message, marks_of as unsent_marks}
-use Rattle.beep_outbox.specs.Unsent.{give_refusal}
-use Rattle.beep_channel.specs.declared.ask_error.AskError.{AskError}
-use Rattle.beep_channel.specs.Held.{Live, ask_error, limit_of, reply_refusal}
-use Rattle.beep_channel.specs.Stands.{ends_of}
-use Rattle.beep_channel.proofs.CountedLemmas.{ends-append}
-use Rattle.beep_lives.specs.Lives.{live_at}
-use Rattle.beep_lives.proofs.ListLemmas.{live-number}
-use Rattle.beep_standing.specs.Standing.{Marks, AreLiveBy}
-use Rattle.beep_asked.specs.Kept.{Kept, closes, is_leaving}
-use Rattle.beep_asked.specs.Asked.{AreWaiting}
-use Rattle.beep_peer.specs.Peering.{Holds}
-use Rattle.beep_giving.specs.Giving.{ask_refusal_at, channel_refusal}
-use Rattle.beep_giving.proofs.CountLemmas.{counted-above}
+use Rattle.beep_session.specs.beep_frame.specs.Frame.{is_msg}
+use Rattle.beep_session.specs.beep_history.specs.declared.journal.Side.{Side}
+use Rattle.beep_session.specs.beep_history.specs.declared.limits.TheConstants.{MAX_MESSAGE, MAX_REQUESTS}
+use Rattle.beep_session.specs.beep_history.specs.Journal.{Item}
+use Rattle.beep_session.specs.beep_history.specs.Marks.{mark_modulo_2_64, marks}
+use Rattle.beep_session.specs.beep_journal.specs.Lives.{Event, is_live, life_named, live_life, lives}
+use Rattle.beep_session.specs.beep_journal.specs.Life.{history, is_there}
+use Rattle.beep_session.specs.beep_journal.specs.Log.{Moment}
+use Rattle.beep_session.specs.beep_journal.specs.Zero.{asked, events, zero_history}
+use Rattle.beep_session.specs.beep_outbox.specs.declared.give_error.GiveError.{GiveError}
+use Rattle.beep_session.specs.beep_outbox.specs.Queue.{Message, marks_of as unsent_marks}
+use Rattle.beep_session.specs.beep_outbox.specs.Unsent.{give_refusal}
+use Rattle.beep_session.specs.beep_channel.specs.declared.ask_error.AskError.{AskError}
+use Rattle.beep_session.specs.beep_channel.specs.Held.{Live, ask_error, limit_of, reply_refusal}
+use Rattle.beep_session.specs.beep_channel.specs.Stands.{ends_of}
+use Rattle.beep_session.specs.beep_channel.proofs.CountedLemmas.{ends-append}
+use Rattle.beep_session.specs.beep_lives.specs.Lives.{live_at}
+use Rattle.beep_session.specs.beep_lives.proofs.ListLemmas.{live-number}
+use Rattle.beep_session.specs.beep_standing.specs.Standing.{Marks, AreLiveBy}
+use Rattle.beep_session.specs.beep_asked.specs.Kept.{Kept, closes, is_leaving}
+use Rattle.beep_session.specs.beep_asked.specs.Asked.{AreWaiting}
+use Rattle.beep_session.specs.beep_peer.specs.Peering.{Holds}
+use Rattle.beep_session.specs.beep_giving.specs.Giving.{ask_refusal_at, channel_refusal}
+use Rattle.beep_session.specs.beep_giving.proofs.CountLemmas.{counted-above}
 use Rattle.beep_session.specs.Session.{Held}
-use Rattle.beep_talk.specs.Talk.{has_peer_release}
-use Rattle.beep_script.specs.Desk.{is_closing}
+use Rattle.beep_desk.specs.beep_talk.specs.Talk.{has_peer_release}
+use Rattle.beep_desk.specs.beep_script.specs.Desk.{is_closing}
 use Rattle.beep_desk.proofs.TheirLemmas.{peer-closes}
 use Rattle.beep_steps.specs.Logs.{StandsOn}
 use Rattle.beep_steps.proofs.SpeakDone.{any, unsent-none}

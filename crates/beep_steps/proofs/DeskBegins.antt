@@ -1,31 +1,31 @@
 -- A session that begins has its greeting alone on channel zero, as its script says.
 use Rattle.std.proofs.Common.{◌≡◌, ◌∙◌, refl, sym, ap, subst, ℕ, ◌+◌, if◌then◌else◌, List, [], ◌∷◌, length, map, Some, append-nil, arith, inl}
 use Rattle.std.specs.Prelude.{IfSome}
-use Rattle.beep_frame.specs.declared.kind.Kind.{Kind}
-use Rattle.beep_frame.specs.Frame.{is_msg}
-use Rattle.beep_history.specs.declared.journal.Side.{Side}
-use Rattle.beep_history.specs.Journal.{Item}
-use Rattle.beep_history.specs.Marks.{Mark, end, marks}
-use Rattle.beep_mgmt.specs.Message.{message_said, message_text}
-use Rattle.beep_journal.specs.Zero.{zero_history}
-use Rattle.beep_exchange.specs.Given.{ends_reply}
-use Rattle.beep_outbox.specs.Queue.{message_marks}
-use Rattle.beep_channel.specs.Stands.{ends_of}
-use Rattle.beep_spoken.specs.Spoken.{AreSpoken}
-use Rattle.beep_spoken.proofs.SpokenLemmas.{spoken-more}
-use Rattle.beep_management.specs.Managed.{Prepared, first_of}
-use Rattle.beep_answering.specs.Sent.{greeting_of}
-use Rattle.beep_peer.specs.Calls.{Begins}
-use Rattle.beep_peer.specs.Waiting.{HasCome}
+use Rattle.beep_session.specs.beep_frame.specs.declared.kind.Kind.{Kind}
+use Rattle.beep_session.specs.beep_frame.specs.Frame.{is_msg}
+use Rattle.beep_session.specs.beep_history.specs.declared.journal.Side.{Side}
+use Rattle.beep_session.specs.beep_history.specs.Journal.{Item}
+use Rattle.beep_session.specs.beep_history.specs.Marks.{Mark, end, marks}
+use Rattle.beep_session.specs.beep_mgmt.specs.Message.{message_said, message_text}
+use Rattle.beep_session.specs.beep_journal.specs.Zero.{zero_history}
+use Rattle.beep_session.specs.beep_exchange.specs.Given.{ends_reply}
+use Rattle.beep_session.specs.beep_outbox.specs.Queue.{message_marks}
+use Rattle.beep_session.specs.beep_channel.specs.Stands.{ends_of}
+use Rattle.beep_session.specs.beep_spoken.specs.Spoken.{AreSpoken}
+use Rattle.beep_session.specs.beep_spoken.proofs.SpokenLemmas.{spoken-more}
+use Rattle.beep_session.specs.beep_management.specs.Managed.{Prepared, first_of}
+use Rattle.beep_session.specs.beep_answering.specs.Sent.{greeting_of}
+use Rattle.beep_session.specs.beep_peer.specs.Calls.{Begins}
+use Rattle.beep_session.specs.beep_peer.specs.Waiting.{HasCome}
 use Rattle.beep_session.specs.Session.{Held}
-use Rattle.beep_talk.specs.Plan.{PlainPlan}
-use Rattle.beep_script.specs.Desk.{desk}
+use Rattle.beep_desk.specs.beep_talk.specs.Plan.{PlainPlan}
+use Rattle.beep_desk.specs.beep_script.specs.Desk.{desk}
 use Rattle.beep_desk.specs.Desks.{IsDeskOf}
 use Rattle.beep_desk.specs.Listed.{AskInTurn, spoken_of}
-use Rattle.beep_steps.specs.Desking.{AllTold, DesksOn, IsPlanOf, Meets}
+use Rattle.beep_steps.specs.Desking.{AllSaidZero, DesksOn, IsPlanOf, Meets}
 use Rattle.beep_steps.specs.Logs.{StandsOn}
 use Rattle.beep_steps.proofs.DeskMet.{meets-none}
-use Rattle.beep_steps.proofs.DeskTold.{told-none}
+use Rattle.beep_steps.proofs.DeskSaid.{said-empty}
 use Rattle.beep_steps.proofs.SpeakLives.{ends-octets}
 
 nil-of : {X : Type 0} (xs : List X) → length xs ≡ 0 → xs ≡ []
@@ -72,7 +72,7 @@ module _ (plan : PlainPlan) (session : Held) (size : ℕ) (greeting : List ℕ) 
     plan_is = p;
     on = on;
     meets = subst Meets (sym empty) meets-none;
-    listed = subst (AllTold plan) (sym empty) (told-none plan);
+    listed = subst (AllSaidZero plan) (sym empty) (said-empty plan);
     placed = subst (AskInTurn plan) (sym empty) tt;
     desk = subst (λ (j : List Item). IsDeskOf plan j (on.given 0) session.peer.management.answers) (sym empty) begun;
     stuck = subst (λ (answers : List Prepared). IfSome (first_of answers) (λ first. HasCome first.waits session.peer.lives session.peer.management → ⊥)) (sym none) tt;

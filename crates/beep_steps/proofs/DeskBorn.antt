@@ -1,26 +1,26 @@
 -- As a life begins nothing is said there yet, and no answer waits for it: one that waits for all is of a close of 0, after which nothing is asked first.
 use Rattle.std.proofs.Common.{◌≡◌, ◌∙◌, refl, sym, ap, subst, ℕ, ◌==◌, ◌<◌, Bool, true, false, ◌||◌, ◌&&◌, if◌then◌else◌, List, [], ◌∷◌, length, Option, None, Some}
 use Rattle.std.specs.List.{list_any}
-use Rattle.beep_frame.specs.declared.head.Head.{Head}
-use Rattle.beep_history.specs.declared.journal.Side.{Side}
-use Rattle.beep_history.specs.Journal.{Item, began, passed}
-use Rattle.beep_history.specs.Messages.{Message}
-use Rattle.beep_mgmt.specs.Form.{Form, greeting, start, chosen, close, okay, fault}
-use Rattle.beep_journal.specs.Lives.{is_live, life_named, lives}
-use Rattle.beep_journal.specs.Life.{is_there, life_now}
-use Rattle.beep_journal.specs.Zero.{asked, events, said_at, zero_history}
-use Rattle.beep_journal.proofs.JournalLemmas.{began-events}
-use Rattle.beep_decide.specs.Asks.{is_close_of}
-use Rattle.beep_decide.specs.Decide.{Decision, choose, grant_close, is_among, refuse, tune}
-use Rattle.beep_standing.specs.Standing.{Marks, AreLiveBy}
-use Rattle.beep_channel.specs.Held.{Live}
-use Rattle.beep_management.specs.declared.wait.Wait.{Wait}
-use Rattle.beep_management.specs.Managed.{Prepared}
-use Rattle.beep_talk.specs.declared.plan.Command.{Command}
-use Rattle.beep_talk.specs.AtZero.{Answer}
-use Rattle.beep_talk.specs.Plan.{PlainPlan}
-use Rattle.beep_talk.specs.Talk.{has_peer_release}
-use Rattle.beep_script.specs.Desk.{closes_by}
+use Rattle.beep_session.specs.beep_frame.specs.declared.head.Head.{Head}
+use Rattle.beep_session.specs.beep_history.specs.declared.journal.Side.{Side}
+use Rattle.beep_session.specs.beep_history.specs.Journal.{Item, began, passed}
+use Rattle.beep_session.specs.beep_history.specs.Messages.{Message}
+use Rattle.beep_session.specs.beep_mgmt.specs.Form.{Form, greeting, start, chosen, close, okay, fault}
+use Rattle.beep_session.specs.beep_journal.specs.Lives.{is_live, life_named, lives}
+use Rattle.beep_session.specs.beep_journal.specs.Life.{is_there, life_now}
+use Rattle.beep_session.specs.beep_journal.specs.Zero.{asked, events, said_at, zero_history}
+use Rattle.beep_session.specs.beep_journal.proofs.JournalLemmas.{began-events}
+use Rattle.beep_session.specs.beep_decide.specs.Asks.{is_close_of}
+use Rattle.beep_session.specs.beep_decide.specs.Decide.{Decision, choose, grant_close, is_among, refuse, tune}
+use Rattle.beep_session.specs.beep_standing.specs.Standing.{Marks, AreLiveBy}
+use Rattle.beep_session.specs.beep_channel.specs.Held.{Live}
+use Rattle.beep_session.specs.beep_management.specs.declared.wait.Wait.{Wait}
+use Rattle.beep_session.specs.beep_management.specs.Managed.{Prepared}
+use Rattle.beep_desk.specs.beep_talk.specs.declared.plan.Command.{Command}
+use Rattle.beep_desk.specs.beep_talk.specs.AtZero.{Answer}
+use Rattle.beep_desk.specs.beep_talk.specs.Plan.{PlainPlan}
+use Rattle.beep_desk.specs.beep_talk.specs.Talk.{has_peer_release}
+use Rattle.beep_desk.specs.beep_script.specs.Desk.{closes_by}
 use Rattle.beep_served.specs.Served.{HaveProfile}
 use Rattle.beep_replies.specs.Replies.{first_said}
 use Rattle.beep_desk.specs.Desks.{AreDoneFor, IsDoneFor}

@@ -2,46 +2,46 @@
 use Rattle.std.proofs.Common.{◌≡◌, ◌∙◌, refl, sym, ap, subst, ℕ, ◌==◌, Bool, true, false, not, ◌&&◌, ◌||◌, List, [], ◌∷◌, ◌++◌, Option, None, Some}
 use Rattle.std.specs.Prelude.{is_some}
 use Rattle.std.specs.List.{list_any}
-use Rattle.beep_frame.specs.declared.head.Head.{Head}
-use Rattle.beep_frame.specs.declared.seq.Seq.{Seq}
-use Rattle.beep_frame.specs.Frame.{framed, is_msg, seq_frame}
-use Rattle.beep_frame.specs.Spelling.{spelling}
-use Rattle.beep_history.specs.declared.journal.Side.{Side}
-use Rattle.beep_history.specs.Journal.{Item, began, passed, told}
-use Rattle.beep_history.specs.Marks.{Mark}
-use Rattle.beep_history.specs.Broken.{KeepsExchangeRules}
-use Rattle.beep_mgmt.specs.Message.{message_said}
-use Rattle.beep_journal.specs.Broken.{none_tunes}
-use Rattle.beep_journal.specs.Journal.{Past}
-use Rattle.beep_journal.specs.Log.{Moment, got_all, put_all}
-use Rattle.beep_journal.specs.Zero.{completes_form, gathered, zero_history}
-use Rattle.beep_journal.proofs.ShownLemmas.{one-shown}
-use Rattle.beep_channel.specs.Held.{Live}
-use Rattle.beep_lives.specs.Lives.{live_at}
-use Rattle.beep_standing.specs.Standing.{Marks, AreLiveBy, with_marks}
-use Rattle.beep_hearing.specs.Hears.{ends_zero, is_above}
-use Rattle.beep_inbox.specs.declared.part.Part.{Part}
-use Rattle.beep_inbox.specs.Laws.{part_marks}
-use Rattle.beep_management.specs.Managed.{Managed, Prepared}
-use Rattle.beep_management.specs.Manages.{Manages}
-use Rattle.beep_answering.specs.declared.settled.Settled.{Settled}
-use Rattle.beep_decide.specs.Decide.{PlainStanding}
-use Rattle.beep_speaking.specs.declared.emit.Emit.{Emit}
-use Rattle.beep_upright.specs.Frames.{IsFramed}
-use Rattle.beep_upright.specs.Upright.{IsUpright}
-use Rattle.beep_peer.specs.declared.peer.Peer.{Peer}
-use Rattle.beep_peer.specs.Calls.{Settles, SettlesReply, SettlesRequest}
-use Rattle.beep_peer.specs.Lawfully.{IsLawfulPeer, SendsLawfully}
-use Rattle.beep_peer.specs.Peering.{Holds}
-use Rattle.beep_peer.specs.Standing.{standing_of}
-use Rattle.beep_peer.specs.Waiting.{IsStuck}
+use Rattle.beep_session.specs.beep_frame.specs.declared.head.Head.{Head}
+use Rattle.beep_session.specs.beep_frame.specs.declared.seq.Seq.{Seq}
+use Rattle.beep_session.specs.beep_frame.specs.Frame.{framed, is_msg, seq_frame}
+use Rattle.beep_session.specs.beep_frame.specs.Spelling.{spelling}
+use Rattle.beep_session.specs.beep_history.specs.declared.journal.Side.{Side}
+use Rattle.beep_session.specs.beep_history.specs.Journal.{Item, began, passed, told}
+use Rattle.beep_session.specs.beep_history.specs.Marks.{Mark}
+use Rattle.beep_session.specs.beep_history.specs.Broken.{KeepsExchangeRules}
+use Rattle.beep_session.specs.beep_mgmt.specs.Message.{message_said}
+use Rattle.beep_session.specs.beep_journal.specs.Broken.{none_tunes}
+use Rattle.beep_session.specs.beep_journal.specs.Journal.{Past}
+use Rattle.beep_session.specs.beep_journal.specs.Log.{Moment, got_all, put_all}
+use Rattle.beep_session.specs.beep_journal.specs.Zero.{completes_form, gathered, zero_history}
+use Rattle.beep_session.specs.beep_journal.proofs.ShownLemmas.{one-shown}
+use Rattle.beep_session.specs.beep_channel.specs.Held.{Live}
+use Rattle.beep_session.specs.beep_lives.specs.Lives.{live_at}
+use Rattle.beep_session.specs.beep_standing.specs.Standing.{Marks, AreLiveBy, with_marks}
+use Rattle.beep_session.specs.beep_hearing.specs.Hears.{ends_zero, is_above}
+use Rattle.beep_session.specs.beep_inbox.specs.declared.part.Part.{Part}
+use Rattle.beep_session.specs.beep_inbox.specs.Laws.{part_marks}
+use Rattle.beep_session.specs.beep_management.specs.Managed.{Managed, Prepared}
+use Rattle.beep_session.specs.beep_management.specs.Manages.{Manages}
+use Rattle.beep_session.specs.beep_answering.specs.declared.settled.Settled.{Settled}
+use Rattle.beep_session.specs.beep_decide.specs.Decide.{PlainStanding}
+use Rattle.beep_session.specs.beep_speaking.specs.declared.emit.Emit.{Emit}
+use Rattle.beep_session.specs.beep_upright.specs.Frames.{IsFramed}
+use Rattle.beep_session.specs.beep_upright.specs.Upright.{IsUpright}
+use Rattle.beep_session.specs.beep_peer.specs.declared.peer.Peer.{Peer}
+use Rattle.beep_session.specs.beep_peer.specs.Calls.{Settles, SettlesReply, SettlesRequest}
+use Rattle.beep_session.specs.beep_peer.specs.Lawfully.{IsLawfulPeer, SendsLawfully}
+use Rattle.beep_session.specs.beep_peer.specs.Peering.{Holds}
+use Rattle.beep_session.specs.beep_peer.specs.Standing.{standing_of}
+use Rattle.beep_session.specs.beep_peer.specs.Waiting.{IsStuck}
 use Rattle.beep_session.specs.Channels.{IsOfPeer, Takes}
 use Rattle.beep_session.specs.Lawfully.{terms_of, GainsLawfully, KeepsUpright, WaitsLawfully}
 use Rattle.beep_session.specs.Session.{Held}
 use Rattle.beep_logged.proofs.EndLemmas.{put-append}
 use Rattle.beep_logged.proofs.WriteLemmas.{frame-written, lawful-frame, seq-written}
-use Rattle.beep_talk.specs.Plan.{PlainPlan}
-use Rattle.beep_script.specs.Desk.{asks, grants_own}
+use Rattle.beep_desk.specs.beep_talk.specs.Plan.{PlainPlan}
+use Rattle.beep_desk.specs.beep_script.specs.Desk.{asks, grants_own}
 use Rattle.beep_desk.specs.Desks.{AreDoneFor, IsCalledFor, IsDeskOf, IsDeskWithin, StandsIn, is_part}
 use Rattle.beep_desk.specs.Waiting.{SaysAll}
 use Rattle.beep_desk.specs.Listed.{AskInTurn}
@@ -54,7 +54,7 @@ use Rattle.beep_steps.specs.Logs.{AreTaken, StandsOn, WaitsOn}
 use Rattle.beep_steps.specs.Steps.{CameFrame, CameMore}
 use Rattle.beep_steps.proofs.CallLemmas.{gained-on, on-so, settles-on, waits-on}
 use Rattle.beep_steps.proofs.DeskMet.{greets-first, meets-begun, meets-join, meets-sent, meets-settled, meets-told, request-met}
-use Rattle.beep_steps.proofs.DeskTold.{told-began, told-came, told-join, told-seq}
+use Rattle.beep_steps.proofs.DeskSaid.{said-began, said-came, said-join, said-seq}
 
 -- ---- items that end no message
 
@@ -153,7 +153,7 @@ module _ (plan : PlainPlan) (octets : List ℕ) (old new : Held) (log : List Mom
         plan_is = plan-on plan old new same d.plan_is;
         on = gained-on octets old new log same d.on going g;
         meets = gained-meets g;
-        listed = told-join plan g.gained d.on.journal g.gains.join d.listed;
+        listed = said-join plan g.gained d.on.journal g.gains.join d.listed;
         placed = subst (AskInTurn plan) is (asks-on plan c.gained d.on.journal c.came.quiet c.came.none_above d.placed);
         desk = subst (λ (j : List Item). IsDeskOf plan j (d.on.given 0) new.peer.management.answers) is
             (parts-on plan c.gained d.on.journal (d.on.given 0) new.peer.management.answers c.came.quiet c.came.none_above desk-kept);
@@ -168,7 +168,7 @@ module _ (plan : PlainPlan) (octets : List ℕ) (old new : Held) (log : List Mom
         plan_is = plan-on plan old new same d.plan_is;
         on = gained-on octets old new log same d.on going g;
         meets = gained-meets g;
-        listed = told-join plan g.gained d.on.journal g.gains.join d.listed;
+        listed = said-join plan g.gained d.on.journal g.gains.join d.listed;
         item = passed Side.Received c.head c.payload;
         before = c.before;
         journal_is = one-journal new (got_all octets log) on c.on ∙ c.journal_is;
@@ -191,7 +191,7 @@ module _ (plan : PlainPlan) (octets : List ℕ) (old new : Held) (log : List Mom
     on = waits-on octets old new log same d.on going released g;
     meets = meets-join g.zero.gained d.on.journal g.zero.join
         (keeps-of old.limits.window (g.zero.gained ++ d.on.journal) d.on.given g.zero.taken_now new.peer.lives g.zero.waits.waits.live) d.meets;
-    listed = told-join plan g.zero.gained d.on.journal g.zero.join d.listed;
+    listed = said-join plan g.zero.gained d.on.journal g.zero.join d.listed;
     placed = asks-on plan g.zero.gained d.on.journal g.zero.quiet g.zero.none_above d.placed;
     desk = parts-on plan g.zero.gained d.on.journal (d.on.given 0) new.peer.management.answers g.zero.quiet g.zero.none_above desk-kept;
   }
@@ -265,7 +265,7 @@ module _ (plan : PlainPlan) (old new : Held) (same : IsOfPeer old new) (log : Li
     on = settles-on old new same log o m upright fits;
     meets = meets-settled o.head o.payload o.journal o.waits.waits.begun
         (keeps-of old.limits.window next m.given_now m.taken_now new.peer.lives m.stands.holds.live) d.meets;
-    listed = told-came plan o.head o.payload o.journal d.listed;
+    listed = said-came plan o.head o.payload o.journal d.listed;
     item = item;
     before = o.journal;
     journal_is = refl;
@@ -342,7 +342,7 @@ module _ (plan : PlainPlan) (old new : Held) (before after : List ℕ) (log : Li
         listed = (
           (λ count. begins-within plan (passed Side.Sent head m.payload) (began Side.Sent head ∷ s.journal) placed d.plan_is.none old.limits.window m.sent.given_now m.sent.taken_now
               new.peer (holds-in old.limits.window next m.sent.given_now m.sent.taken_now new.peer m.sent.stands.holds) within count),
-          told-began plan Side.Sent head s.journal d.listed,
+          said-began plan Side.Sent head s.journal d.listed,
         );
         meets = meets-sent head m.payload (began Side.Sent head ∷ s.journal) (meets-begun head s.journal d.meets);
         item = passed Side.Sent head m.payload;
@@ -366,7 +366,7 @@ module _ (plan : PlainPlan) (old new : Held) (before after : List ℕ) (log : Li
         on = on-so old new same s.fed s.rest next s.given s.taken (put_all octets (put_all before log)) m (is, s.framed)
             (seq-written (terms_of old) s.rest s.journal (put_all before log) seq s.logged is m.lawful);
         meets = meets-told Side.Sent seq s.journal d.meets;
-        listed = told-seq plan Side.Sent seq s.journal d.listed;
+        listed = said-seq plan Side.Sent seq s.journal d.listed;
         placed = parts-placed plan (told Side.Sent seq) s.journal refl d.placed;
         desk = part-step plan (told Side.Sent seq) s.journal (s.given 0) new.peer.management.answers refl
             (subst (λ (k : Managed). IsDeskOf plan s.journal (s.given 0) k.answers) (sym kept) d.desk);

@@ -1,42 +1,42 @@
 -- Once all that came is taken and all is given that is asked first, a listener's desk is what its script says; what goes before is so where it is said that it waits for.
 use Rattle.std.proofs.Common.{◌≡◌, ◌∙◌, refl, sym, ap, subst, ℕ, ◌==◌, true, false, List, [], ◌∷◌, ◌++◌, map, Option, None, Some}
 use Rattle.std.specs.Prelude.{is_some}
-use Rattle.beep_frame.specs.declared.head.Head.{Head}
-use Rattle.beep_frame.specs.Frame.{framed, is_msg}
-use Rattle.beep_frame.specs.Spelling.{spelling}
-use Rattle.beep_mgmt.specs.Message.{message_said}
-use Rattle.beep_journal.specs.Zero.{completes_form, gathered, zero_history}
-use Rattle.beep_inbox.specs.declared.part.Part.{Part}
-use Rattle.beep_inbox.specs.Laws.{part_marks}
-use Rattle.beep_answering.specs.declared.settled.Settled.{Settled}
-use Rattle.beep_speaking.specs.declared.emit.Emit.{Emit}
-use Rattle.beep_upright.specs.Frames.{IsFramed}
-use Rattle.beep_upright.specs.Upright.{IsUpright}
-use Rattle.beep_peer.specs.Calls.{Settles, SettlesReply, SettlesRequest}
-use Rattle.beep_peer.specs.Lawfully.{SendsLawfully}
-use Rattle.beep_peer.specs.Standing.{standing_of}
-use Rattle.beep_peer.specs.Waiting.{IsStuck}
+use Rattle.beep_session.specs.beep_frame.specs.declared.head.Head.{Head}
+use Rattle.beep_session.specs.beep_frame.specs.Frame.{framed, is_msg}
+use Rattle.beep_session.specs.beep_frame.specs.Spelling.{spelling}
+use Rattle.beep_session.specs.beep_mgmt.specs.Message.{message_said}
+use Rattle.beep_session.specs.beep_journal.specs.Zero.{completes_form, gathered, zero_history}
+use Rattle.beep_session.specs.beep_inbox.specs.declared.part.Part.{Part}
+use Rattle.beep_session.specs.beep_inbox.specs.Laws.{part_marks}
+use Rattle.beep_session.specs.beep_answering.specs.declared.settled.Settled.{Settled}
+use Rattle.beep_session.specs.beep_speaking.specs.declared.emit.Emit.{Emit}
+use Rattle.beep_session.specs.beep_upright.specs.Frames.{IsFramed}
+use Rattle.beep_session.specs.beep_upright.specs.Upright.{IsUpright}
+use Rattle.beep_session.specs.beep_peer.specs.Calls.{Settles, SettlesReply, SettlesRequest}
+use Rattle.beep_session.specs.beep_peer.specs.Lawfully.{SendsLawfully}
+use Rattle.beep_session.specs.beep_peer.specs.Standing.{standing_of}
+use Rattle.beep_session.specs.beep_peer.specs.Waiting.{IsStuck}
 use Rattle.beep_session.specs.Channels.{IsOfPeer, Takes}
 use Rattle.beep_session.specs.Lawfully.{terms_of, KeepsUpright}
 use Rattle.beep_logged.proofs.EndLemmas.{put-append}
 use Rattle.beep_logged.proofs.WriteLemmas.{frame-written, lawful-frame}
-use Rattle.beep_script.specs.Desk.{desk}
+use Rattle.beep_desk.specs.beep_script.specs.Desk.{desk}
 use Rattle.beep_desk.proofs.ClearLemmas.{all-done}
 use Rattle.beep_desk.proofs.QuietLemmas.{asks-nothing}
 use Rattle.beep_desk.proofs.OwedLemmas.{owed-true}
 use Rattle.beep_steps.proofs.CallLemmas.{on-so, settles-on}
 use Rattle.beep_steps.proofs.DeskBorn.{gone-done}
-use Rattle.beep_history.specs.declared.journal.Side.{Side}
-use Rattle.beep_history.specs.Journal.{Item, began, passed}
-use Rattle.beep_history.specs.Marks.{marks, mark_modulo_2_64}
-use Rattle.beep_journal.specs.Life.{history, is_there, life_now}
-use Rattle.beep_journal.specs.Log.{Moment, put_all}
-use Rattle.beep_channel.specs.Held.{Live}
-use Rattle.beep_lives.specs.Lives.{live_at}
-use Rattle.beep_outbox.specs.Queue.{marks_of as unsent_marks}
-use Rattle.beep_standing.specs.Standing.{with_marks}
+use Rattle.beep_session.specs.beep_history.specs.declared.journal.Side.{Side}
+use Rattle.beep_session.specs.beep_history.specs.Journal.{Item, began, passed}
+use Rattle.beep_session.specs.beep_history.specs.Marks.{marks, mark_modulo_2_64}
+use Rattle.beep_session.specs.beep_journal.specs.Life.{history, is_there, life_now}
+use Rattle.beep_session.specs.beep_journal.specs.Log.{Moment, put_all}
+use Rattle.beep_session.specs.beep_channel.specs.Held.{Live}
+use Rattle.beep_session.specs.beep_lives.specs.Lives.{live_at}
+use Rattle.beep_session.specs.beep_outbox.specs.Queue.{marks_of as unsent_marks}
+use Rattle.beep_session.specs.beep_standing.specs.Standing.{with_marks}
 use Rattle.beep_session.specs.Session.{Held}
-use Rattle.beep_talk.specs.Plan.{PlainPlan}
+use Rattle.beep_desk.specs.beep_talk.specs.Plan.{PlainPlan}
 use Rattle.beep_served.specs.Served.{HaveProfile}
 use Rattle.beep_replies.specs.Replies.{first_said}
 use Rattle.beep_desk.specs.Desks.{AreDoneFor}

@@ -1,32 +1,32 @@
 -- What is given above channel zero leaves what an end said there, and holds back what was held back.
 use Rattle.std.proofs.Common.{◌≡◌, ◌∙◌, refl, sym, ap, subst, ℕ, ◌==◌, Bool, true, false, if◌then◌else◌, List, [], ◌∷◌, ◌++◌, length, map, Option, None, Some, arith, length-append}
 use Rattle.std.specs.Prelude.{is_some, IfSome}
-use Rattle.beep_frame.specs.declared.kind.Kind.{Kind}
-use Rattle.beep_history.specs.declared.journal.Side.{Side}
-use Rattle.beep_history.specs.Journal.{Item}
-use Rattle.beep_history.specs.Marks.{Mark, end, marks, mark_modulo_2_64, octet}
-use Rattle.beep_journal.specs.Life.{history}
-use Rattle.beep_journal.specs.Log.{Moment}
-use Rattle.beep_journal.proofs.MomentLemmas.{equal-number}
-use Rattle.beep_channel.specs.Held.{Live, is_held_drained}
-use Rattle.beep_channel.specs.Stands.{Stands}
-use Rattle.beep_channel.specs.Drained.{IsDrained}
-use Rattle.beep_channel.proofs.DrainedLemmas.{held-drained, is-drained}
-use Rattle.beep_outbox.specs.Queue.{Message, marks_of as unsent_marks, message_marks}
-use Rattle.beep_lives.specs.Lives.{live_at}
-use Rattle.beep_standing.specs.Standing.{Marks, AreLiveBy, with_marks}
-use Rattle.beep_asked.specs.Kept.{asks_otherwise}
-use Rattle.beep_management.specs.declared.wait.Wait.{Wait}
-use Rattle.beep_management.specs.Managed.{Managed, Prepared, first_of}
-use Rattle.beep_hearing.specs.declared.ear.Ear.{Ear}
-use Rattle.beep_hearing.specs.Hears.{Hears}
-use Rattle.beep_peer.specs.Acts.{IsUnchanged, held_of}
-use Rattle.beep_peer.specs.Waiting.{HasCome, IsDrainedAt, IsStuck}
-use Rattle.beep_giving.specs.Giving.{next_message}
+use Rattle.beep_session.specs.beep_frame.specs.declared.kind.Kind.{Kind}
+use Rattle.beep_session.specs.beep_history.specs.declared.journal.Side.{Side}
+use Rattle.beep_session.specs.beep_history.specs.Journal.{Item}
+use Rattle.beep_session.specs.beep_history.specs.Marks.{Mark, end, marks, mark_modulo_2_64, octet}
+use Rattle.beep_session.specs.beep_journal.specs.Life.{history}
+use Rattle.beep_session.specs.beep_journal.specs.Log.{Moment}
+use Rattle.beep_session.specs.beep_journal.proofs.MomentLemmas.{equal-number}
+use Rattle.beep_session.specs.beep_channel.specs.Held.{Live, is_held_drained}
+use Rattle.beep_session.specs.beep_channel.specs.Stands.{Stands}
+use Rattle.beep_session.specs.beep_channel.specs.Drained.{IsDrained}
+use Rattle.beep_session.specs.beep_channel.proofs.DrainedLemmas.{held-drained, is-drained}
+use Rattle.beep_session.specs.beep_outbox.specs.Queue.{Message, marks_of as unsent_marks, message_marks}
+use Rattle.beep_session.specs.beep_lives.specs.Lives.{live_at}
+use Rattle.beep_session.specs.beep_standing.specs.Standing.{Marks, AreLiveBy, with_marks}
+use Rattle.beep_session.specs.beep_asked.specs.Kept.{asks_otherwise}
+use Rattle.beep_session.specs.beep_management.specs.declared.wait.Wait.{Wait}
+use Rattle.beep_session.specs.beep_management.specs.Managed.{Managed, Prepared, first_of}
+use Rattle.beep_session.specs.beep_hearing.specs.declared.ear.Ear.{Ear}
+use Rattle.beep_session.specs.beep_hearing.specs.Hears.{Hears}
+use Rattle.beep_session.specs.beep_peer.specs.Acts.{IsUnchanged, held_of}
+use Rattle.beep_session.specs.beep_peer.specs.Waiting.{HasCome, IsDrainedAt, IsStuck}
+use Rattle.beep_session.specs.beep_giving.specs.Giving.{next_message}
 use Rattle.beep_session.specs.Channels.{Gives, IsStill}
 use Rattle.beep_session.specs.Lawfully.{KeepsUpright}
 use Rattle.beep_session.specs.Session.{Held}
-use Rattle.beep_talk.specs.Plan.{PlainPlan}
+use Rattle.beep_desk.specs.beep_talk.specs.Plan.{PlainPlan}
 use Rattle.beep_desk.specs.Desks.{IsDeskOf, IsDeskWithin}
 use Rattle.beep_steps.specs.Desking.{DesksOn, DesksWithin}
 use Rattle.beep_steps.specs.Logs.{StandsOn}

@@ -4,25 +4,25 @@ use Rattle.std.specs.Prelude.{is_some, nat_lt}
 use Rattle.std.specs.List.{list_any}
 use Rattle.std.specs.Option.{option_map_or}
 use Rattle.std.proofs.lemmas.Bool.Decides.{nat_tests}
-use Rattle.beep_frame.specs.declared.head.Head.{Head}
-use Rattle.beep_frame.specs.declared.kind.Kind.{Kind}
-use Rattle.beep_frame.specs.declared.rule.Rule.{Rule}
-use Rattle.beep_frame.specs.declared.seq.Seq.{Seq}
-use Rattle.beep_frame.specs.Frame.{is_ans, is_msg, is_nul, is_reply, same_kind}
-use Rattle.beep_history.specs.declared.journal.Side.{Side}
-use Rattle.beep_history.specs.Journal.{Item, began, passed, told}
-use Rattle.beep_history.specs.Marks.{Request, answers, ends_reply, goes_on, is_answered, latest, previous, reply}
-use Rattle.beep_history.specs.Broken.{KeepsExchangeRules, broken_rule, changes_message, changes_reply, first_of, goes_on_request, under_way}
-use Rattle.beep_history.proofs.KeptLemmas.{Kept, kept}
-use Rattle.beep_history.proofs.PassedLemmas.{sound}
-use Rattle.beep_history.proofs.SoundLemmas.{IsDue, Sound}
-use Rattle.beep_journal.specs.Broken.{breaks_no_greeting, breaks_size, broken_head, is_greeting, none_tunes, or_else, session_rules}
-use Rattle.beep_journal.specs.Life.{history}
-use Rattle.beep_mgmt.specs.Form.{Form}
-use Rattle.beep_mgmt.specs.Message.{message_said}
-use Rattle.beep_journal.specs.Zero.{asked, channel_of, gathered, zero_history}
-use Rattle.beep_hearing.specs.Hears.{Join}
-use Rattle.beep_script.specs.Desk.{grants_own}
+use Rattle.beep_session.specs.beep_frame.specs.declared.head.Head.{Head}
+use Rattle.beep_session.specs.beep_frame.specs.declared.kind.Kind.{Kind}
+use Rattle.beep_session.specs.beep_frame.specs.declared.rule.Rule.{Rule}
+use Rattle.beep_session.specs.beep_frame.specs.declared.seq.Seq.{Seq}
+use Rattle.beep_session.specs.beep_frame.specs.Frame.{is_ans, is_msg, is_nul, is_reply, same_kind}
+use Rattle.beep_session.specs.beep_history.specs.declared.journal.Side.{Side}
+use Rattle.beep_session.specs.beep_history.specs.Journal.{Item, began, passed, told}
+use Rattle.beep_session.specs.beep_history.specs.Marks.{Request, answers, ends_reply, goes_on, is_answered, latest, previous, reply}
+use Rattle.beep_session.specs.beep_history.specs.Broken.{KeepsExchangeRules, broken_rule, changes_message, changes_reply, first_of, goes_on_request, under_way}
+use Rattle.beep_session.specs.beep_history.proofs.KeptLemmas.{Kept, kept}
+use Rattle.beep_session.specs.beep_history.proofs.PassedLemmas.{sound}
+use Rattle.beep_session.specs.beep_history.proofs.SoundLemmas.{IsDue, Sound}
+use Rattle.beep_session.specs.beep_journal.specs.Broken.{breaks_no_greeting, breaks_size, broken_head, is_greeting, none_tunes, or_else, session_rules}
+use Rattle.beep_session.specs.beep_journal.specs.Life.{history}
+use Rattle.beep_session.specs.beep_mgmt.specs.Form.{Form}
+use Rattle.beep_session.specs.beep_mgmt.specs.Message.{message_said}
+use Rattle.beep_session.specs.beep_journal.specs.Zero.{asked, channel_of, gathered, zero_history}
+use Rattle.beep_session.specs.beep_hearing.specs.Hears.{Join}
+use Rattle.beep_desk.specs.beep_script.specs.Desk.{grants_own}
 use Rattle.beep_replies.proofs.CountLemmas.{keeps-where}
 use Rattle.beep_desk.proofs.EventLemmas.{answered-more}
 use Rattle.beep_desk.proofs.OnceLemmas.{grant-answers}

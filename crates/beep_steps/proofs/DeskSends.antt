@@ -1,34 +1,34 @@
 -- What each call of a session leaves of a sender that keeps its script on channel zero: what it asks then may not be given.
 use Rattle.std.proofs.Common.{◌≡◌, ◌∙◌, refl, sym, ap, subst, ℕ, Bool, true, false, List, [], ◌∷◌, ◌++◌, Option, None, Some}
 use Rattle.std.specs.Prelude.{IfNone, IfSome}
-use Rattle.beep_frame.specs.declared.head.Head.{Head}
-use Rattle.beep_frame.specs.declared.seq.Seq.{Seq}
-use Rattle.beep_frame.specs.Frame.{framed, is_msg}
-use Rattle.beep_frame.specs.Spelling.{spelling}
-use Rattle.beep_history.specs.declared.journal.Side.{Side}
-use Rattle.beep_history.specs.Journal.{Item, began, passed}
-use Rattle.beep_mgmt.specs.Message.{message_said}
-use Rattle.beep_journal.specs.Log.{Moment, put_all}
-use Rattle.beep_journal.specs.Zero.{completes_form, gathered, zero_history}
-use Rattle.beep_inbox.specs.declared.part.Part.{Part}
-use Rattle.beep_inbox.specs.Laws.{part_marks}
-use Rattle.beep_standing.specs.Standing.{Marks, with_marks}
-use Rattle.beep_answering.specs.declared.settled.Settled.{Settled}
-use Rattle.beep_speaking.specs.declared.emit.Emit.{Emit}
-use Rattle.beep_upright.specs.Frames.{AreFrames, IsFramed}
-use Rattle.beep_upright.specs.Upright.{IsUpright}
-use Rattle.beep_peer.specs.declared.peer.Peer.{Peer}
-use Rattle.beep_peer.specs.Calls.{Settles, SettlesReply, SettlesRequest, Speaks}
-use Rattle.beep_peer.specs.Lawfully.{SendsLawfully, SpeaksLawfully}
-use Rattle.beep_peer.specs.Peering.{IsPeer, is_over}
-use Rattle.beep_peer.specs.Standing.{standing_of}
-use Rattle.beep_peer.specs.Waiting.{IsStuck}
+use Rattle.beep_session.specs.beep_frame.specs.declared.head.Head.{Head}
+use Rattle.beep_session.specs.beep_frame.specs.declared.seq.Seq.{Seq}
+use Rattle.beep_session.specs.beep_frame.specs.Frame.{framed, is_msg}
+use Rattle.beep_session.specs.beep_frame.specs.Spelling.{spelling}
+use Rattle.beep_session.specs.beep_history.specs.declared.journal.Side.{Side}
+use Rattle.beep_session.specs.beep_history.specs.Journal.{Item, began, passed}
+use Rattle.beep_session.specs.beep_mgmt.specs.Message.{message_said}
+use Rattle.beep_session.specs.beep_journal.specs.Log.{Moment, put_all}
+use Rattle.beep_session.specs.beep_journal.specs.Zero.{completes_form, gathered, zero_history}
+use Rattle.beep_session.specs.beep_inbox.specs.declared.part.Part.{Part}
+use Rattle.beep_session.specs.beep_inbox.specs.Laws.{part_marks}
+use Rattle.beep_session.specs.beep_standing.specs.Standing.{Marks, with_marks}
+use Rattle.beep_session.specs.beep_answering.specs.declared.settled.Settled.{Settled}
+use Rattle.beep_session.specs.beep_speaking.specs.declared.emit.Emit.{Emit}
+use Rattle.beep_session.specs.beep_upright.specs.Frames.{AreFrames, IsFramed}
+use Rattle.beep_session.specs.beep_upright.specs.Upright.{IsUpright}
+use Rattle.beep_session.specs.beep_peer.specs.declared.peer.Peer.{Peer}
+use Rattle.beep_session.specs.beep_peer.specs.Calls.{Settles, SettlesReply, SettlesRequest, Speaks}
+use Rattle.beep_session.specs.beep_peer.specs.Lawfully.{SendsLawfully, SpeaksLawfully}
+use Rattle.beep_session.specs.beep_peer.specs.Peering.{IsPeer, is_over}
+use Rattle.beep_session.specs.beep_peer.specs.Standing.{standing_of}
+use Rattle.beep_session.specs.beep_peer.specs.Waiting.{IsStuck}
 use Rattle.beep_session.specs.Channels.{IsOfPeer, Takes}
 use Rattle.beep_session.specs.Lawfully.{terms_of, IsLawfulSession, KeepsUpright}
 use Rattle.beep_session.specs.Session.{Held}
 use Rattle.beep_logged.proofs.EndLemmas.{put-append}
 use Rattle.beep_logged.proofs.WriteLemmas.{frame-written, lawful-frame}
-use Rattle.beep_talk.specs.Plan.{PlainPlan}
+use Rattle.beep_desk.specs.beep_talk.specs.Plan.{PlainPlan}
 use Rattle.beep_desk.specs.Waiting.{SaysAll}
 use Rattle.beep_desk.proofs.ClearLemmas.{all-done}
 use Rattle.beep_steps.specs.Desking.{DesksOn, DesksWaiting, DesksWithin, SaidDesk}

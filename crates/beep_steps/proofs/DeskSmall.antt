@@ -1,29 +1,29 @@
 -- The positions that an end names on channel zero are below 2^64, so that what it sent there is the beginning of its script as it is.
 use Rattle.std.proofs.Common.{◌≡◌, ◌∙◌, refl, sym, ap, subst, ℕ, ◌+◌, ◌<◌, ◌≤◌, ◌^◌, ◌==◌, Bool, true, false, not, ◌&&◌, if◌then◌else◌, List, [], ◌∷◌, ◌++◌, length, map, filter, flat_map, take, None, arith, length-append}
 use Rattle.std.specs.List.{prefix_len}
-use Rattle.beep_frame.specs.declared.head.Head.{Head}
-use Rattle.beep_frame.specs.Frame.{is_msg}
-use Rattle.beep_history.specs.declared.journal.Side.{Side}
-use Rattle.beep_history.specs.declared.limits.TheConstants.{MAX_REQUESTS}
-use Rattle.beep_history.specs.Journal.{Item, began, passed, told, same_side}
-use Rattle.beep_history.specs.Marks.{Mark, carries, frame_marks, marks, mark_modulo_2_64, requests, tag_of}
-use Rattle.beep_journal.specs.Zero.{asked, channel_of, gathered, zero_history}
-use Rattle.beep_journal.specs.Life.{life}
-use Rattle.beep_journal.specs.Broken.{none_tunes}
-use Rattle.beep_journal.specs.Log.{Moment}
-use Rattle.beep_journal.proofs.MomentLemmas.{equal-number}
-use Rattle.beep_lawful.specs.declared.terms.Terms.{Terms}
-use Rattle.beep_lawful.specs.Lawful.{IsLawful, IsLawfulLog}
-use Rattle.beep_lawful.proofs.LawfulLemmas.{lawful-before}
-use Rattle.beep_mgmt.specs.Form.{close, start}
-use Rattle.beep_mgmt.specs.Message.{message_said}
-use Rattle.beep_answering.specs.Decided.{NoneTunes}
-use Rattle.beep_talk.specs.declared.plan.Command.{Command}
-use Rattle.beep_talk.specs.AtZero.{Answer, ZeroMessage, answer_message, profile_of}
-use Rattle.beep_talk.specs.Plan.{PlainPlan}
-use Rattle.beep_script.specs.Desk.{asks, asks_where, decided, desk, ends_lines, grants_own, is_clear}
-use Rattle.beep_script.specs.Laws.{replied_positions}
-use Rattle.beep_script.specs.Script.{BeginsWith, KeepsScript, history_at, message_marks, script_marks, whole_message}
+use Rattle.beep_session.specs.beep_frame.specs.declared.head.Head.{Head}
+use Rattle.beep_session.specs.beep_frame.specs.Frame.{is_msg}
+use Rattle.beep_session.specs.beep_history.specs.declared.journal.Side.{Side}
+use Rattle.beep_session.specs.beep_history.specs.declared.limits.TheConstants.{MAX_REQUESTS}
+use Rattle.beep_session.specs.beep_history.specs.Journal.{Item, began, passed, told, same_side}
+use Rattle.beep_session.specs.beep_history.specs.Marks.{Mark, carries, frame_marks, marks, mark_modulo_2_64, requests, tag_of}
+use Rattle.beep_session.specs.beep_journal.specs.Zero.{asked, channel_of, gathered, zero_history}
+use Rattle.beep_session.specs.beep_journal.specs.Life.{life}
+use Rattle.beep_session.specs.beep_journal.specs.Broken.{none_tunes}
+use Rattle.beep_session.specs.beep_journal.specs.Log.{Moment}
+use Rattle.beep_session.specs.beep_journal.proofs.MomentLemmas.{equal-number}
+use Rattle.beep_session.specs.beep_lawful.specs.declared.terms.Terms.{Terms}
+use Rattle.beep_session.specs.beep_lawful.specs.Lawful.{IsLawful, IsLawfulLog}
+use Rattle.beep_session.specs.beep_lawful.proofs.LawfulLemmas.{lawful-before}
+use Rattle.beep_session.specs.beep_mgmt.specs.Form.{close, start}
+use Rattle.beep_session.specs.beep_mgmt.specs.Message.{message_said}
+use Rattle.beep_session.specs.beep_answering.specs.Decided.{NoneTunes}
+use Rattle.beep_desk.specs.beep_talk.specs.declared.plan.Command.{Command}
+use Rattle.beep_desk.specs.beep_talk.specs.AtZero.{Answer, ZeroMessage, answer_message, profile_of}
+use Rattle.beep_desk.specs.beep_talk.specs.Plan.{PlainPlan}
+use Rattle.beep_desk.specs.beep_script.specs.Desk.{asks, asks_where, decided, desk, ends_lines, grants_own, is_clear}
+use Rattle.beep_desk.specs.beep_script.specs.Laws.{replied_positions}
+use Rattle.beep_desk.specs.beep_script.specs.Script.{BeginsWith, KeepsScript, history_at, message_marks, script_marks, whole_message}
 use Rattle.beep_served.specs.Served.{items_got, octets_got, side_of}
 use Rattle.beep_served.proofs.PositionLemmas.{few-zero}
 use Rattle.beep_served.proofs.ShownLemmas.{items-shown}
@@ -31,10 +31,10 @@ use Rattle.beep_replies.specs.Replies.{KeepsAbove}
 use Rattle.beep_desk.specs.Listed.{ArePlacedFrom}
 use Rattle.beep_desk.proofs.TheirLemmas.{reply-kind}
 use Rattle.beep_desk.proofs.TurnLemmas.{in-turn}
-use Rattle.beep_steps.specs.Desking.{ShowsToldZero, ToldZero}
+use Rattle.beep_steps.specs.Desking.{ShowsSaidZero, SaidZero}
 use Rattle.beep_steps.specs.Scripting.{ShowsWhole}
-use Rattle.beep_steps.specs.Speaking.{ShowsTold}
-use Rattle.beep_steps.proofs.SpeakSmall.{shown-above, AreTold, frame-told, items-more, message-told, position-most, requests-items, tag-told, told-both}
+use Rattle.beep_steps.specs.Speaking.{ShowsSaid}
+use Rattle.beep_steps.proofs.SpeakSmall.{shown-above, AreUnwrapped, frame-unwrapped, items-more, message-unwrapped, position-most, requests-items, tag-unwrapped, unwrapped-both}
 
 -- ---- how much came
 
@@ -83,30 +83,30 @@ sent-less zero head journal asks within few =
     of Side.Sent asks came within = omega (arith, asks, within)
     of Side.Received asks came within = omega (arith, came, within)
 
-zero-told : (terms : Terms) (journal : List Item) → IsLawful terms none_tunes journal → items_got journal < 2 ^ 32 → AreTold (marks Side.Sent (zero_history journal))
-zero-told terms [] lawful few = refl
-zero-told terms (item ∷ journal) lawful few =
+zero-unwrapped : (terms : Terms) (journal : List Item) → IsLawful terms none_tunes journal → items_got journal < 2 ^ 32 → AreUnwrapped (marks Side.Sent (zero_history journal))
+zero-unwrapped terms [] lawful few = refl
+zero-unwrapped terms (item ∷ journal) lawful few =
     let earlier = lawful-before terms none_tunes (item ∷ []) journal lawful in
     let more = items-more item journal in
     let less : items_got journal < 2 ^ 32 = omega (arith, few, more) in
-    of (channel_of item == 0) (item-told item (few-zero terms none_tunes journal earlier) less (zero-told terms journal earlier less)) (zero-told terms journal earlier less)
+    of (channel_of item == 0) (item-unwrapped item (few-zero terms none_tunes journal earlier) less (zero-unwrapped terms journal earlier less)) (zero-unwrapped terms journal earlier less)
   where
-    item-told : (item : Item) → length (requests Side.Sent (zero_history journal)) ≤ items_got (zero_history journal) + MAX_REQUESTS → items_got journal < 2 ^ 32
-        → AreTold (marks Side.Sent (zero_history journal)) → AreTold (marks Side.Sent (item ∷ zero_history journal))
-    item-told (began by head) asks few before = before
-    item-told (told by seq) asks few before = before
-    item-told (passed by head payload) asks few before =
+    item-unwrapped : (item : Item) → length (requests Side.Sent (zero_history journal)) ≤ items_got (zero_history journal) + MAX_REQUESTS → items_got journal < 2 ^ 32
+        → AreUnwrapped (marks Side.Sent (zero_history journal)) → AreUnwrapped (marks Side.Sent (item ∷ zero_history journal))
+    item-unwrapped (began by head) asks few before = before
+    item-unwrapped (told by seq) asks few before = before
+    item-unwrapped (passed by head payload) asks few before =
         let past = zero_history journal in
-        told-both (marks Side.Sent past) (if carries Side.Sent past by head then frame_marks (tag_of Side.Sent past head) head payload else []) before (by-carries (carries Side.Sent past by head))
+        unwrapped-both (marks Side.Sent past) (if carries Side.Sent past by head then frame_marks (tag_of Side.Sent past head) head payload else []) before (by-carries (carries Side.Sent past by head))
       where
-        by-carries : (b : Bool) → AreTold (if b then frame_marks (tag_of Side.Sent (zero_history journal) head) head payload else [])
+        by-carries : (b : Bool) → AreUnwrapped (if b then frame_marks (tag_of Side.Sent (zero_history journal) head) head payload else [])
         by-carries true =
-            frame-told (tag_of Side.Sent (zero_history journal) head) head payload
-            (tag-told (tag_of Side.Sent (zero_history journal) head) (sent-less (zero_history journal) head journal asks (zero-items journal) few))
+            frame-unwrapped (tag_of Side.Sent (zero_history journal) head) head payload
+            (tag-unwrapped (tag_of Side.Sent (zero_history journal) head) (sent-less (zero_history journal) head journal asks (zero-items journal) few))
         by-carries false = refl
 
-    of : (b : Bool) → AreTold (marks Side.Sent (item ∷ zero_history journal)) → AreTold (marks Side.Sent (zero_history journal))
-        → AreTold (marks Side.Sent (if b then item ∷ zero_history journal else zero_history journal))
+    of : (b : Bool) → AreUnwrapped (marks Side.Sent (item ∷ zero_history journal)) → AreUnwrapped (marks Side.Sent (zero_history journal))
+        → AreUnwrapped (marks Side.Sent (if b then item ∷ zero_history journal else zero_history journal))
     of true one other = one
     of false one other = other
 
@@ -156,31 +156,31 @@ desk-few plan (item ∷ journal) =
     of Command.Send = where-few plan.raw_uri (grants_own 0 item journal) (ends_lines plan item journal) (grants_own 2 item journal)
     of Command.Listen = tt
 
-listed-told : (k : ℕ) (listed : List ZeroMessage) → FewAsked listed → ArePlacedFrom k (replied_positions listed) → k + length (replied_positions listed) < 2 ^ 64
-    → AreTold (flat_map message_marks (map whole_message listed))
-listed-told k [] a p less = refl
-listed-told k (l ∷ listed) a p less = of (is_msg l.tag.kind) refl p less (λ n q more. listed-told n listed a.1 q more)
+listed-unwrapped : (k : ℕ) (listed : List ZeroMessage) → FewAsked listed → ArePlacedFrom k (replied_positions listed) → k + length (replied_positions listed) < 2 ^ 64
+    → AreUnwrapped (flat_map message_marks (map whole_message listed))
+listed-unwrapped k [] a p less = refl
+listed-unwrapped k (l ∷ listed) a p less = of (is_msg l.tag.kind) refl p less (λ n q more. listed-unwrapped n listed a.1 q more)
   where
     others : List ZeroMessage
     others = filter is_reply_of listed
 
     of : (b : Bool) → is_msg l.tag.kind ≡ b → ArePlacedFrom k (map request_of (if not b then l ∷ others else others)) → k + length (map request_of (if not b then l ∷ others else others)) < 2 ^ 64
-        → ((n : ℕ) → ArePlacedFrom n (replied_positions listed) → n + length (replied_positions listed) < 2 ^ 64 → AreTold (flat_map message_marks (map whole_message listed)))
-        → AreTold (flat_map message_marks (map whole_message (l ∷ listed)))
+        → ((n : ℕ) → ArePlacedFrom n (replied_positions listed) → n + length (replied_positions listed) < 2 ^ 64 → AreUnwrapped (flat_map message_marks (map whole_message listed)))
+        → AreUnwrapped (flat_map message_marks (map whole_message (l ∷ listed)))
     of true msg p less rest =
         let few = a.0 msg in
-        told-both (message_marks (whole_message l)) (flat_map message_marks (map whole_message listed)) (message-told (whole_message l) (omega (arith, few))) (rest k p less)
+        unwrapped-both (message_marks (whole_message l)) (flat_map message_marks (map whole_message listed)) (message-unwrapped (whole_message l) (omega (arith, few))) (rest k p less)
     of false reply p less rest =
         let at = p.0 in
-        told-both (message_marks (whole_message l)) (flat_map message_marks (map whole_message listed)) (message-told (whole_message l) (omega (arith, at, less)))
+        unwrapped-both (message_marks (whole_message l)) (flat_map message_marks (map whole_message listed)) (message-unwrapped (whole_message l) (omega (arith, at, less)))
         (rest (k + 1) p.1 (omega (arith, less)))
 
 front-placed : (k : ℕ) (xs ys : List ℕ) → ArePlacedFrom k (xs ++ ys) → ArePlacedFrom k xs
 front-placed k [] ys p = tt
 front-placed k (x ∷ xs) ys p = (p.0, front-placed (k + 1) xs ys p.1)
 
-script-told : (plan : PlainPlan) (count : ℕ) (journal : List Item) → NoneTunes plan.offers → items_got journal < 2 ^ 32 → AreTold (script_marks plan 0 count journal)
-script-told plan count journal none few =
+script-unwrapped : (plan : PlainPlan) (count : ℕ) (journal : List Item) → NoneTunes plan.offers → items_got journal < 2 ^ 32 → AreUnwrapped (script_marks plan 0 count journal)
+script-unwrapped plan count journal none few =
     let listed = (desk plan journal).listed in
     let owed = map (λ (answer : Answer). answer.position) (desk plan journal).owed in
     let t = in-turn plan journal none in
@@ -188,32 +188,32 @@ script-told plan count journal none few =
     let both = length-append (replied_positions listed) owed in
     let most = asked-most (zero_history journal) in
     let within = zero-items journal in
-    listed-told 0 listed (desk-few plan journal) (front-placed 0 (replied_positions listed) owed t.0) (omega (arith, each, both, most, within, few))
+    listed-unwrapped 0 listed (desk-few plan journal) (front-placed 0 (replied_positions listed) owed t.0) (omega (arith, each, both, most, within, few))
 
 -- ---- the whole
 
 zero-exact : (plan : PlainPlan) (terms : Terms) (count : ℕ) (journal : List Item) → NoneTunes plan.offers → IsLawful terms none_tunes journal
-    → items_got journal < 2 ^ 32 → ToldZero plan journal → BeginsWith (script_marks plan 0 count journal) (marks Side.Sent (zero_history journal))
-zero-exact plan terms count journal none lawful few told_zero =
-    subst (λ (ms : List Mark). BeginsWith ms (marks Side.Sent (zero_history journal))) (script-told plan count journal none few)
-    (subst (λ (ms : List Mark). BeginsWith (map mark_modulo_2_64 (script_marks plan 0 count journal)) ms) (zero-told terms journal lawful few) (told_zero count))
+    → items_got journal < 2 ^ 32 → SaidZero plan journal → BeginsWith (script_marks plan 0 count journal) (marks Side.Sent (zero_history journal))
+zero-exact plan terms count journal none lawful few said_zero =
+    subst (λ (ms : List Mark). BeginsWith ms (marks Side.Sent (zero_history journal))) (script-unwrapped plan count journal none few)
+    (subst (λ (ms : List Mark). BeginsWith (map mark_modulo_2_64 (script_marks plan 0 count journal)) ms) (zero-unwrapped terms journal lawful few) (said_zero count))
 
 -- what passed in each life, channel zero among them, is the beginning of its script
 pub whole-script : (plan : PlainPlan) (terms : Terms) (journal : List Item) → NoneTunes plan.offers → IsLawful terms none_tunes journal → items_got journal < 2 ^ 32
-    → KeepsAbove plan journal → ToldZero plan journal → KeepsScript plan journal
-whole-script plan terms journal none lawful few above told_zero number count = of (number == 0) refl
+    → KeepsAbove plan journal → SaidZero plan journal → KeepsScript plan journal
+whole-script plan terms journal none lawful few above said_zero number count = of (number == 0) refl
   where
     of : (b : Bool) → (number == 0) ≡ b → BeginsWith (script_marks plan number count journal) (marks Side.Sent (history_at number count journal))
     of true zero =
         subst (λ (n : ℕ). BeginsWith (script_marks plan n count journal) (marks Side.Sent (history_at n count journal))) (sym (equal-number number 0 zero))
-        (zero-exact plan terms count journal none lawful few told_zero)
+        (zero-exact plan terms count journal none lawful few said_zero)
     of false apart =
         subst (λ (past : List Item). BeginsWith (script_marks plan number count journal) (marks Side.Sent past)) (sym (ap (λ (b : Bool). if b then zero_history journal else life number count journal) apart))
         (above number count apart)
 
 -- so of each session of a listener that a lawful log shows
 pub shown-whole : (plan : PlainPlan) (terms : Terms) (log : List Moment) → plan.command ≡ Command.Listen → NoneTunes plan.offers → IsLawfulLog terms none_tunes log → octets_got log < 2 ^ 32
-    → ShowsTold plan log → ShowsToldZero plan log → ShowsWhole plan log
+    → ShowsSaid plan log → ShowsSaidZero plan log → ShowsWhole plan log
 shown-whole plan terms log listens none lawful few above zero past shows =
     let most = items-shown none_tunes log past shows in
     whole-script plan terms past.journal none (lawful.items past shows) (omega (arith, few, most)) (shown-above plan terms log listens lawful few above past shows) (zero past shows)

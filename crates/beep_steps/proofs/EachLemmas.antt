@@ -1,25 +1,26 @@
 -- What is known of the log of a link makes a whole end.
 use Rattle.std.proofs.Common.{◌≡◌, ◌∙◌, refl, sym, ap, subst, ℕ, Bool, true, false, not, ◌&&◌, ◌||◌, ◌⊎◌, ⊎_elim, List, [], ◌∷◌, ◌++◌, Option, None, Some, append_assoc}
 use Rattle.std.specs.Prelude.{IsTrue, is_none}
-use Rattle.beep_frame.specs.declared.rule.Rule.{Rule}
-use Rattle.beep_history.specs.declared.journal.Side.{Side}
-use Rattle.beep_journal.specs.Broken.{none_tunes}
-use Rattle.beep_journal.specs.Journal.{Fault, Past, Shows as ShowsPast, goes_on}
-use Rattle.beep_journal.specs.Life.{is_released}
-use Rattle.beep_journal.specs.Log.{Moment, got, put, none, over, flat, got_all, put_all}
-use Rattle.beep_journal.specs.Zero.{zero_history}
-use Rattle.beep_journal.proofs.ShownLemmas.{one-shown}
-use Rattle.beep_lawful.specs.Lawful.{IsLawfulLog, IsLawfulMoment}
-use Rattle.beep_lawful.specs.Tuned.{has_tuned}
-use Rattle.beep_lawful.specs.declared.terms.Terms.{Terms}
-use Rattle.beep_talk.specs.Plan.{PlainPlan}
-use Rattle.beep_script.specs.EachEnd.{EachEnd, GoesOn, NamesFault, Stops, WritesGoing}
-use Rattle.beep_script.specs.Prompt.{IsIdle, IsPrompt, is_over}
-use Rattle.beep_wires.specs.Log.{Entry, read, wrote, quiet, ended}
-use Rattle.beep_link.specs.Causes.{ReadsWhere, WhereKnown}
+use Rattle.beep_session.specs.beep_frame.specs.declared.rule.Rule.{Rule}
+use Rattle.beep_session.specs.beep_history.specs.declared.journal.Side.{Side}
+use Rattle.beep_session.specs.beep_journal.specs.Broken.{none_tunes}
+use Rattle.beep_session.specs.beep_journal.specs.Journal.{Fault, Past, Shows as ShowsPast, goes_on}
+use Rattle.beep_session.specs.beep_journal.specs.Life.{is_released}
+use Rattle.beep_session.specs.beep_journal.specs.Log.{Moment, got, put, none, over, flat, got_all, put_all}
+use Rattle.beep_session.specs.beep_journal.specs.Zero.{zero_history}
+use Rattle.beep_session.specs.beep_journal.proofs.ShownLemmas.{one-shown}
+use Rattle.beep_session.specs.beep_lawful.specs.Lawful.{IsLawfulLog, IsLawfulMoment}
+use Rattle.beep_session.specs.beep_lawful.specs.Tuned.{has_tuned}
+use Rattle.beep_session.specs.beep_lawful.specs.declared.terms.Terms.{Terms}
+use Rattle.beep_desk.specs.beep_talk.specs.Plan.{PlainPlan}
+use Rattle.beep_desk.specs.beep_script.specs.EachEnd.{EachEnd, GoesOn, NamesFault, Stops, WritesGoing}
+use Rattle.beep_desk.specs.beep_script.specs.Prompt.{IsIdle, IsPrompt, is_over}
+use Rattle.beep_link.specs.beep_wires.specs.Log.{Entry, read, wrote, quiet, ended}
+use Rattle.beep_link.specs.Causes.{WhereKnown}
 use Rattle.beep_link.specs.declared.ended.Ended.{Ended}
 use Rattle.beep_steps.specs.EachEnd.{EachEndOn, broken_by, log_of}
-use Rattle.beep_steps.specs.Logs.{IsLawfulOn, ReadsOnlyGoing, Shows, ShowsFault, ShowsGoing, moments}
+use Rattle.beep_steps.specs.Logs.{IsLawfulOn, Shows, ShowsFault, ShowsGoing, moments}
+use Rattle.beep_steps.specs.Refusing.{ReadsOnlyGoing}
 use Rattle.beep_steps.specs.Resting.{IsPromptOn}
 use Rattle.beep_steps.specs.Scripting.{KeepsWholeOn}
 
@@ -76,13 +77,13 @@ module _ (terms : Terms) (whole : List Moment) (lawful : IsLawfulLog terms none_
   puts-going [] log a = tt
   puts-going (octet ∷ octets) log a = (put-going octet log (puts-after octets (put octet ∷ log) whole a), puts-going octets (put octet ∷ log) a)
 
-  stops-after : (log : List Entry) → After (moments log) whole → ReadsWhere (λ before. ShowsGoing terms (moments before)) log → Stops (log_of log)
+  stops-after : (log : List Entry) → After (moments log) whole → ReadsOnlyGoing terms log → Stops (log_of log)
   stops-after [] a r = tt
-  stops-after (read octets ∷ log) a r = (reads-going terms log r.0, stops-after log (gots-after octets (moments log) whole a) r.1)
+  stops-after (read octets ∷ log) a r = (reads-going terms log r.0.going, stops-after log (gots-after octets (moments log) whole a) r.1)
   stops-after (wrote octets ∷ log) a r =
       (subst (WritesGoing octets) (sym (flat-of log)) (puts-going octets (moments log) a), stops-after log (puts-after octets (moments log) whole a) r)
-  stops-after (quiet ∷ log) a r = (reads-going terms log r.0, stops-after log (after-one none (moments log) whole a) r.1)
-  stops-after (ended ∷ log) a r = (reads-going terms log r.0, stops-after log (after-one over (moments log) whole a) r.1)
+  stops-after (quiet ∷ log) a r = (reads-going terms log r.0.going, stops-after log (after-one none (moments log) whole a) r.1)
+  stops-after (ended ∷ log) a r = (reads-going terms log r.0.going, stops-after log (after-one over (moments log) whole a) r.1)
 
 -- ---- what was due
 

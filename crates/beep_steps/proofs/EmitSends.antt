@@ -1,38 +1,38 @@
 -- What goes out leaves of a sender that stands for a log.
 use Rattle.std.proofs.Common.{◌≡◌, ℕ, zero, suc, ◌≤◌, ◌==◌, nat_lt, ltb-true, eqb-true, Bool, true, false, not, ◌||◌, ◌&&◌, if◌then◌else◌, List, [], ◌∷◌, ◌++◌, map, slice_get, Option, None, Some, refl, sym, ap, ◌∙◌, subst, arith}
 use Rattle.std.specs.Prelude.{is_some}
-use Rattle.beep_frame.specs.declared.head.Head.{Head}
-use Rattle.beep_frame.specs.declared.seq.Seq.{Seq}
-use Rattle.beep_frame.specs.Frame.{framed, seq_frame, is_nul}
-use Rattle.beep_frame.specs.Spelling.{spelling}
-use Rattle.beep_history.specs.declared.journal.Side.{Side}
-use Rattle.beep_history.specs.Journal.{Item, began, passed, told}
-use Rattle.beep_history.specs.Marks.{marks, mark_modulo_2_64}
-use Rattle.beep_history.specs.Broken.{KeepsExchangeRules}
-use Rattle.beep_journal.specs.Lives.{Event, lives, is_live, has_ended}
-use Rattle.beep_journal.specs.Zero.{events}
-use Rattle.beep_journal.specs.Life.{life, life_now, is_there, history}
-use Rattle.beep_journal.specs.Log.{Moment, put_all}
-use Rattle.beep_channel.specs.Held.{Live}
-use Rattle.beep_channel.specs.Stands.{Stands}
-use Rattle.beep_outbox.specs.Queue.{marks_of as unsent_marks}
-use Rattle.beep_standing.specs.Standing.{Marks}
-use Rattle.beep_lives.specs.Lives.{live_at, can_send, IsFirstOf}
-use Rattle.beep_speaking.specs.declared.emit.Emit.{Emit}
-use Rattle.beep_upright.specs.Frames.{AreFrames, IsFramed}
-use Rattle.beep_peer.specs.Calls.{TakesTurn}
-use Rattle.beep_peer.specs.Lawfully.{SpeaksLawfully, SendsLawfully}
-use Rattle.beep_peer.specs.Peering.{is_over}
-use Rattle.beep_peer.proofs.GainLemmas.{quiet-events}
+use Rattle.beep_session.specs.beep_frame.specs.declared.head.Head.{Head}
+use Rattle.beep_session.specs.beep_frame.specs.declared.seq.Seq.{Seq}
+use Rattle.beep_session.specs.beep_frame.specs.Frame.{framed, seq_frame, is_nul}
+use Rattle.beep_session.specs.beep_frame.specs.Spelling.{spelling}
+use Rattle.beep_session.specs.beep_history.specs.declared.journal.Side.{Side}
+use Rattle.beep_session.specs.beep_history.specs.Journal.{Item, began, passed, told}
+use Rattle.beep_session.specs.beep_history.specs.Marks.{marks, mark_modulo_2_64}
+use Rattle.beep_session.specs.beep_history.specs.Broken.{KeepsExchangeRules}
+use Rattle.beep_session.specs.beep_journal.specs.Lives.{Event, lives, is_live, has_ended}
+use Rattle.beep_session.specs.beep_journal.specs.Zero.{events}
+use Rattle.beep_session.specs.beep_journal.specs.Life.{life, life_now, is_there, history}
+use Rattle.beep_session.specs.beep_journal.specs.Log.{Moment, put_all}
+use Rattle.beep_session.specs.beep_channel.specs.Held.{Live}
+use Rattle.beep_session.specs.beep_channel.specs.Stands.{Stands}
+use Rattle.beep_session.specs.beep_outbox.specs.Queue.{marks_of as unsent_marks}
+use Rattle.beep_session.specs.beep_standing.specs.Standing.{Marks}
+use Rattle.beep_session.specs.beep_lives.specs.Lives.{live_at, can_send, IsFirstOf}
+use Rattle.beep_session.specs.beep_speaking.specs.declared.emit.Emit.{Emit}
+use Rattle.beep_session.specs.beep_upright.specs.Frames.{AreFrames, IsFramed}
+use Rattle.beep_session.specs.beep_peer.specs.Calls.{TakesTurn}
+use Rattle.beep_session.specs.beep_peer.specs.Lawfully.{SpeaksLawfully, SendsLawfully}
+use Rattle.beep_session.specs.beep_peer.specs.Peering.{is_over}
+use Rattle.beep_session.specs.beep_peer.proofs.GainLemmas.{quiet-events}
 use Rattle.beep_session.specs.Channels.{IsOfPeer}
 use Rattle.beep_session.specs.Lawfully.{terms_of, IsLawfulSession}
 use Rattle.beep_session.specs.Session.{Held}
 use Rattle.beep_logged.proofs.EndLemmas.{put-append}
 use Rattle.beep_logged.proofs.WriteLemmas.{frame-written, seq-written, lawful-frame}
-use Rattle.beep_talk.specs.Plan.{PlainPlan}
-use Rattle.beep_script.specs.Requested.{requests_from}
-use Rattle.beep_script.specs.Sending.{LinesGiven, SentSome, SentWhole}
-use Rattle.beep_script.proofs.LineLemmas.{whole-goes-on, nul-ends, some-goes-on, frame-life}
+use Rattle.beep_desk.specs.beep_talk.specs.Plan.{PlainPlan}
+use Rattle.beep_desk.specs.beep_script.specs.Requested.{requests_from}
+use Rattle.beep_desk.specs.beep_script.specs.Sending.{LinesGiven, SentSome, SentWhole}
+use Rattle.beep_desk.specs.beep_script.proofs.LineLemmas.{whole-goes-on, nul-ends, some-goes-on, frame-life}
 use Rattle.beep_steps.specs.Sending.{Progress, Sends, SendsOn, went_by}
 use Rattle.beep_steps.proofs.CallLemmas.{on-so}
 use Rattle.beep_steps.proofs.CallSends.{sender-so, first-none, prepared-none}

@@ -1,24 +1,24 @@
 -- What a log shows of a sender's script above channel zero, and of what it asks there.
 use Rattle.std.proofs.Common.{◌≡◌, ℕ, ◌==◌, Bool, true, false, ◌||◌, if◌then◌else◌, List, [], ◌∷◌, ◌++◌, append_assoc, refl, sym, ap, ◌∙◌, subst}
 use Rattle.std.proofs.lemmas.List.{append-nil}
-use Rattle.beep_frame.specs.declared.kind.Kind.{Kind}
-use Rattle.beep_history.specs.declared.journal.Side.{Side}
-use Rattle.beep_history.specs.Journal.{Item, began, passed, told}
-use Rattle.beep_history.specs.Marks.{Mark, marks}
-use Rattle.beep_journal.specs.Journal.{Past}
-use Rattle.beep_journal.specs.Laws.{rest_from}
-use Rattle.beep_journal.specs.Lives.{is_live}
-use Rattle.beep_journal.specs.Zero.{channel_of, events, zero_history}
-use Rattle.beep_journal.specs.Log.{Moment, got_all, put_all}
-use Rattle.beep_outbox.specs.Queue.{Message, message_marks as given_marks}
-use Rattle.beep_standing.specs.Standing.{Marks}
-use Rattle.beep_standing.proofs.ZeroLemmas.{none-live}
+use Rattle.beep_session.specs.beep_frame.specs.declared.kind.Kind.{Kind}
+use Rattle.beep_session.specs.beep_history.specs.declared.journal.Side.{Side}
+use Rattle.beep_session.specs.beep_history.specs.Journal.{Item, began, passed, told}
+use Rattle.beep_session.specs.beep_history.specs.Marks.{Mark, marks}
+use Rattle.beep_session.specs.beep_journal.specs.Journal.{Past}
+use Rattle.beep_session.specs.beep_journal.specs.Laws.{rest_from}
+use Rattle.beep_session.specs.beep_journal.specs.Lives.{is_live}
+use Rattle.beep_session.specs.beep_journal.specs.Zero.{channel_of, events, zero_history}
+use Rattle.beep_session.specs.beep_journal.specs.Log.{Moment, got_all, put_all}
+use Rattle.beep_session.specs.beep_outbox.specs.Queue.{Message, message_marks as given_marks}
+use Rattle.beep_session.specs.beep_standing.specs.Standing.{Marks}
+use Rattle.beep_session.specs.beep_standing.proofs.ZeroLemmas.{none-live}
 use Rattle.beep_session.specs.Lawfully.{IsLawfulSession}
 use Rattle.beep_session.specs.Session.{Held}
-use Rattle.beep_talk.specs.Plan.{PlainPlan}
-use Rattle.beep_script.specs.Requested.{requests_from, sender_texts}
-use Rattle.beep_script.specs.Script.{script_marks}
-use Rattle.beep_script.proofs.RequestedLemmas.{requests-append}
+use Rattle.beep_desk.specs.beep_talk.specs.Plan.{PlainPlan}
+use Rattle.beep_desk.specs.beep_script.specs.Requested.{requests_from, sender_texts}
+use Rattle.beep_desk.specs.beep_script.specs.Script.{script_marks}
+use Rattle.beep_desk.specs.beep_script.proofs.RequestedLemmas.{requests-append}
 use Rattle.beep_replies.specs.Replies.{KeepsAbove}
 use Rattle.beep_replies.proofs.LogLemmas.{comes-so, goes-so, kept-comes, kept-goes, IsReceived, IsSent}
 use Rattle.beep_steps.specs.Sending.{Progress, IsSender, at_first}

@@ -1,43 +1,43 @@
 -- What a log shows of a sender that has ended.
 use Rattle.std.proofs.Common.{◌≡◌, ℕ, Bool, true, false, List, [], ◌∷◌, ◌++◌, if◌then◌else◌, take, drop, append_assoc, take-append-drop, flat_map, None, refl, sym, ap, ◌∙◌, subst, arith}
-use Rattle.beep_frame.specs.declared.kind.Kind.{Kind}
-use Rattle.beep_frame.specs.Frame.{is_msg}
-use Rattle.beep_history.specs.declared.journal.Side.{Side}
-use Rattle.beep_history.specs.Journal.{Item}
-use Rattle.beep_history.specs.Marks.{marks}
-use Rattle.beep_journal.specs.Broken.{none_tunes}
-use Rattle.beep_journal.specs.declared.role.Role.{Role}
-use Rattle.beep_journal.specs.Journal.{Past, Shows as Shown}
-use Rattle.beep_journal.specs.Laws.{IsUnbroken}
-use Rattle.beep_journal.specs.Zero.{zero_history}
-use Rattle.beep_journal.proofs.UnbrokenLemmas.{shown-unbroken}
-use Rattle.beep_history.specs.Broken.{KeepsExchangeRules}
-use Rattle.beep_journal.specs.Life.{is_released}
-use Rattle.beep_journal.specs.Log.{Moment, got_all}
-use Rattle.beep_journal.proofs.ShownLemmas.{one-shown}
-use Rattle.beep_lawful.specs.declared.terms.Terms.{Terms}
-use Rattle.beep_outbox.specs.Queue.{Message, message_marks as given_marks}
-use Rattle.beep_standing.specs.Standing.{Marks, AreLiveBy}
-use Rattle.beep_standing.proofs.ZeroLemmas.{none-live}
-use Rattle.beep_talk.specs.declared.plan.Command.{Command}
-use Rattle.beep_talk.specs.Plan.{PlainPlan}
-use Rattle.beep_talk.specs.Talk.{reply_of}
-use Rattle.beep_script.specs.Script.{message_marks}
-use Rattle.beep_script.specs.EachEnd.{WasGranted, HasSentAll}
-use Rattle.beep_script.specs.Refused.{refusal}
+use Rattle.beep_session.specs.beep_frame.specs.declared.kind.Kind.{Kind}
+use Rattle.beep_session.specs.beep_frame.specs.Frame.{is_msg}
+use Rattle.beep_session.specs.beep_history.specs.declared.journal.Side.{Side}
+use Rattle.beep_session.specs.beep_history.specs.Journal.{Item}
+use Rattle.beep_session.specs.beep_history.specs.Marks.{marks}
+use Rattle.beep_session.specs.beep_journal.specs.Broken.{none_tunes}
+use Rattle.beep_session.specs.beep_journal.specs.declared.role.Role.{Role}
+use Rattle.beep_session.specs.beep_journal.specs.Journal.{Past, Shows as Shown}
+use Rattle.beep_session.specs.beep_journal.specs.Laws.{IsUnbroken}
+use Rattle.beep_session.specs.beep_journal.specs.Zero.{zero_history}
+use Rattle.beep_session.specs.beep_journal.proofs.UnbrokenLemmas.{shown-unbroken}
+use Rattle.beep_session.specs.beep_history.specs.Broken.{KeepsExchangeRules}
+use Rattle.beep_session.specs.beep_journal.specs.Life.{is_released}
+use Rattle.beep_session.specs.beep_journal.specs.Log.{Moment, got_all}
+use Rattle.beep_session.specs.beep_journal.proofs.ShownLemmas.{one-shown}
+use Rattle.beep_session.specs.beep_lawful.specs.declared.terms.Terms.{Terms}
+use Rattle.beep_session.specs.beep_outbox.specs.Queue.{Message, message_marks as given_marks}
+use Rattle.beep_session.specs.beep_standing.specs.Standing.{Marks, AreLiveBy}
+use Rattle.beep_session.specs.beep_standing.proofs.ZeroLemmas.{none-live}
+use Rattle.beep_desk.specs.beep_talk.specs.declared.plan.Command.{Command}
+use Rattle.beep_desk.specs.beep_talk.specs.Plan.{PlainPlan}
+use Rattle.beep_desk.specs.beep_talk.specs.Talk.{reply_of}
+use Rattle.beep_desk.specs.beep_script.specs.Script.{message_marks}
+use Rattle.beep_desk.specs.beep_script.specs.EachEnd.{WasGranted, HasSentAll}
+use Rattle.beep_desk.specs.beep_script.specs.Refused.{refusal}
 use Rattle.beep_released.proofs.ClosedLemmas.{close-granted, granted-count}
-use Rattle.beep_script.specs.Requested.{requests_from, sender_texts}
-use Rattle.beep_script.proofs.RequestedLemmas.{one-request}
-use Rattle.beep_peer.specs.Peering.{is_over}
+use Rattle.beep_desk.specs.beep_script.specs.Requested.{requests_from, sender_texts}
+use Rattle.beep_desk.specs.beep_script.proofs.RequestedLemmas.{one-request}
+use Rattle.beep_session.specs.beep_peer.specs.Peering.{is_over}
 use Rattle.beep_session.specs.declared.event.Event.{Event}
 use Rattle.beep_session.specs.Session.{Held}
 use Rattle.beep_session.specs.Channels.{IsOfPeer}
 use Rattle.beep_session.specs.Feeds.{Feeds}
 use Rattle.beep_session.specs.Lawfully.{terms_of, IsLawfulSession, FeedsLawfully}
-use Rattle.beep_peer.specs.Peering.{IsPeer}
+use Rattle.beep_session.specs.beep_peer.specs.Peering.{IsPeer}
 use Rattle.beep_logged.specs.Logged.{IsSound}
 use Rattle.beep_logged.proofs.EndLemmas.{released-gots}
-use Rattle.beep_wires.specs.Log.{Entry, read}
+use Rattle.beep_link.specs.beep_wires.specs.Log.{Entry, read}
 use Rattle.beep_link.specs.Causes.{ended_by}
 use Rattle.beep_link.specs.declared.ended.Stop.{Stop}
 use Rattle.beep_steps.specs.Logs.{moments, command_of, Shows, ShowsFault, StopsOn}

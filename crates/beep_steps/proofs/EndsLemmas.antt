@@ -2,24 +2,24 @@
 use Rattle.std.proofs.Common.{◌≡◌, ◌∙◌, refl, sym, ap, subst, ℕ, ◌==◌, Bool, true, false, not, ◌&&◌, ◌||◌, inl, inr, List, [], ◌∷◌, ◌++◌, take, drop, Option, Some, None, append_assoc}
 use Rattle.std.specs.Option.{is_none}
 use Rattle.std.proofs.lemmas.List.{append_cancel_left}
-use Rattle.beep_frame.specs.declared.rule.Rule.{Rule}
-use Rattle.beep_frame.specs.Frame.{is_msg}
-use Rattle.beep_history.specs.declared.journal.Side.{Side}
-use Rattle.beep_history.specs.Journal.{Item, passed}
-use Rattle.beep_history.specs.Broken.{under_way}
-use Rattle.beep_journal.specs.Zero.{zero_history, completes_form}
-use Rattle.beep_journal.specs.Broken.{none_tunes, broken_content}
-use Rattle.beep_journal.specs.Journal.{Past, Fault, Shows, Takes, TakesWhere, EndsFrame, fault_at, passes, goes_on, spelled}
-use Rattle.beep_journal.specs.Life.{is_released}
-use Rattle.beep_journal.specs.Log.{Moment, got, got_all}
-use Rattle.beep_journal.proofs.ShownLemmas.{one-shown}
-use Rattle.beep_frame.specs.Laws.{Means}
-use Rattle.beep_frame.specs.Fed.{fed_of}
-use Rattle.beep_frame.proofs.LawLemmas.{means}
-use Rattle.beep_hearing.specs.Hears.{Breaks, Join}
-use Rattle.beep_peer.proofs.GainLemmas.{gained-released}
-use Rattle.beep_peer.specs.Peering.{IsPeer}
-use Rattle.beep_standing.specs.Standing.{Marks}
+use Rattle.beep_session.specs.beep_frame.specs.declared.rule.Rule.{Rule}
+use Rattle.beep_session.specs.beep_frame.specs.Frame.{is_msg}
+use Rattle.beep_session.specs.beep_history.specs.declared.journal.Side.{Side}
+use Rattle.beep_session.specs.beep_history.specs.Journal.{Item, passed}
+use Rattle.beep_session.specs.beep_history.specs.Broken.{under_way}
+use Rattle.beep_session.specs.beep_journal.specs.Zero.{zero_history, completes_form}
+use Rattle.beep_session.specs.beep_journal.specs.Broken.{none_tunes, broken_content}
+use Rattle.beep_session.specs.beep_journal.specs.Journal.{Past, Fault, Shows, Takes, TakesWhere, EndsFrame, fault_at, passes, goes_on, spelled}
+use Rattle.beep_session.specs.beep_journal.specs.Life.{is_released}
+use Rattle.beep_session.specs.beep_journal.specs.Log.{Moment, got, got_all}
+use Rattle.beep_session.specs.beep_journal.proofs.ShownLemmas.{one-shown}
+use Rattle.beep_session.specs.beep_frame.specs.Laws.{Means}
+use Rattle.beep_session.specs.beep_frame.specs.Fed.{fed_of}
+use Rattle.beep_session.specs.beep_frame.proofs.LawLemmas.{means}
+use Rattle.beep_session.specs.beep_hearing.specs.Hears.{Breaks, Join}
+use Rattle.beep_session.specs.beep_peer.proofs.GainLemmas.{gained-released}
+use Rattle.beep_session.specs.beep_peer.specs.Peering.{IsPeer}
+use Rattle.beep_session.specs.beep_standing.specs.Standing.{Marks}
 use Rattle.beep_session.specs.declared.event.Event.{Event}
 use Rattle.beep_session.specs.Feeds.{Feeds}
 use Rattle.beep_session.specs.Lawfully.{terms_of}

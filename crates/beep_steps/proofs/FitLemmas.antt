@@ -2,8 +2,8 @@
 use Rattle.std.proofs.Common.{◌≡◌, ◌≤◌, true, ◌&&◌, nat_lt, nat_le, length, ap₂, arith}
 use Rattle.std.specs.List.{list_all}
 use Rattle.std.proofs.lemmas.Bool.Decides.{nat_tests}
-use Rattle.beep_chars.specs.Characters.{is_allowed}
-use Rattle.beep_settings.specs.declared.settings.Settings.{Settings}
+use Rattle.beep_session.specs.beep_chars.specs.Characters.{is_allowed}
+use Rattle.beep_session.specs.beep_settings.specs.declared.settings.Settings.{Settings}
 use Rattle.beep_steps.specs.Ends.{AreFit}
 
 module _ (settings : Settings) (least : 4096 ≤ settings.window) (most : settings.window ≤ 65536) (some : 1 ≤ settings.piece) (few : settings.piece ≤ 4096) (begun : 1 ≤ length settings.raw_uri) (short : length settings.raw_uri ≤ 255) (allowed : list_all is_allowed settings.raw_uri ≡ true) where

@@ -1,27 +1,27 @@
 -- What goes out and what comes, by what a listener keeps.
 use Rattle.std.proofs.Common.{◌≡◌, ◌∙◌, refl, sym, ap, subst, ℕ, ◌==◌, Bool, true, false, not, ◌&&◌, ◌||◌, List, [], ◌∷◌, ◌++◌, take, map, arith}
 use Rattle.std.specs.List.{list_any}
-use Rattle.beep_frame.specs.declared.head.Head.{Head}
-use Rattle.beep_frame.specs.Frame.{framed, seq_frame}
-use Rattle.beep_frame.specs.Spelling.{spelling}
-use Rattle.beep_history.specs.declared.journal.Side.{Side}
-use Rattle.beep_history.specs.Journal.{Item, began, passed, told, same_side}
-use Rattle.beep_history.specs.Marks.{marks, mark_modulo_2_64}
-use Rattle.beep_journal.specs.Broken.{none_tunes}
-use Rattle.beep_journal.specs.Journal.{Past, Shows}
-use Rattle.beep_journal.specs.Life.{history, is_there, is_released}
-use Rattle.beep_journal.specs.Log.{Moment, got, got_all, put_all}
-use Rattle.beep_journal.proofs.JournalLemmas.{above-there, above-others}
-use Rattle.beep_journal.proofs.ShownLemmas.{one-shown}
-use Rattle.beep_lawful.specs.declared.terms.Terms.{Terms}
-use Rattle.beep_hearing.specs.Hears.{Join, MayJoin, ends_zero}
-use Rattle.beep_speaking.specs.declared.emit.Emit.{Emit}
-use Rattle.beep_upright.specs.Frames.{AreFrames, IsFramed}
-use Rattle.beep_standing.specs.Standing.{Marks}
-use Rattle.beep_peer.specs.Peering.{IsPeer, is_over}
+use Rattle.beep_session.specs.beep_frame.specs.declared.head.Head.{Head}
+use Rattle.beep_session.specs.beep_frame.specs.Frame.{framed, seq_frame}
+use Rattle.beep_session.specs.beep_frame.specs.Spelling.{spelling}
+use Rattle.beep_session.specs.beep_history.specs.declared.journal.Side.{Side}
+use Rattle.beep_session.specs.beep_history.specs.Journal.{Item, began, passed, told, same_side}
+use Rattle.beep_session.specs.beep_history.specs.Marks.{marks, mark_modulo_2_64}
+use Rattle.beep_session.specs.beep_journal.specs.Broken.{none_tunes}
+use Rattle.beep_session.specs.beep_journal.specs.Journal.{Past, Shows}
+use Rattle.beep_session.specs.beep_journal.specs.Life.{history, is_there, is_released}
+use Rattle.beep_session.specs.beep_journal.specs.Log.{Moment, got, got_all, put_all}
+use Rattle.beep_session.specs.beep_journal.proofs.JournalLemmas.{above-there, above-others}
+use Rattle.beep_session.specs.beep_journal.proofs.ShownLemmas.{one-shown}
+use Rattle.beep_session.specs.beep_lawful.specs.declared.terms.Terms.{Terms}
+use Rattle.beep_session.specs.beep_hearing.specs.Hears.{Join, MayJoin, ends_zero}
+use Rattle.beep_session.specs.beep_speaking.specs.declared.emit.Emit.{Emit}
+use Rattle.beep_session.specs.beep_upright.specs.Frames.{AreFrames, IsFramed}
+use Rattle.beep_session.specs.beep_standing.specs.Standing.{Marks}
+use Rattle.beep_session.specs.beep_peer.specs.Peering.{IsPeer, is_over}
 use Rattle.beep_steps.proofs.OnLemmas.{Heard}
-use Rattle.beep_peer.specs.Calls.{Settles}
-use Rattle.beep_peer.specs.Lawfully.{SpeaksLawfully}
+use Rattle.beep_session.specs.beep_peer.specs.Calls.{Settles}
+use Rattle.beep_session.specs.beep_peer.specs.Lawfully.{SpeaksLawfully}
 use Rattle.beep_session.specs.declared.event.Event.{Event}
 use Rattle.beep_session.specs.Feeds.{Feeds, GainsSome, HasArrived, ZeroWaits}
 use Rattle.beep_session.specs.Lawfully.{terms_of, IsLawfulSession}
@@ -30,8 +30,8 @@ use Rattle.beep_logged.specs.Logged.{IsLogged, IsLoggedWaiting}
 use Rattle.beep_logged.proofs.EndLemmas.{put-append}
 use Rattle.beep_logged.proofs.ReadLemmas.{read-joins, read-waits}
 use Rattle.beep_logged.proofs.WriteLemmas.{frame-written, seq-written, lawful-frame}
-use Rattle.beep_talk.specs.declared.plan.Command.{Command}
-use Rattle.beep_talk.specs.Plan.{PlainPlan}
+use Rattle.beep_desk.specs.beep_talk.specs.declared.plan.Command.{Command}
+use Rattle.beep_desk.specs.beep_talk.specs.Plan.{PlainPlan}
 use Rattle.beep_steps.specs.Logs.{AreTaken, StandsOn, WaitsOn}
 use Rattle.beep_steps.specs.Steps.{Spoke, CameMore, CameFrame, CameZero, SettledOn, arrived_marks, is_own}
 use Rattle.beep_steps.proofs.StepLemmas.{told-rests, said-steps, quiet-rests, zero-steps}

@@ -1,18 +1,18 @@
 -- The greeting of an end that offers one profile is read as what it says.
 use Rattle.std.proofs.Common.{◌≡◌, ◌↔◌, ℕ, ◌≤◌, nat_lt, nat_le, Bool, true, false, ◌&&◌, List, [], ◌∷◌, length, Some, codes, refl, ap, arith}
 use Rattle.std.specs.List.{list_all}
-use Rattle.beep_chars.specs.Characters.{is_allowed}
-use Rattle.beep_chars.proofs.BoolLemmas.{both, right_of}
-use Rattle.beep_text.specs.declared.limits.TheConstants.{MAX_TEXT}
-use Rattle.beep_text.specs.Tree.{Tree, nothing}
-use Rattle.beep_text.specs.Lawful.{are_items}
-use Rattle.beep_mgmt.specs.Form.{Form}
-use Rattle.beep_mgmt.specs.Message.{message_text, message_said, Says}
-use Rattle.beep_mgmt.specs.Said.{form_said}
-use Rattle.beep_mgmt.specs.Written.{setting, element, element_as, with_element}
-use Rattle.beep_decide.specs.Decide.{PlainOffer}
-use Rattle.beep_answering.specs.Sent.{is_uri, greeting_of}
-use Rattle.beep_answering.proofs.LengthLemmas.{greeting-length, profile-plain}
+use Rattle.beep_session.specs.beep_chars.specs.Characters.{is_allowed}
+use Rattle.beep_session.specs.beep_chars.proofs.BoolLemmas.{both, right_of}
+use Rattle.beep_session.specs.beep_text.specs.declared.limits.TheConstants.{MAX_TEXT}
+use Rattle.beep_session.specs.beep_text.specs.Tree.{Tree, nothing}
+use Rattle.beep_session.specs.beep_text.specs.Lawful.{are_items}
+use Rattle.beep_session.specs.beep_mgmt.specs.Form.{Form}
+use Rattle.beep_session.specs.beep_mgmt.specs.Message.{message_text, message_said, Says}
+use Rattle.beep_session.specs.beep_mgmt.specs.Said.{form_said}
+use Rattle.beep_session.specs.beep_mgmt.specs.Written.{setting, element, element_as, with_element}
+use Rattle.beep_session.specs.beep_decide.specs.Decide.{PlainOffer}
+use Rattle.beep_session.specs.beep_answering.specs.Sent.{is_uri, greeting_of}
+use Rattle.beep_session.specs.beep_answering.proofs.LengthLemmas.{greeting-length, profile-plain}
 use Rattle.beep_steps.proofs.TextsLemmas.{reads-back}
 
 -- one offer, which tunes nothing

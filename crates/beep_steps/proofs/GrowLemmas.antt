@@ -1,14 +1,14 @@
 -- What is read adds to the journal that a log shows, and takes nothing from it.
 use Rattle.std.proofs.Common.{◌≡◌, inl, inr, ℕ, Bool, true, false, not, ◌&&◌, List, [], ◌∷◌, ◌++◌, Option, None, Some, refl, sym, ap, ◌∙◌, subst}
-use Rattle.beep_frame.specs.declared.head.Head.{Head}
-use Rattle.beep_frame.specs.declared.rule.Rule.{Rule}
-use Rattle.beep_frame.specs.declared.seq.Seq.{Seq}
-use Rattle.beep_history.specs.declared.journal.Side.{Side}
-use Rattle.beep_history.specs.Journal.{Item, began, passed, told}
-use Rattle.beep_journal.specs.Broken.{none_tunes, broken_head, broken_seq}
-use Rattle.beep_journal.specs.Journal.{Past, Shows, TakesOctet, TakesWhere, begins, seq_ends, goes_on}
-use Rattle.beep_journal.specs.Life.{is_released}
-use Rattle.beep_journal.specs.Log.{Moment, got, got_all}
+use Rattle.beep_session.specs.beep_frame.specs.declared.head.Head.{Head}
+use Rattle.beep_session.specs.beep_frame.specs.declared.rule.Rule.{Rule}
+use Rattle.beep_session.specs.beep_frame.specs.declared.seq.Seq.{Seq}
+use Rattle.beep_session.specs.beep_history.specs.declared.journal.Side.{Side}
+use Rattle.beep_session.specs.beep_history.specs.Journal.{Item, began, passed, told}
+use Rattle.beep_session.specs.beep_journal.specs.Broken.{none_tunes, broken_head, broken_seq}
+use Rattle.beep_session.specs.beep_journal.specs.Journal.{Past, Shows, TakesOctet, TakesWhere, begins, seq_ends, goes_on}
+use Rattle.beep_session.specs.beep_journal.specs.Life.{is_released}
+use Rattle.beep_session.specs.beep_journal.specs.Log.{Moment, got, got_all}
 
 -- the new items come after the old ones
 pub record Adds (old new : List Item) : Type 0 where

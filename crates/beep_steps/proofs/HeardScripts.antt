@@ -1,18 +1,18 @@
 -- What comes leaves of a sender's script above channel zero.
 use Rattle.std.proofs.Common.{◌≡◌, ℕ, ◌≤◌, Bool, true, false, ◌||◌, List, [], ◌∷◌, ◌++◌, take, sym, ◌∙◌, subst}
 use Rattle.std.specs.List.{list_any}
-use Rattle.beep_history.specs.Journal.{Item}
-use Rattle.beep_journal.specs.Lives.{Event as Moment_of_life, lives}
-use Rattle.beep_journal.specs.Zero.{events}
-use Rattle.beep_journal.specs.Log.{Moment, got_all}
-use Rattle.beep_standing.specs.Standing.{Marks}
-use Rattle.beep_hearing.specs.Hears.{Join, ends_zero}
-use Rattle.beep_peer.proofs.GainLemmas.{gained-events}
+use Rattle.beep_session.specs.beep_history.specs.Journal.{Item}
+use Rattle.beep_session.specs.beep_journal.specs.Lives.{Event as Moment_of_life, lives}
+use Rattle.beep_session.specs.beep_journal.specs.Zero.{events}
+use Rattle.beep_session.specs.beep_journal.specs.Log.{Moment, got_all}
+use Rattle.beep_session.specs.beep_standing.specs.Standing.{Marks}
+use Rattle.beep_session.specs.beep_hearing.specs.Hears.{Join, ends_zero}
+use Rattle.beep_session.specs.beep_peer.proofs.GainLemmas.{gained-events}
 use Rattle.beep_session.specs.declared.event.Event.{Event}
 use Rattle.beep_session.specs.Channels.{IsOfPeer}
 use Rattle.beep_session.specs.Lawfully.{terms_of, IsLawfulSession, FeedsLawfully, GainsLawfully, WaitsLawfully}
 use Rattle.beep_session.specs.Session.{Held}
-use Rattle.beep_talk.specs.Plan.{PlainPlan}
+use Rattle.beep_desk.specs.beep_talk.specs.Plan.{PlainPlan}
 use Rattle.beep_steps.specs.Sending.{Progress, Sends}
 use Rattle.beep_steps.specs.Scripting.{Scripts, ScriptedOn, ScriptedWaiting}
 use Rattle.beep_steps.proofs.HeardSends.{received-item, gained-sends, few, gained-sending, waits-sending}

@@ -1,23 +1,23 @@
 -- What comes leaves of a sender that stands for a log.
 use Rattle.std.proofs.Common.{◌≡◌, ℕ, ◌≤◌, Bool, true, false, ◌||◌, List, [], ◌∷◌, ◌++◌, refl, sym, ap, ◌∙◌, subst}
 use Rattle.std.specs.List.{list_any}
-use Rattle.beep_history.specs.declared.journal.Side.{Side}
-use Rattle.beep_history.specs.Journal.{Item, began, passed, told}
-use Rattle.beep_journal.specs.Lives.{Event as Moment_of_life, lives, is_live}
-use Rattle.beep_journal.specs.Zero.{events}
-use Rattle.beep_journal.specs.Life.{is_there}
-use Rattle.beep_journal.specs.Log.{Moment, got_all}
-use Rattle.beep_lawful.specs.declared.terms.Terms.{Terms}
-use Rattle.beep_standing.specs.Standing.{Marks}
-use Rattle.beep_hearing.specs.Hears.{Join, MayJoin, ends_zero}
-use Rattle.beep_peer.proofs.GainLemmas.{gained-events}
+use Rattle.beep_session.specs.beep_history.specs.declared.journal.Side.{Side}
+use Rattle.beep_session.specs.beep_history.specs.Journal.{Item, began, passed, told}
+use Rattle.beep_session.specs.beep_journal.specs.Lives.{Event as Moment_of_life, lives, is_live}
+use Rattle.beep_session.specs.beep_journal.specs.Zero.{events}
+use Rattle.beep_session.specs.beep_journal.specs.Life.{is_there}
+use Rattle.beep_session.specs.beep_journal.specs.Log.{Moment, got_all}
+use Rattle.beep_session.specs.beep_lawful.specs.declared.terms.Terms.{Terms}
+use Rattle.beep_session.specs.beep_standing.specs.Standing.{Marks}
+use Rattle.beep_session.specs.beep_hearing.specs.Hears.{Join, MayJoin, ends_zero}
+use Rattle.beep_session.specs.beep_peer.proofs.GainLemmas.{gained-events}
 use Rattle.beep_session.specs.declared.event.Event.{Event}
 use Rattle.beep_session.specs.Channels.{IsOfPeer}
 use Rattle.beep_session.specs.Feeds.{Feeds}
 use Rattle.beep_session.specs.Lawfully.{terms_of, IsLawfulSession, FeedsLawfully, GainsLawfully, WaitsLawfully}
 use Rattle.beep_session.specs.Session.{Held}
-use Rattle.beep_talk.specs.Plan.{PlainPlan}
-use Rattle.beep_script.proofs.LineLemmas.{IsNoSent}
+use Rattle.beep_desk.specs.beep_talk.specs.Plan.{PlainPlan}
+use Rattle.beep_desk.specs.beep_script.proofs.LineLemmas.{IsNoSent}
 use Rattle.beep_steps.specs.Logs.{ShowsFault}
 use Rattle.beep_steps.specs.Sending.{Progress, Sends, IsSender, SendsOn, SendsWaiting}
 use Rattle.beep_steps.proofs.CallLemmas.{gained-on, waits-on, breaks-on}

@@ -54,7 +54,7 @@ pub mod DeskBorn
 pub mod DeskMet
 pub mod DeskAnswers
 pub mod DeskBegins
-pub mod DeskTold
+pub mod DeskSaid
 pub mod DeskSmall
 pub mod RestLemmas
 pub mod RestCalls

@@ -3,23 +3,23 @@
 use Rattle.std.proofs.Common.{◌≡◌, ℕ, ◌+◌, ◌<◌, ◌≤◌, ◌==◌, nat_lt, Bool, true, false, not, ◌&&◌, ◌||◌, if◌then◌else◌, List, [], ◌∷◌, ◌++◌, length, Option, None, Some, ◌⊎◌, inl, inr, refl, sym, ap, ◌∙◌, subst, arith}
 use Rattle.std.proofs.lemmas.Bool.{eqb-true}
 use Rattle.std.proofs.lemmas.Bool.Decides.{nat_tests}
-use Rattle.beep_frame.specs.declared.kind.Kind.{Kind}
-use Rattle.beep_frame.specs.Frame.{is_msg, same_kind}
-use Rattle.beep_history.specs.declared.journal.Side.{Side}
-use Rattle.beep_history.specs.Journal.{Item, began, passed, told, same_side}
-use Rattle.beep_history.specs.Marks.{position_of}
-use Rattle.beep_text.specs.Said.{element_said}
-use Rattle.beep_mgmt.specs.Form.{Form, greeting, start, chosen, close, okay, fault}
-use Rattle.beep_mgmt.specs.Message.{message_said}
-use Rattle.beep_journal.specs.Lives.{Event, close_came, start_granted, close_granted, lives, has_ended, life_named, is_live}
-use Rattle.beep_journal.specs.Zero.{channel_of, zero_history, zero_events, gathered, asked, said_to, completes_form, coming, granting, events}
-use Rattle.beep_journal.proofs.MomentLemmas.{named-within}
-use Rattle.beep_decide.specs.Asks.{is_close_of}
-use Rattle.beep_asked.specs.Kept.{Kept, closes_one, closes}
-use Rattle.beep_asked.specs.Asked.{names_live, names_life, AreAsked}
-use Rattle.beep_lawful.specs.Closing.{has_begun}
-use Rattle.beep_talk.specs.declared.plan.Command.{Command}
-use Rattle.beep_script.specs.Refused.{close_code, fault_code, refused_by, refused_at, refusal}
+use Rattle.beep_session.specs.beep_frame.specs.declared.kind.Kind.{Kind}
+use Rattle.beep_session.specs.beep_frame.specs.Frame.{is_msg, same_kind}
+use Rattle.beep_session.specs.beep_history.specs.declared.journal.Side.{Side}
+use Rattle.beep_session.specs.beep_history.specs.Journal.{Item, began, passed, told, same_side}
+use Rattle.beep_session.specs.beep_history.specs.Marks.{position_of}
+use Rattle.beep_session.specs.beep_text.specs.Said.{element_said}
+use Rattle.beep_session.specs.beep_mgmt.specs.Form.{Form, greeting, start, chosen, close, okay, fault}
+use Rattle.beep_session.specs.beep_mgmt.specs.Message.{message_said}
+use Rattle.beep_session.specs.beep_journal.specs.Lives.{Event, close_came, start_granted, close_granted, lives, has_ended, life_named, is_live}
+use Rattle.beep_session.specs.beep_journal.specs.Zero.{channel_of, zero_history, zero_events, gathered, asked, said_to, completes_form, coming, granting, events}
+use Rattle.beep_session.specs.beep_journal.proofs.MomentLemmas.{named-within}
+use Rattle.beep_session.specs.beep_decide.specs.Asks.{is_close_of}
+use Rattle.beep_session.specs.beep_asked.specs.Kept.{Kept, closes_one, closes}
+use Rattle.beep_session.specs.beep_asked.specs.Asked.{names_live, names_life, AreAsked}
+use Rattle.beep_session.specs.beep_lawful.specs.Closing.{has_begun}
+use Rattle.beep_desk.specs.beep_talk.specs.declared.plan.Command.{Command}
+use Rattle.beep_desk.specs.beep_script.specs.Refused.{close_code, fault_code, refused_by, refused_at, refusal}
 use Rattle.beep_steps.proofs.RefusalLemmas.{zero-where, unbegun-before, none-before, none-now}
 
 -- ---- what a request names

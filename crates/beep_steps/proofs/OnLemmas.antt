@@ -3,14 +3,14 @@ use Rattle.std.proofs.Common.{◌≡◌, ◌⊎◌, inl, inr, ℕ, ◌+◌, ◌-
 use Rattle.std.proofs.lemmas.List.{take_rest, length-drop}
 use Rattle.std.proofs.Math.Seq.{take-length}
 use Rattle.std.specs.Prelude.{is_some, Result, Ok, Err, IfOk, IfErr, OnOk}
-use Rattle.beep_frame.specs.Modulo.{modulo_2_64}
-use Rattle.beep_frame.specs.declared.rule.Rule.{Rule}
-use Rattle.beep_history.specs.Journal.{Item}
-use Rattle.beep_journal.specs.Log.{Moment, got, got_all}
-use Rattle.beep_journal.specs.Life.{is_released}
-use Rattle.beep_lawful.specs.declared.terms.Terms.{Terms}
-use Rattle.beep_standing.specs.Standing.{Marks}
-use Rattle.beep_peer.specs.Peering.{IsPeer, is_over}
+use Rattle.beep_session.specs.beep_frame.specs.Modulo.{modulo_2_64}
+use Rattle.beep_session.specs.beep_frame.specs.declared.rule.Rule.{Rule}
+use Rattle.beep_session.specs.beep_history.specs.Journal.{Item}
+use Rattle.beep_session.specs.beep_journal.specs.Log.{Moment, got, got_all}
+use Rattle.beep_session.specs.beep_journal.specs.Life.{is_released}
+use Rattle.beep_session.specs.beep_lawful.specs.declared.terms.Terms.{Terms}
+use Rattle.beep_session.specs.beep_standing.specs.Standing.{Marks}
+use Rattle.beep_session.specs.beep_peer.specs.Peering.{IsPeer, is_over}
 use Rattle.beep_session.specs.Session.{Held}
 use Rattle.beep_session.specs.Lawfully.{terms_of, IsLawfulSession, FeedsLawfully}
 use Rattle.beep_session.specs.declared.event.Event.{Event}
@@ -18,7 +18,7 @@ use Rattle.beep_session.specs.Channels.{IsOfPeer}
 use Rattle.beep_session.specs.Feeds.{Feeds}
 use Rattle.beep_logged.proofs.EndLemmas.{released-gots, broken-gots, reads-lawful, sound-of}
 use Rattle.beep_logged.proofs.ReadLemmas.{first-logged}
-use Rattle.beep_wires.specs.Log.{Entry, read, wrote, quiet, ended}
+use Rattle.beep_link.specs.beep_wires.specs.Log.{Entry, read, wrote, quiet, ended}
 use Rattle.beep_link.specs.Causes.{WhereKnown, ended_by}
 use Rattle.beep_link.specs.declared.ended.Ended.{Ended}
 use Rattle.beep_link.specs.declared.ended.Stop.{Stop}
@@ -208,11 +208,11 @@ shows-lawful terms (Ended.Cut left) log h = h.sound.lawful
 shows-lawful terms (Ended.Idle count) log h = h.sound.lawful
 shows-lawful terms (Ended.Spent count) log h = h.sound.lawful
 
-pub told-lawful : (terms : Terms) (cause : Ended) (log : Option (List Entry)) → WhereKnown (Shows terms cause) log → WhereKnown (IsLawfulOn terms) log
-told-lawful terms cause None h = tt
-told-lawful terms cause (Some log) h = shows-lawful terms cause log h
+pub known-lawful : (terms : Terms) (cause : Ended) (log : Option (List Entry)) → WhereKnown (Shows terms cause) log → WhereKnown (IsLawfulOn terms) log
+known-lawful terms cause None h = tt
+known-lawful terms cause (Some log) h = shows-lawful terms cause log h
 
 -- nothing was read or written
-pub none-told : (P : List Entry → Type 0) (log : Option (List Entry)) → P [] → (log ≡ None) ⊎ (log ≡ Some []) → WhereKnown P log
-none-told P log p (inl e) = subst (WhereKnown P) (sym e) tt
-none-told P log p (inr e) = subst (WhereKnown P) (sym e) p
+pub none-known : (P : List Entry → Type 0) (log : Option (List Entry)) → P [] → (log ≡ None) ⊎ (log ≡ Some []) → WhereKnown P log
+none-known P log p (inl e) = subst (WhereKnown P) (sym e) tt
+none-known P log p (inr e) = subst (WhereKnown P) (sym e) p

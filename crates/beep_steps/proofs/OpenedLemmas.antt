@@ -3,32 +3,32 @@ use Rattle.std.proofs.Common.{◌≡◌, ◌∙◌, refl, sym, ap, ℕ, zero, su
 use Rattle.std.specs.Prelude.{is_some, nat_lt}
 use Rattle.std.specs.List.{list_any}
 use Rattle.std.proofs.lemmas.Bool.Decides.{nat_tests}
-use Rattle.beep_frame.specs.Frame.{is_msg}
-use Rattle.beep_history.specs.declared.journal.Side.{Side}
-use Rattle.beep_history.specs.Journal.{Item}
-use Rattle.beep_history.specs.Marks.{Mark, octet, end}
-use Rattle.beep_outbox.specs.Queue.{marks_of as unsent_marks}
-use Rattle.beep_channel.specs.Held.{Live}
-use Rattle.beep_channel.specs.Stands.{Stands}
-use Rattle.beep_lives.specs.Lives.{live_at}
-use Rattle.beep_mgmt.specs.Form.{Form}
-use Rattle.beep_journal.specs.Life.{is_released, is_there}
-use Rattle.beep_journal.specs.Log.{Moment}
-use Rattle.beep_journal.specs.Zero.{asked, zero_history}
-use Rattle.beep_decide.specs.Asks.{is_close_of}
-use Rattle.beep_spoken.specs.Spoken.{Spoken, kinds_of}
-use Rattle.beep_standing.specs.Standing.{AreLiveBy, Marks}
-use Rattle.beep_hearing.specs.Hears.{Hears}
-use Rattle.beep_hearing.specs.declared.ear.Ear.{Ear}
-use Rattle.beep_asked.specs.Kept.{Kept, closes, closes_one}
-use Rattle.beep_management.specs.Managed.{Managed, requests_among}
-use Rattle.beep_management.specs.Manages.{Manages}
-use Rattle.beep_peer.specs.declared.peer.Peer.{Peer}
-use Rattle.beep_peer.specs.Peering.{IsPeer, is_over}
+use Rattle.beep_session.specs.beep_frame.specs.Frame.{is_msg}
+use Rattle.beep_session.specs.beep_history.specs.declared.journal.Side.{Side}
+use Rattle.beep_session.specs.beep_history.specs.Journal.{Item}
+use Rattle.beep_session.specs.beep_history.specs.Marks.{Mark, octet, end}
+use Rattle.beep_session.specs.beep_outbox.specs.Queue.{marks_of as unsent_marks}
+use Rattle.beep_session.specs.beep_channel.specs.Held.{Live}
+use Rattle.beep_session.specs.beep_channel.specs.Stands.{Stands}
+use Rattle.beep_session.specs.beep_lives.specs.Lives.{live_at}
+use Rattle.beep_session.specs.beep_mgmt.specs.Form.{Form}
+use Rattle.beep_session.specs.beep_journal.specs.Life.{is_released, is_there}
+use Rattle.beep_session.specs.beep_journal.specs.Log.{Moment}
+use Rattle.beep_session.specs.beep_journal.specs.Zero.{asked, zero_history}
+use Rattle.beep_session.specs.beep_decide.specs.Asks.{is_close_of}
+use Rattle.beep_session.specs.beep_spoken.specs.Spoken.{Spoken, kinds_of}
+use Rattle.beep_session.specs.beep_standing.specs.Standing.{AreLiveBy, Marks}
+use Rattle.beep_session.specs.beep_hearing.specs.Hears.{Hears}
+use Rattle.beep_session.specs.beep_hearing.specs.declared.ear.Ear.{Ear}
+use Rattle.beep_session.specs.beep_asked.specs.Kept.{Kept, closes, closes_one}
+use Rattle.beep_session.specs.beep_management.specs.Managed.{Managed, requests_among}
+use Rattle.beep_session.specs.beep_management.specs.Manages.{Manages}
+use Rattle.beep_session.specs.beep_peer.specs.declared.peer.Peer.{Peer}
+use Rattle.beep_session.specs.beep_peer.specs.Peering.{IsPeer, is_over}
 use Rattle.beep_session.specs.Channels.{is_closing}
 use Rattle.beep_session.specs.Session.{Held}
-use Rattle.beep_talk.specs.Plan.{PlainPlan}
-use Rattle.beep_script.specs.Requested.{requests_from}
+use Rattle.beep_desk.specs.beep_talk.specs.Plan.{PlainPlan}
+use Rattle.beep_desk.specs.beep_script.specs.Requested.{requests_from}
 use Rattle.beep_desk.proofs.OwnLemmas.{any-append, any-reverse, form_said, own-waiting}
 use Rattle.beep_steps.specs.Serving.{ServesOn}
 

@@ -3,21 +3,21 @@ use Rattle.std.proofs.Common.{◌≡◌, ◌∙◌, refl, sym, ap, subst, ℕ, �
 use Rattle.std.specs.Prelude.{is_some, min, IfSome}
 use Rattle.std.proofs.lemmas.List.{length-take}
 use Rattle.std.proofs.lemmas.Bool.Decides.{nat_tests}
-use Rattle.beep_frame.specs.declared.tag.Tag.{Tag}
-use Rattle.beep_history.specs.declared.journal.Side.{Side}
-use Rattle.beep_history.specs.Marks.{Mark, marks, mark_modulo_2_64}
-use Rattle.beep_inbox.specs.declared.part.Part.{Part}
-use Rattle.beep_inbox.specs.Laws.{part_marks}
-use Rattle.beep_inbox.specs.Runs.{Run, marks_with, marks_of, has_mark, AllMarked}
-use Rattle.beep_inbox.specs.Untaken.{IsTaken}
-use Rattle.beep_inbox.proofs.RunsLemmas.{take-marks}
-use Rattle.beep_journal.specs.Life.{history, is_there}
-use Rattle.beep_journal.specs.Log.{Moment}
-use Rattle.beep_channel.specs.Held.{Live}
-use Rattle.beep_lives.specs.Lives.{live_at}
-use Rattle.beep_giving.specs.Looks.{inbox_of}
-use Rattle.beep_standing.specs.Standing.{AreLiveBy, with_marks}
-use Rattle.beep_peer.specs.Peering.{is_over, zero_waits}
+use Rattle.beep_session.specs.beep_frame.specs.declared.tag.Tag.{Tag}
+use Rattle.beep_session.specs.beep_history.specs.declared.journal.Side.{Side}
+use Rattle.beep_session.specs.beep_history.specs.Marks.{Mark, marks, mark_modulo_2_64}
+use Rattle.beep_session.specs.beep_inbox.specs.declared.part.Part.{Part}
+use Rattle.beep_session.specs.beep_inbox.specs.Laws.{part_marks}
+use Rattle.beep_session.specs.beep_inbox.specs.Runs.{Run, marks_with, marks_of, has_mark, AllMarked}
+use Rattle.beep_session.specs.beep_inbox.specs.Untaken.{IsTaken}
+use Rattle.beep_session.specs.beep_inbox.proofs.RunsLemmas.{take-marks}
+use Rattle.beep_session.specs.beep_journal.specs.Life.{history, is_there}
+use Rattle.beep_session.specs.beep_journal.specs.Log.{Moment}
+use Rattle.beep_session.specs.beep_channel.specs.Held.{Live}
+use Rattle.beep_session.specs.beep_lives.specs.Lives.{live_at}
+use Rattle.beep_session.specs.beep_giving.specs.Looks.{inbox_of}
+use Rattle.beep_session.specs.beep_standing.specs.Standing.{AreLiveBy, with_marks}
+use Rattle.beep_session.specs.beep_peer.specs.Peering.{is_over, zero_waits}
 use Rattle.beep_session.specs.Channels.{Takes}
 use Rattle.beep_session.specs.Looks.{IsTakenAt}
 use Rattle.beep_session.specs.Session.{Held}

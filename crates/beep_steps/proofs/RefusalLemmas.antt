@@ -1,15 +1,15 @@
 -- What items make of the first refusal of a journal, and of the own requests that have begun.
 use Rattle.std.proofs.Common.{◌≡◌, ℕ, ◌+◌, ◌==◌, nat_lt, Bool, true, false, not, ◌&&◌, if◌then◌else◌, List, [], ◌∷◌, ◌++◌, length, Option, None, Some, refl, sym, ap, ◌∙◌, arith}
 use Rattle.std.proofs.lemmas.Bool.Decides.{nat_tests}
-use Rattle.beep_frame.specs.declared.head.Head.{Head}
-use Rattle.beep_history.specs.declared.journal.Side.{Side}
-use Rattle.beep_history.specs.Journal.{Item, began, passed, told}
-use Rattle.beep_history.specs.Marks.{Request, begins_request, requests}
-use Rattle.beep_mgmt.specs.Message.{message_said}
-use Rattle.beep_journal.specs.Zero.{channel_of, zero_history, gathered}
-use Rattle.beep_lawful.specs.Closing.{has_begun}
-use Rattle.beep_talk.specs.declared.plan.Command.{Command}
-use Rattle.beep_script.specs.Refused.{refused_by, refused_at, first_code, refusal}
+use Rattle.beep_session.specs.beep_frame.specs.declared.head.Head.{Head}
+use Rattle.beep_session.specs.beep_history.specs.declared.journal.Side.{Side}
+use Rattle.beep_session.specs.beep_history.specs.Journal.{Item, began, passed, told}
+use Rattle.beep_session.specs.beep_history.specs.Marks.{Request, begins_request, requests}
+use Rattle.beep_session.specs.beep_mgmt.specs.Message.{message_said}
+use Rattle.beep_session.specs.beep_journal.specs.Zero.{channel_of, zero_history, gathered}
+use Rattle.beep_session.specs.beep_lawful.specs.Closing.{has_begun}
+use Rattle.beep_desk.specs.beep_talk.specs.declared.plan.Command.{Command}
+use Rattle.beep_desk.specs.beep_script.specs.Refused.{refused_by, refused_at, first_code, refusal}
 
 -- ---- the first refusal
 

@@ -4,45 +4,45 @@ use Rattle.std.specs.List.{list_any}
 use Rattle.std.proofs.lemmas.Bool.{eqb-true}
 use Rattle.std.proofs.lemmas.List.Folds.{list_any-append}
 use Rattle.std.proofs.lemmas.Map.Views.{any-filter_same}
-use Rattle.beep_frame.specs.declared.kind.Kind.{Kind}
-use Rattle.beep_frame.specs.Frame.{is_msg, same_kind}
-use Rattle.beep_history.specs.declared.journal.Side.{Side}
-use Rattle.beep_history.specs.Journal.{Item, began, passed, told}
-use Rattle.beep_history.specs.Marks.{position_of}
-use Rattle.beep_mgmt.specs.Form.{Form}
-use Rattle.beep_mgmt.specs.Message.{message_said}
-use Rattle.beep_journal.specs.Broken.{none_tunes}
-use Rattle.beep_journal.specs.Journal.{Past, Shows}
-use Rattle.beep_journal.specs.Lives.{is_live}
-use Rattle.beep_journal.specs.Zero.{zero_history, gathered, asked, said_to, completes_form, events}
-use Rattle.beep_journal.specs.Life.{is_released}
-use Rattle.beep_journal.specs.Log.{Moment, got_all}
-use Rattle.beep_journal.proofs.ShownLemmas.{one-shown}
-use Rattle.beep_lawful.specs.Closing.{has_begun}
-use Rattle.beep_lawful.specs.Lawful.{IsLawful}
-use Rattle.beep_lawful.specs.declared.terms.Terms.{Terms}
-use Rattle.beep_decide.specs.Decide.{PlainOffer, is_among, decide}
-use Rattle.beep_asked.specs.Kept.{Kept, oldest, closes, closes_one, is_leaving}
-use Rattle.beep_decide.specs.Asks.{is_close_of}
-use Rattle.beep_hearing.specs.Hears.{ends_zero}
-use Rattle.beep_speaking.specs.declared.emit.Emit.{Emit}
-use Rattle.beep_answering.specs.declared.settled.Settled.{Settled}
-use Rattle.beep_answering.specs.Decided.{IsSettledBy, IsSettledAs}
-use Rattle.beep_peer.specs.declared.peer.Peer.{Peer}
-use Rattle.beep_peer.specs.Standing.{closing_in, live_above, standing_of}
-use Rattle.beep_peer.proofs.HeardLemmas.{live-rest}
-use Rattle.beep_standing.specs.Standing.{Marks}
-use Rattle.beep_peer.specs.Peering.{IsPeer}
+use Rattle.beep_session.specs.beep_frame.specs.declared.kind.Kind.{Kind}
+use Rattle.beep_session.specs.beep_frame.specs.Frame.{is_msg, same_kind}
+use Rattle.beep_session.specs.beep_history.specs.declared.journal.Side.{Side}
+use Rattle.beep_session.specs.beep_history.specs.Journal.{Item, began, passed, told}
+use Rattle.beep_session.specs.beep_history.specs.Marks.{position_of}
+use Rattle.beep_session.specs.beep_mgmt.specs.Form.{Form}
+use Rattle.beep_session.specs.beep_mgmt.specs.Message.{message_said}
+use Rattle.beep_session.specs.beep_journal.specs.Broken.{none_tunes}
+use Rattle.beep_session.specs.beep_journal.specs.Journal.{Past, Shows}
+use Rattle.beep_session.specs.beep_journal.specs.Lives.{is_live}
+use Rattle.beep_session.specs.beep_journal.specs.Zero.{zero_history, gathered, asked, said_to, completes_form, events}
+use Rattle.beep_session.specs.beep_journal.specs.Life.{is_released}
+use Rattle.beep_session.specs.beep_journal.specs.Log.{Moment, got_all}
+use Rattle.beep_session.specs.beep_journal.proofs.ShownLemmas.{one-shown}
+use Rattle.beep_session.specs.beep_lawful.specs.Closing.{has_begun}
+use Rattle.beep_session.specs.beep_lawful.specs.Lawful.{IsLawful}
+use Rattle.beep_session.specs.beep_lawful.specs.declared.terms.Terms.{Terms}
+use Rattle.beep_session.specs.beep_decide.specs.Decide.{PlainOffer, is_among, decide}
+use Rattle.beep_session.specs.beep_asked.specs.Kept.{Kept, oldest, closes, closes_one, is_leaving}
+use Rattle.beep_session.specs.beep_decide.specs.Asks.{is_close_of}
+use Rattle.beep_session.specs.beep_hearing.specs.Hears.{ends_zero}
+use Rattle.beep_session.specs.beep_speaking.specs.declared.emit.Emit.{Emit}
+use Rattle.beep_session.specs.beep_answering.specs.declared.settled.Settled.{Settled}
+use Rattle.beep_session.specs.beep_answering.specs.Decided.{IsSettledBy, IsSettledAs}
+use Rattle.beep_session.specs.beep_peer.specs.declared.peer.Peer.{Peer}
+use Rattle.beep_session.specs.beep_peer.specs.Standing.{closing_in, live_above, standing_of}
+use Rattle.beep_session.specs.beep_peer.proofs.HeardLemmas.{live-rest}
+use Rattle.beep_session.specs.beep_standing.specs.Standing.{Marks}
+use Rattle.beep_session.specs.beep_peer.specs.Peering.{IsPeer}
 use Rattle.beep_session.specs.declared.event.Event.{Event}
 use Rattle.beep_session.specs.Feeds.{Feeds}
 use Rattle.beep_session.specs.Session.{Held}
 use Rattle.beep_session.specs.Lawfully.{terms_of}
 use Rattle.beep_logged.proofs.EndLemmas.{released-gots}
-use Rattle.beep_wires.specs.Log.{Entry, read}
+use Rattle.beep_link.specs.beep_wires.specs.Log.{Entry, read}
 use Rattle.beep_link.specs.Causes.{ended_by}
 use Rattle.beep_link.specs.declared.ended.Stop.{Stop}
-use Rattle.beep_talk.specs.declared.plan.Command.{Command}
-use Rattle.beep_script.specs.Refused.{fault_code, close_code, refused_by, refused_at, refusal}
+use Rattle.beep_desk.specs.beep_talk.specs.declared.plan.Command.{Command}
+use Rattle.beep_desk.specs.beep_script.specs.Refused.{fault_code, close_code, refused_by, refused_at, refusal}
 use Rattle.beep_steps.specs.declared.hearing.Came.{Came as CameValue}
 use Rattle.beep_steps.specs.Logs.{StandsOn, WaitsOn, ShowsRefused, command_of, moments}
 use Rattle.beep_steps.specs.Refusing.{refused_so, closing_by, Unrefused, IsUnrefused, ComesUnrefused, Settling, SettlesSo, ShowsNoRefusal, GoesUnrefused, RefusesOn}

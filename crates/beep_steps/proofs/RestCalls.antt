@@ -3,24 +3,24 @@ use Rattle.std.proofs.Common.{◌≡◌, ◌∙◌, refl, sym, ap, subst, arith,
 use Rattle.std.specs.Prelude.{is_some}
 use Rattle.std.specs.List.{list_any}
 use Rattle.std.proofs.lemmas.Bool.Decides.{nat_tests}
-use Rattle.beep_history.specs.Journal.{Item}
-use Rattle.beep_history.specs.declared.limits.TheConstants.{MAX_MESSAGE}
-use Rattle.beep_journal.specs.Log.{Moment}
-use Rattle.beep_asked.specs.Kept.{Kept, oldest}
-use Rattle.beep_outbox.specs.declared.give_error.GiveError.{GiveError}
-use Rattle.beep_outbox.specs.Queue.{Message as Unsent}
-use Rattle.beep_outbox.specs.Unsent.{give_refusal}
-use Rattle.beep_channel.specs.Held.{Held as Channel, Live, is_held_ready, is_seq_due_of, limit_of, reply_refusal}
-use Rattle.beep_lives.specs.Lives.{can_send, live_at, owes_seq}
-use Rattle.beep_giving.specs.Giving.{reply_refusal_at}
-use Rattle.beep_giving.specs.Looks.{owes_of}
-use Rattle.beep_hearing.specs.declared.ear.Ear.{Ear}
-use Rattle.beep_standing.specs.Standing.{Marks}
-use Rattle.beep_speaking.specs.declared.emit.Emit.{Emit}
-use Rattle.beep_peer.specs.declared.peer.Peer.{Peer}
-use Rattle.beep_peer.specs.Acts.{IsUnchanged, held_of}
-use Rattle.beep_peer.specs.Calls.{Speaks, TakesTurn}
-use Rattle.beep_peer.specs.Peering.{IsPeer, is_greeted, is_met, is_over, zero_waits}
+use Rattle.beep_session.specs.beep_history.specs.Journal.{Item}
+use Rattle.beep_session.specs.beep_history.specs.declared.limits.TheConstants.{MAX_MESSAGE}
+use Rattle.beep_session.specs.beep_journal.specs.Log.{Moment}
+use Rattle.beep_session.specs.beep_asked.specs.Kept.{Kept, oldest}
+use Rattle.beep_session.specs.beep_outbox.specs.declared.give_error.GiveError.{GiveError}
+use Rattle.beep_session.specs.beep_outbox.specs.Queue.{Message as Unsent}
+use Rattle.beep_session.specs.beep_outbox.specs.Unsent.{give_refusal}
+use Rattle.beep_session.specs.beep_channel.specs.Held.{Held as Channel, Live, is_held_ready, is_seq_due_of, limit_of, reply_refusal}
+use Rattle.beep_session.specs.beep_lives.specs.Lives.{can_send, live_at, owes_seq}
+use Rattle.beep_session.specs.beep_giving.specs.Giving.{reply_refusal_at}
+use Rattle.beep_session.specs.beep_giving.specs.Looks.{owes_of}
+use Rattle.beep_session.specs.beep_hearing.specs.declared.ear.Ear.{Ear}
+use Rattle.beep_session.specs.beep_standing.specs.Standing.{Marks}
+use Rattle.beep_session.specs.beep_speaking.specs.declared.emit.Emit.{Emit}
+use Rattle.beep_session.specs.beep_peer.specs.declared.peer.Peer.{Peer}
+use Rattle.beep_session.specs.beep_peer.specs.Acts.{IsUnchanged, held_of}
+use Rattle.beep_session.specs.beep_peer.specs.Calls.{Speaks, TakesTurn}
+use Rattle.beep_session.specs.beep_peer.specs.Peering.{IsPeer, is_greeted, is_met, is_over, zero_waits}
 use Rattle.beep_session.specs.Session.{Held}
 use Rattle.beep_steps.specs.Logs.{StandsOn}
 use Rattle.beep_steps.specs.Resting.{HasRepliedAt, HasSaidAll, HoldsStill, IsAwake, RestsAfter, has_replied}

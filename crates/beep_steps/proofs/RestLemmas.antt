@@ -4,49 +4,49 @@ use Rattle.std.specs.Prelude.{is_some, slice_get}
 use Rattle.std.proofs.lemmas.Bool.Decides.{nat_tests}
 use Rattle.std.proofs.lemmas.List.{map-append, length-map}
 use Rattle.std.proofs.lemmas.List.Concat.{flat_map-append}
-use Rattle.beep_frame.specs.Frame.{is_msg}
-use Rattle.beep_history.specs.declared.journal.Side.{Side}
-use Rattle.beep_history.specs.Journal.{Item}
-use Rattle.beep_history.specs.Marks.{Mark, octet, end, marks, mark_modulo_2_64, passed_octets}
-use Rattle.beep_history.specs.Messages.{Message}
-use Rattle.beep_history.specs.Broken.{KeepsExchangeRules}
-use Rattle.beep_history.specs.Windows.{arrivals, greatest_edge, open_now}
-use Rattle.beep_mgmt.specs.Form.{Form}
-use Rattle.beep_journal.specs.Broken.{none_tunes}
-use Rattle.beep_journal.specs.Journal.{Past}
-use Rattle.beep_journal.specs.Life.{history, is_there, life, life_now}
-use Rattle.beep_journal.specs.Lives.{Event}
-use Rattle.beep_journal.specs.Log.{Moment}
-use Rattle.beep_journal.specs.Zero.{asked, zero_events, zero_history}
-use Rattle.beep_journal.proofs.MomentLemmas.{equal-number}
-use Rattle.beep_journal.proofs.ShownLemmas.{one-shown}
-use Rattle.beep_exchange.specs.Given.{ends_reply}
-use Rattle.beep_frame.specs.declared.seq.Seq.{Seq}
-use Rattle.beep_seq.specs.Due.{is_seq_due}
-use Rattle.beep_seq.specs.Receiving.{due_seq, full_seq}
-use Rattle.beep_inbox.specs.Runs.{Run, marks_of as untaken_marks}
-use Rattle.beep_outbox.specs.Queue.{Message as Unsent, marks_of as unsent_marks}
-use Rattle.beep_channel.specs.Held.{Live}
-use Rattle.beep_channel.specs.Stands.{Stands, ends_of}
-use Rattle.beep_channel.proofs.CountedLemmas.{ends-append}
-use Rattle.beep_lives.specs.Lives.{live_at}
-use Rattle.beep_standing.specs.Standing.{Marks, AreLiveBy}
-use Rattle.beep_standing.specs.Due.{has_due, may_go, octets_among, octets_taken}
-use Rattle.beep_standing.proofs.DueLemmas.{channel-due, channel-ready}
-use Rattle.beep_giving.proofs.CountLemmas.{counted-above}
-use Rattle.beep_decide.specs.Asks.{is_greeted as is_greeted_by}
-use Rattle.beep_decide.specs.Decide.{is_among}
-use Rattle.beep_asked.specs.Asked.{AreAsked, AreWaiting}
-use Rattle.beep_asked.specs.Kept.{Kept, oldest}
-use Rattle.beep_lawful.specs.Due.{due, is_ready, may_go as may_go_of, open_of, seq_of}
-use Rattle.beep_peer.specs.Acts.{held_of}
-use Rattle.beep_peer.specs.Peering.{is_greeted, is_met}
+use Rattle.beep_session.specs.beep_frame.specs.Frame.{is_msg}
+use Rattle.beep_session.specs.beep_history.specs.declared.journal.Side.{Side}
+use Rattle.beep_session.specs.beep_history.specs.Journal.{Item}
+use Rattle.beep_session.specs.beep_history.specs.Marks.{Mark, octet, end, marks, mark_modulo_2_64, passed_octets}
+use Rattle.beep_session.specs.beep_history.specs.Messages.{Message}
+use Rattle.beep_session.specs.beep_history.specs.Broken.{KeepsExchangeRules}
+use Rattle.beep_session.specs.beep_history.specs.Windows.{arrivals, greatest_edge, open_now}
+use Rattle.beep_session.specs.beep_mgmt.specs.Form.{Form}
+use Rattle.beep_session.specs.beep_journal.specs.Broken.{none_tunes}
+use Rattle.beep_session.specs.beep_journal.specs.Journal.{Past}
+use Rattle.beep_session.specs.beep_journal.specs.Life.{history, is_there, life, life_now}
+use Rattle.beep_session.specs.beep_journal.specs.Lives.{Event}
+use Rattle.beep_session.specs.beep_journal.specs.Log.{Moment}
+use Rattle.beep_session.specs.beep_journal.specs.Zero.{asked, zero_events, zero_history}
+use Rattle.beep_session.specs.beep_journal.proofs.MomentLemmas.{equal-number}
+use Rattle.beep_session.specs.beep_journal.proofs.ShownLemmas.{one-shown}
+use Rattle.beep_session.specs.beep_exchange.specs.Given.{ends_reply}
+use Rattle.beep_session.specs.beep_frame.specs.declared.seq.Seq.{Seq}
+use Rattle.beep_session.specs.beep_seq.specs.Due.{is_seq_due}
+use Rattle.beep_session.specs.beep_seq.specs.Receiving.{due_seq, full_seq}
+use Rattle.beep_session.specs.beep_inbox.specs.Runs.{Run, marks_of as untaken_marks}
+use Rattle.beep_session.specs.beep_outbox.specs.Queue.{Message as Unsent, marks_of as unsent_marks}
+use Rattle.beep_session.specs.beep_channel.specs.Held.{Live}
+use Rattle.beep_session.specs.beep_channel.specs.Stands.{Stands, ends_of}
+use Rattle.beep_session.specs.beep_channel.proofs.CountedLemmas.{ends-append}
+use Rattle.beep_session.specs.beep_lives.specs.Lives.{live_at}
+use Rattle.beep_session.specs.beep_standing.specs.Standing.{Marks, AreLiveBy}
+use Rattle.beep_session.specs.beep_standing.specs.Due.{has_due, may_go, octets_among, octets_taken}
+use Rattle.beep_session.specs.beep_standing.proofs.DueLemmas.{channel-due, channel-ready}
+use Rattle.beep_session.specs.beep_giving.proofs.CountLemmas.{counted-above}
+use Rattle.beep_session.specs.beep_decide.specs.Asks.{is_greeted as is_greeted_by}
+use Rattle.beep_session.specs.beep_decide.specs.Decide.{is_among}
+use Rattle.beep_session.specs.beep_asked.specs.Asked.{AreAsked, AreWaiting}
+use Rattle.beep_session.specs.beep_asked.specs.Kept.{Kept, oldest}
+use Rattle.beep_session.specs.beep_lawful.specs.Due.{due, is_ready, may_go as may_go_of, open_of, seq_of}
+use Rattle.beep_session.specs.beep_peer.specs.Acts.{held_of}
+use Rattle.beep_session.specs.beep_peer.specs.Peering.{is_greeted, is_met}
 use Rattle.beep_session.specs.Session.{Held}
-use Rattle.beep_talk.specs.declared.plan.Command.{Command}
-use Rattle.beep_talk.specs.Plan.{PlainPlan}
-use Rattle.beep_talk.specs.Talk.{talk}
-use Rattle.beep_script.specs.Prompt.{IsIdle, IsSettled, taken_all}
-use Rattle.beep_script.specs.Script.{message_marks, script_marks, unsent}
+use Rattle.beep_desk.specs.beep_talk.specs.declared.plan.Command.{Command}
+use Rattle.beep_desk.specs.beep_talk.specs.Plan.{PlainPlan}
+use Rattle.beep_desk.specs.beep_talk.specs.Talk.{talk}
+use Rattle.beep_desk.specs.beep_script.specs.Prompt.{IsIdle, IsSettled, taken_all}
+use Rattle.beep_desk.specs.beep_script.specs.Script.{message_marks, script_marks, unsent}
 use Rattle.beep_served.specs.Served.{HaveProfile}
 use Rattle.beep_replies.specs.Replies.{first_said, replies, requests_passed, whole_requests}
 use Rattle.beep_replies.proofs.PlacedLemmas.{replies_marks, replies-split}
@@ -147,11 +147,11 @@ module _ (plan : PlainPlan) (listens : plan.command ≡ Command.Listen) (size : 
       let owed = counted.owed in
       let arrived = ap (ends_of is_msg) is.all_arrived ∙ ends-append is_msg (taken n) (untaken_marks c.held.inbox) in
       let none = ap (λ (runs : List Run). ends_of is_msg (untaken_marks runs)) empty in
-      let told = ends-modulo is_msg (marks Side.Received (history n journal)) in
+      let modulo = ends-modulo is_msg (marks Side.Received (history n journal)) in
       let passed_are : ends_of is_msg (marks Side.Received (history n journal)) ≡ all =
       ends-requests (marks Side.Received (history n journal)) ∙ ap (λ (p : List Item). whole_requests Side.Received p) life-is in
       let replied = ap (ends_of ends_reply) s.given_is ∙ said-ends plan listens n k s.count journal in
-      omega (arith, owed, arrived, none, told, passed_are, replied)
+      omega (arith, owed, arrived, none, modulo, passed_are, replied)
 
   talk-is : talk plan n k journal ≡ first ++ replies plan 0 all
   talk-is =

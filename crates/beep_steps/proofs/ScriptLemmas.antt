@@ -3,35 +3,35 @@ use Rattle.std.proofs.Common.{◌≡◌, ℕ, suc, ◌+◌, ◌<◌, ◌≤◌, 
 use Rattle.std.specs.Prelude.{is_some}
 use Rattle.std.proofs.lemmas.List.{append_assoc, append-nil, take-append-drop}
 use Rattle.std.proofs.lemmas.List.Concat.{flat_map-append}
-use Rattle.beep_frame.specs.declared.kind.Kind.{Kind}
-use Rattle.beep_frame.specs.declared.tag.Tag.{Tag}
-use Rattle.beep_history.specs.declared.journal.Side.{Side}
-use Rattle.beep_history.specs.Journal.{Item, began, passed, told}
-use Rattle.beep_history.specs.Marks.{Mark, octet, end, marks, mark_modulo_2_64, modulo_2_64}
-use Rattle.beep_journal.specs.declared.role.Role.{Role}
-use Rattle.beep_journal.specs.Laws.{rest_from}
-use Rattle.beep_journal.specs.Lives.{Event, lives, is_live}
-use Rattle.beep_journal.specs.Zero.{zero_history, events}
-use Rattle.beep_journal.specs.Life.{is_there}
-use Rattle.beep_lawful.specs.declared.limits.TheConstants.{MESSAGE_NUMBERS}
-use Rattle.prof_raw.specs.Entries.{body_of}
-use Rattle.beep_lawful.specs.declared.terms.Terms.{Terms}
-use Rattle.beep_lawful.specs.Lawful.{IsLawful}
-use Rattle.beep_journal.specs.Broken.{none_tunes}
-use Rattle.beep_channel.specs.Held.{Live}
-use Rattle.beep_channel.specs.Stands.{Stands}
-use Rattle.beep_lives.specs.Lives.{live_at}
-use Rattle.beep_outbox.specs.Queue.{marks_of as unsent_marks}
-use Rattle.beep_standing.specs.Standing.{Marks, AreLiveBy}
-use Rattle.beep_peer.specs.Peering.{Carries}
-use Rattle.beep_talk.specs.declared.plan.Command.{Command}
-use Rattle.beep_talk.specs.Plan.{PlainPlan}
-use Rattle.beep_talk.specs.Talk.{has_profile, answers_from, nul, reply_of}
-use Rattle.beep_script.specs.Script.{message_marks}
-use Rattle.beep_script.specs.Requested.{requests_from, sender_texts, SenderTexts}
-use Rattle.beep_script.specs.Sending.{answers_of}
-use Rattle.beep_script.proofs.RequestedLemmas.{requests-append, requests-modulo}
-use Rattle.beep_script.proofs.LineLemmas.{IsNoSent}
+use Rattle.beep_session.specs.beep_frame.specs.declared.kind.Kind.{Kind}
+use Rattle.beep_session.specs.beep_frame.specs.declared.tag.Tag.{Tag}
+use Rattle.beep_session.specs.beep_history.specs.declared.journal.Side.{Side}
+use Rattle.beep_session.specs.beep_history.specs.Journal.{Item, began, passed, told}
+use Rattle.beep_session.specs.beep_history.specs.Marks.{Mark, octet, end, marks, mark_modulo_2_64, modulo_2_64}
+use Rattle.beep_session.specs.beep_journal.specs.declared.role.Role.{Role}
+use Rattle.beep_session.specs.beep_journal.specs.Laws.{rest_from}
+use Rattle.beep_session.specs.beep_journal.specs.Lives.{Event, lives, is_live}
+use Rattle.beep_session.specs.beep_journal.specs.Zero.{zero_history, events}
+use Rattle.beep_session.specs.beep_journal.specs.Life.{is_there}
+use Rattle.beep_session.specs.beep_lawful.specs.declared.limits.TheConstants.{MESSAGE_NUMBERS}
+use Rattle.beep_desk.specs.prof_raw.specs.Entries.{body_of}
+use Rattle.beep_session.specs.beep_lawful.specs.declared.terms.Terms.{Terms}
+use Rattle.beep_session.specs.beep_lawful.specs.Lawful.{IsLawful}
+use Rattle.beep_session.specs.beep_journal.specs.Broken.{none_tunes}
+use Rattle.beep_session.specs.beep_channel.specs.Held.{Live}
+use Rattle.beep_session.specs.beep_channel.specs.Stands.{Stands}
+use Rattle.beep_session.specs.beep_lives.specs.Lives.{live_at}
+use Rattle.beep_session.specs.beep_outbox.specs.Queue.{marks_of as unsent_marks}
+use Rattle.beep_session.specs.beep_standing.specs.Standing.{Marks, AreLiveBy}
+use Rattle.beep_session.specs.beep_peer.specs.Peering.{Carries}
+use Rattle.beep_desk.specs.beep_talk.specs.declared.plan.Command.{Command}
+use Rattle.beep_desk.specs.beep_talk.specs.Plan.{PlainPlan}
+use Rattle.beep_desk.specs.beep_talk.specs.Talk.{has_profile, answers_from, nul, reply_of}
+use Rattle.beep_desk.specs.beep_script.specs.Script.{message_marks}
+use Rattle.beep_desk.specs.beep_script.specs.Requested.{requests_from, sender_texts, SenderTexts}
+use Rattle.beep_desk.specs.beep_script.specs.Sending.{answers_of}
+use Rattle.beep_desk.specs.beep_script.proofs.RequestedLemmas.{requests-append, requests-modulo}
+use Rattle.beep_desk.specs.beep_script.proofs.LineLemmas.{IsNoSent}
 use Rattle.beep_replies.specs.Replies.{sends_in}
 use Rattle.beep_replies.proofs.StayLemmas.{stays-at}
 use Rattle.beep_replies.proofs.PlacedLemmas.{replies_marks}

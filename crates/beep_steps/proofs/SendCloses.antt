@@ -3,27 +3,27 @@ use Rattle.std.proofs.Common.{◌≡◌, ◌∙◌, refl, ap, subst, ℕ, zero, 
 use Rattle.std.specs.Prelude.{is_some, nat_le}
 use Rattle.std.proofs.lemmas.Bool.Decides.{nat_tests}
 use Rattle.std.proofs.lemmas.Grind.{flat_map-append}
-use Rattle.beep_frame.specs.Frame.{is_msg}
-use Rattle.beep_history.specs.declared.limits.TheConstants.{MAX_REQUESTS}
-use Rattle.beep_history.specs.Marks.{Mark, end, octet}
-use Rattle.beep_history.specs.Messages.{Message}
-use Rattle.beep_journal.specs.Life.{is_there}
-use Rattle.beep_journal.specs.Log.{Moment}
-use Rattle.beep_exchange.specs.Given.{message_number}
-use Rattle.beep_channel.specs.Held.{Live}
-use Rattle.beep_channel.specs.Stands.{IsCounted, ends_of}
-use Rattle.beep_channel.proofs.CountedLemmas.{ends-append}
-use Rattle.beep_lives.specs.Lives.{live_at}
-use Rattle.beep_lives.proofs.ListLemmas.{live-number}
-use Rattle.beep_giving.proofs.CountLemmas.{counted-above}
-use Rattle.beep_peer.specs.Acts.{asked_of, close_refusal, either_cause, first_asked_of, first_of_causes, numbered_cause}
-use Rattle.beep_peer.specs.declared.refusals.CloseError.{CloseError}
+use Rattle.beep_session.specs.beep_frame.specs.Frame.{is_msg}
+use Rattle.beep_session.specs.beep_history.specs.declared.limits.TheConstants.{MAX_REQUESTS}
+use Rattle.beep_session.specs.beep_history.specs.Marks.{Mark, end, octet}
+use Rattle.beep_session.specs.beep_history.specs.Messages.{Message}
+use Rattle.beep_session.specs.beep_journal.specs.Life.{is_there}
+use Rattle.beep_session.specs.beep_journal.specs.Log.{Moment}
+use Rattle.beep_session.specs.beep_exchange.specs.Given.{message_number}
+use Rattle.beep_session.specs.beep_channel.specs.Held.{Live}
+use Rattle.beep_session.specs.beep_channel.specs.Stands.{IsCounted, ends_of}
+use Rattle.beep_session.specs.beep_channel.proofs.CountedLemmas.{ends-append}
+use Rattle.beep_session.specs.beep_lives.specs.Lives.{live_at}
+use Rattle.beep_session.specs.beep_lives.proofs.ListLemmas.{live-number}
+use Rattle.beep_session.specs.beep_giving.proofs.CountLemmas.{counted-above}
+use Rattle.beep_session.specs.beep_peer.specs.Acts.{asked_of, close_refusal, either_cause, first_asked_of, first_of_causes, numbered_cause}
+use Rattle.beep_session.specs.beep_peer.specs.declared.refusals.CloseError.{CloseError}
 use Rattle.beep_session.specs.Session.{Held}
-use Rattle.beep_talk.specs.declared.plan.Command.{Command}
-use Rattle.beep_talk.specs.Plan.{PlainPlan}
-use Rattle.beep_talk.specs.Talk.{answers_from, nul, reply_of}
-use Rattle.beep_script.specs.Requested.{requests_from, sender_texts}
-use Rattle.beep_script.specs.Script.{message_marks}
+use Rattle.beep_desk.specs.beep_talk.specs.declared.plan.Command.{Command}
+use Rattle.beep_desk.specs.beep_talk.specs.Plan.{PlainPlan}
+use Rattle.beep_desk.specs.beep_talk.specs.Talk.{answers_from, nul, reply_of}
+use Rattle.beep_desk.specs.beep_script.specs.Requested.{requests_from, sender_texts}
+use Rattle.beep_desk.specs.beep_script.specs.Script.{message_marks}
 use Rattle.beep_replies.specs.Replies.{replies}
 use Rattle.beep_steps.specs.Logs.{StandsOn}
 use Rattle.beep_steps.specs.Scripting.{RepliesGiven, ScriptedOn, part_given, whole_given}

@@ -3,36 +3,36 @@ use Rattle.std.proofs.Common.{◌≡◌, ◌∙◌, refl, sym, ap, subst, ℕ, z
 use Rattle.std.specs.Prelude.{is_some, nat_lt}
 use Rattle.std.proofs.lemmas.Bool.Decides.{nat_tests}
 use Rattle.std.proofs.lemmas.Grind.{flat_map-append}
-use Rattle.beep_frame.specs.declared.kind.Kind.{Kind}
-use Rattle.beep_frame.specs.Frame.{is_msg}
-use Rattle.beep_history.specs.declared.journal.Side.{Side}
-use Rattle.beep_history.specs.Journal.{Item}
-use Rattle.beep_history.specs.Marks.{end, marks, mark_modulo_2_64, octet, waiting}
-use Rattle.beep_history.specs.Messages.{Message, messages}
-use Rattle.beep_history.specs.Broken.{KeepsExchangeRules}
-use Rattle.beep_journal.specs.Life.{history, is_there, life, life_now}
-use Rattle.beep_journal.specs.Lives.{is_live, lives}
-use Rattle.beep_journal.specs.Zero.{events, zero_history}
-use Rattle.beep_journal.proofs.MomentLemmas.{equal-number, same-number}
-use Rattle.beep_exchange.specs.Given.{ends_reply, message_number}
-use Rattle.beep_exchange.specs.Kept.{Kept}
-use Rattle.beep_inbox.specs.Runs.{marks_of as untaken_marks}
-use Rattle.beep_outbox.specs.Queue.{Message as Unsent, marks_of as unsent_marks}
-use Rattle.beep_channel.specs.Held.{Live}
-use Rattle.beep_channel.specs.Stands.{IsCounted, Stands, answers_after, ends_of}
-use Rattle.beep_channel.proofs.CountedLemmas.{ends-append}
-use Rattle.beep_lives.specs.Lives.{live_at}
-use Rattle.beep_standing.specs.Standing.{Marks, AreLiveBy}
-use Rattle.beep_giving.proofs.CountLemmas.{counted-above}
-use Rattle.beep_talk.specs.declared.plan.Command.{Command}
-use Rattle.beep_talk.specs.Plan.{PlainPlan}
-use Rattle.beep_talk.specs.Talk.{answers_from, has_profile, message_of, nul, reply_of, talk}
-use Rattle.prof_raw.specs.Entries.{body_of}
-use Rattle.beep_lawful.specs.Closing.{is_drained}
-use Rattle.beep_lawful.specs.declared.limits.TheConstants.{MESSAGE_NUMBERS}
-use Rattle.beep_script.specs.Desk.{is_said}
-use Rattle.beep_script.specs.Script.{message_marks}
-use Rattle.beep_script.specs.Sending.{answers_of}
+use Rattle.beep_session.specs.beep_frame.specs.declared.kind.Kind.{Kind}
+use Rattle.beep_session.specs.beep_frame.specs.Frame.{is_msg}
+use Rattle.beep_session.specs.beep_history.specs.declared.journal.Side.{Side}
+use Rattle.beep_session.specs.beep_history.specs.Journal.{Item}
+use Rattle.beep_session.specs.beep_history.specs.Marks.{end, marks, mark_modulo_2_64, octet, waiting}
+use Rattle.beep_session.specs.beep_history.specs.Messages.{Message, messages}
+use Rattle.beep_session.specs.beep_history.specs.Broken.{KeepsExchangeRules}
+use Rattle.beep_session.specs.beep_journal.specs.Life.{history, is_there, life, life_now}
+use Rattle.beep_session.specs.beep_journal.specs.Lives.{is_live, lives}
+use Rattle.beep_session.specs.beep_journal.specs.Zero.{events, zero_history}
+use Rattle.beep_session.specs.beep_journal.proofs.MomentLemmas.{equal-number, same-number}
+use Rattle.beep_session.specs.beep_exchange.specs.Given.{ends_reply, message_number}
+use Rattle.beep_session.specs.beep_exchange.specs.Kept.{Kept}
+use Rattle.beep_session.specs.beep_inbox.specs.Runs.{marks_of as untaken_marks}
+use Rattle.beep_session.specs.beep_outbox.specs.Queue.{Message as Unsent, marks_of as unsent_marks}
+use Rattle.beep_session.specs.beep_channel.specs.Held.{Live}
+use Rattle.beep_session.specs.beep_channel.specs.Stands.{IsCounted, Stands, answers_after, ends_of}
+use Rattle.beep_session.specs.beep_channel.proofs.CountedLemmas.{ends-append}
+use Rattle.beep_session.specs.beep_lives.specs.Lives.{live_at}
+use Rattle.beep_session.specs.beep_standing.specs.Standing.{Marks, AreLiveBy}
+use Rattle.beep_session.specs.beep_giving.proofs.CountLemmas.{counted-above}
+use Rattle.beep_desk.specs.beep_talk.specs.declared.plan.Command.{Command}
+use Rattle.beep_desk.specs.beep_talk.specs.Plan.{PlainPlan}
+use Rattle.beep_desk.specs.beep_talk.specs.Talk.{answers_from, has_profile, message_of, nul, reply_of, talk}
+use Rattle.beep_desk.specs.prof_raw.specs.Entries.{body_of}
+use Rattle.beep_session.specs.beep_lawful.specs.Closing.{is_drained}
+use Rattle.beep_session.specs.beep_lawful.specs.declared.limits.TheConstants.{MESSAGE_NUMBERS}
+use Rattle.beep_desk.specs.beep_script.specs.Desk.{is_said}
+use Rattle.beep_desk.specs.beep_script.specs.Script.{message_marks}
+use Rattle.beep_desk.specs.beep_script.specs.Sending.{answers_of}
 use Rattle.beep_replies.specs.Replies.{replies, requests_passed, whole_requests}
 use Rattle.beep_replies.proofs.LogLemmas.{first-empty}
 use Rattle.beep_replies.proofs.SaidLemmas.{other-profile, said}
@@ -42,7 +42,7 @@ use Rattle.beep_steps.specs.Sending.{Progress}
 use Rattle.beep_steps.proofs.SpeakDone.{all-ends, any, messages-ends, no-request, queued-none, unsent-none, untaken-ends}
 use Rattle.beep_steps.proofs.SpeakLives.{answers-octets, ends-message, ends-modulo, ends-requests}
 use Rattle.beep_steps.proofs.SpeakSteps.{live-life}
-use Rattle.beep_journal.specs.Log.{Moment}
+use Rattle.beep_session.specs.beep_journal.specs.Log.{Moment}
 use Rattle.beep_session.specs.Lawfully.{terms_of}
 use Rattle.beep_session.specs.Session.{Held}
 use Rattle.beep_steps.specs.Logs.{StandsOn}

@@ -2,29 +2,29 @@
 use Rattle.std.proofs.Common.{◌≡◌, ◌∙◌, refl, sym, ap, subst, ℕ, ◌+◌, ◌<◌, ◌≤◌, ◌==◌, Bool, true, false, not, ◌&&◌, ◌||◌, if◌then◌else◌, List, [], ◌∷◌, ◌++◌, length, None, arith}
 use Rattle.std.specs.Prelude.{nat_lt}
 use Rattle.std.proofs.lemmas.Bool.Decides.{nat_tests}
-use Rattle.beep_frame.specs.declared.head.Head.{Head}
-use Rattle.beep_frame.specs.Frame.{is_nul}
-use Rattle.beep_history.specs.declared.journal.Side.{Side}
-use Rattle.beep_history.specs.Journal.{Item, began, passed, told}
-use Rattle.beep_history.specs.Marks.{is_answered, position_of}
-use Rattle.beep_mgmt.specs.Form.{close, start}
-use Rattle.beep_journal.specs.Broken.{none_tunes}
-use Rattle.beep_journal.specs.Life.{is_released, is_there, life, life_now, life_under_way}
-use Rattle.beep_journal.specs.Lives.{has_release, is_live, lives}
-use Rattle.beep_journal.specs.Log.{Moment}
-use Rattle.beep_journal.specs.Zero.{events, zero_history}
-use Rattle.beep_journal.proofs.JournalLemmas.{above-events, began-events}
-use Rattle.beep_lawful.specs.Lawful.{IsLawful, breaks_after_end, breaks_apart}
-use Rattle.beep_lawful.specs.Tuned.{has_tuned}
-use Rattle.beep_lawful.proofs.LawfulLemmas.{item-lawful}
-use Rattle.beep_peer.specs.Peering.{is_over}
+use Rattle.beep_session.specs.beep_frame.specs.declared.head.Head.{Head}
+use Rattle.beep_session.specs.beep_frame.specs.Frame.{is_nul}
+use Rattle.beep_session.specs.beep_history.specs.declared.journal.Side.{Side}
+use Rattle.beep_session.specs.beep_history.specs.Journal.{Item, began, passed, told}
+use Rattle.beep_session.specs.beep_history.specs.Marks.{is_answered, position_of}
+use Rattle.beep_session.specs.beep_mgmt.specs.Form.{close, start}
+use Rattle.beep_session.specs.beep_journal.specs.Broken.{none_tunes}
+use Rattle.beep_session.specs.beep_journal.specs.Life.{is_released, is_there, life, life_now, life_under_way}
+use Rattle.beep_session.specs.beep_journal.specs.Lives.{has_release, is_live, lives}
+use Rattle.beep_session.specs.beep_journal.specs.Log.{Moment}
+use Rattle.beep_session.specs.beep_journal.specs.Zero.{events, zero_history}
+use Rattle.beep_session.specs.beep_journal.proofs.JournalLemmas.{above-events, began-events}
+use Rattle.beep_session.specs.beep_lawful.specs.Lawful.{IsLawful, breaks_after_end, breaks_apart}
+use Rattle.beep_session.specs.beep_lawful.specs.Tuned.{has_tuned}
+use Rattle.beep_session.specs.beep_lawful.proofs.LawfulLemmas.{item-lawful}
+use Rattle.beep_session.specs.beep_peer.specs.Peering.{is_over}
 use Rattle.beep_session.specs.Lawfully.{terms_of}
 use Rattle.beep_session.specs.Session.{Held}
-use Rattle.beep_talk.specs.declared.plan.Command.{Command}
-use Rattle.beep_talk.specs.AtZero.{ZeroMessage, profile_of}
-use Rattle.beep_talk.specs.Plan.{PlainPlan}
-use Rattle.beep_talk.specs.Talk.{has_profile}
-use Rattle.beep_script.specs.Desk.{asks, asks_where, ends_lines, grants_own}
+use Rattle.beep_desk.specs.beep_talk.specs.declared.plan.Command.{Command}
+use Rattle.beep_desk.specs.beep_talk.specs.AtZero.{ZeroMessage, profile_of}
+use Rattle.beep_desk.specs.beep_talk.specs.Plan.{PlainPlan}
+use Rattle.beep_desk.specs.beep_talk.specs.Talk.{has_profile}
+use Rattle.beep_desk.specs.beep_script.specs.Desk.{asks, asks_where, ends_lines, grants_own}
 use Rattle.beep_desk.proofs.AskLemmas.{sender-sent}
 use Rattle.beep_desk.proofs.SaysLemmas.{frame-goes}
 use Rattle.beep_desk.proofs.QuietLemmas.{part-asks}

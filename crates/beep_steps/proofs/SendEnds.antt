@@ -3,36 +3,36 @@ use Rattle.std.proofs.Common.{◌≡◌, ◌∙◌, refl, sym, ap, subst, ℕ, �
 use Rattle.std.specs.Prelude.{nat_lt}
 use Rattle.std.specs.Option.{option_map_or}
 use Rattle.std.proofs.lemmas.Bool.Decides.{nat_tests}
-use Rattle.beep_frame.specs.declared.head.Head.{Head}
-use Rattle.beep_frame.specs.declared.kind.Kind.{Kind}
-use Rattle.beep_frame.specs.Frame.{is_msg, is_nul, is_reply}
-use Rattle.beep_history.specs.declared.journal.Side.{Side}
-use Rattle.beep_history.specs.Journal.{Item, began, passed}
-use Rattle.beep_history.specs.Marks.{Request, is_answered, latest, position_of, requests}
-use Rattle.beep_history.proofs.SoundLemmas.{IsDue, Sound}
-use Rattle.beep_history.proofs.PassedLemmas.{sound}
-use Rattle.beep_journal.specs.Life.{life, life_now, life_under_way}
-use Rattle.beep_journal.specs.Lives.{has_ended, lives}
-use Rattle.beep_journal.specs.Log.{Moment, put_all}
-use Rattle.beep_journal.specs.Zero.{events}
-use Rattle.beep_lives.specs.Lives.{can_send}
-use Rattle.beep_standing.specs.Standing.{Marks}
-use Rattle.beep_speaking.specs.declared.emit.Emit.{Emit}
-use Rattle.beep_peer.specs.Lawfully.{SendsLawfully, SpeaksLawfully}
-use Rattle.beep_peer.specs.Peering.{is_over}
+use Rattle.beep_session.specs.beep_frame.specs.declared.head.Head.{Head}
+use Rattle.beep_session.specs.beep_frame.specs.declared.kind.Kind.{Kind}
+use Rattle.beep_session.specs.beep_frame.specs.Frame.{is_msg, is_nul, is_reply}
+use Rattle.beep_session.specs.beep_history.specs.declared.journal.Side.{Side}
+use Rattle.beep_session.specs.beep_history.specs.Journal.{Item, began, passed}
+use Rattle.beep_session.specs.beep_history.specs.Marks.{Request, is_answered, latest, position_of, requests}
+use Rattle.beep_session.specs.beep_history.proofs.SoundLemmas.{IsDue, Sound}
+use Rattle.beep_session.specs.beep_history.proofs.PassedLemmas.{sound}
+use Rattle.beep_session.specs.beep_journal.specs.Life.{life, life_now, life_under_way}
+use Rattle.beep_session.specs.beep_journal.specs.Lives.{has_ended, lives}
+use Rattle.beep_session.specs.beep_journal.specs.Log.{Moment, put_all}
+use Rattle.beep_session.specs.beep_journal.specs.Zero.{events}
+use Rattle.beep_session.specs.beep_lives.specs.Lives.{can_send}
+use Rattle.beep_session.specs.beep_standing.specs.Standing.{Marks}
+use Rattle.beep_session.specs.beep_speaking.specs.declared.emit.Emit.{Emit}
+use Rattle.beep_session.specs.beep_peer.specs.Lawfully.{SendsLawfully, SpeaksLawfully}
+use Rattle.beep_session.specs.beep_peer.specs.Peering.{is_over}
 use Rattle.beep_session.specs.Lawfully.{terms_of, IsLawfulSession}
 use Rattle.beep_session.specs.Session.{Held}
-use Rattle.beep_talk.specs.Plan.{PlainPlan}
-use Rattle.beep_talk.specs.Talk.{has_profile}
-use Rattle.beep_script.specs.Desk.{ends_lines}
+use Rattle.beep_desk.specs.beep_talk.specs.Plan.{PlainPlan}
+use Rattle.beep_desk.specs.beep_talk.specs.Talk.{has_profile}
+use Rattle.beep_desk.specs.beep_script.specs.Desk.{ends_lines}
 use Rattle.beep_steps.specs.Desking.{EndsLinesSo}
 use Rattle.beep_steps.specs.Scripting.{ScriptedOn}
 use Rattle.beep_steps.specs.Sending.{Progress, SendsOn}
 use Rattle.beep_steps.proofs.EmitSends.{first-before, keeps, there}
 use Rattle.beep_steps.proofs.ScriptLemmas.{began-with}
-use Rattle.beep_history.specs.Broken.{KeepsExchangeRules}
-use Rattle.beep_lives.specs.Lives.{can_send, IsFirstOf}
-use Rattle.beep_peer.specs.Calls.{TakesTurn}
+use Rattle.beep_session.specs.beep_history.specs.Broken.{KeepsExchangeRules}
+use Rattle.beep_session.specs.beep_lives.specs.Lives.{can_send, IsFirstOf}
+use Rattle.beep_session.specs.beep_peer.specs.Calls.{TakesTurn}
 
 -- ---- tests
 

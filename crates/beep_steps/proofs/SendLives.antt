@@ -4,39 +4,39 @@ use Rattle.std.specs.Prelude.{is_some, nat_lt}
 use Rattle.std.specs.List.{list_any}
 use Rattle.std.proofs.lemmas.Bool.Decides.{nat_tests}
 use Rattle.std.proofs.lemmas.List.{take-map}
-use Rattle.beep_frame.specs.declared.kind.Kind.{Kind}
-use Rattle.beep_frame.specs.Frame.{is_msg, same_kind}
-use Rattle.beep_history.specs.declared.journal.Side.{Side}
-use Rattle.beep_history.specs.Journal.{Item, began, passed, told}
-use Rattle.beep_history.specs.Marks.{is_answered, marks, position_of}
-use Rattle.beep_history.specs.Broken.{KeepsExchangeRules}
-use Rattle.beep_mgmt.specs.Form.{Form}
-use Rattle.beep_mgmt.specs.Message.{message_said}
-use Rattle.beep_journal.specs.Laws.{contents}
-use Rattle.beep_journal.specs.Life.{is_released}
-use Rattle.beep_journal.specs.Lives.{Event, has_ended, is_live, lives}
-use Rattle.beep_journal.specs.Log.{Moment}
-use Rattle.beep_journal.specs.Zero.{asked, coming, completes_form, effect, events, gathered, granting as granted_by, said_at, zero_events, zero_history}
-use Rattle.beep_channel.specs.Held.{Live}
-use Rattle.beep_lives.specs.Lives.{live_at, numbers}
-use Rattle.beep_outbox.specs.Queue.{marks_of as unsent_marks}
-use Rattle.beep_standing.specs.Standing.{AreLiveBy}
-use Rattle.beep_decide.specs.Decide.{is_among}
-use Rattle.beep_spoken.specs.Spoken.{AreSpoken, Spoken}
-use Rattle.beep_spoken.proofs.SpokenLemmas.{sent-first}
-use Rattle.beep_asked.specs.Asked.{AreWaiting}
-use Rattle.beep_asked.specs.Kept.{Kept}
-use Rattle.beep_management.specs.Managed.{Managed, numbers_granted, numbers_started, replies_among}
-use Rattle.beep_management.specs.Manages.{AreFresh, Manages, unsent}
-use Rattle.beep_peer.specs.Peering.{is_over, is_welcomed}
-use Rattle.beep_peer.specs.Standing.{rest_of}
+use Rattle.beep_session.specs.beep_frame.specs.declared.kind.Kind.{Kind}
+use Rattle.beep_session.specs.beep_frame.specs.Frame.{is_msg, same_kind}
+use Rattle.beep_session.specs.beep_history.specs.declared.journal.Side.{Side}
+use Rattle.beep_session.specs.beep_history.specs.Journal.{Item, began, passed, told}
+use Rattle.beep_session.specs.beep_history.specs.Marks.{is_answered, marks, position_of}
+use Rattle.beep_session.specs.beep_history.specs.Broken.{KeepsExchangeRules}
+use Rattle.beep_session.specs.beep_mgmt.specs.Form.{Form}
+use Rattle.beep_session.specs.beep_mgmt.specs.Message.{message_said}
+use Rattle.beep_session.specs.beep_journal.specs.Laws.{contents}
+use Rattle.beep_session.specs.beep_journal.specs.Life.{is_released}
+use Rattle.beep_session.specs.beep_journal.specs.Lives.{Event, has_ended, is_live, lives}
+use Rattle.beep_session.specs.beep_journal.specs.Log.{Moment}
+use Rattle.beep_session.specs.beep_journal.specs.Zero.{asked, coming, completes_form, effect, events, gathered, granting as granted_by, said_at, zero_events, zero_history}
+use Rattle.beep_session.specs.beep_channel.specs.Held.{Live}
+use Rattle.beep_session.specs.beep_lives.specs.Lives.{live_at, numbers}
+use Rattle.beep_session.specs.beep_outbox.specs.Queue.{marks_of as unsent_marks}
+use Rattle.beep_session.specs.beep_standing.specs.Standing.{AreLiveBy}
+use Rattle.beep_session.specs.beep_decide.specs.Decide.{is_among}
+use Rattle.beep_session.specs.beep_spoken.specs.Spoken.{AreSpoken, Spoken}
+use Rattle.beep_session.specs.beep_spoken.proofs.SpokenLemmas.{sent-first}
+use Rattle.beep_session.specs.beep_asked.specs.Asked.{AreWaiting}
+use Rattle.beep_session.specs.beep_asked.specs.Kept.{Kept}
+use Rattle.beep_session.specs.beep_management.specs.Managed.{Managed, numbers_granted, numbers_started, replies_among}
+use Rattle.beep_session.specs.beep_management.specs.Manages.{AreFresh, Manages, unsent}
+use Rattle.beep_session.specs.beep_peer.specs.Peering.{is_over, is_welcomed}
+use Rattle.beep_session.specs.beep_peer.specs.Standing.{rest_of}
 use Rattle.beep_session.specs.Lawfully.{terms_of}
 use Rattle.beep_session.specs.Session.{Held}
-use Rattle.beep_talk.specs.AtZero.{ZeroMessage, answer_message}
-use Rattle.beep_talk.specs.Plan.{PlainPlan}
-use Rattle.beep_script.specs.Desk.{desk, grants_own, number_started}
-use Rattle.beep_script.specs.Requested.{requests_from, sender_texts}
-use Rattle.beep_script.proofs.RequestedLemmas.{AreAskedSo, asked-so, nth, own_forms}
+use Rattle.beep_desk.specs.beep_talk.specs.AtZero.{ZeroMessage, answer_message}
+use Rattle.beep_desk.specs.beep_talk.specs.Plan.{PlainPlan}
+use Rattle.beep_desk.specs.beep_script.specs.Desk.{desk, grants_own, number_started}
+use Rattle.beep_desk.specs.beep_script.specs.Requested.{requests_from, sender_texts}
+use Rattle.beep_desk.specs.beep_script.proofs.RequestedLemmas.{AreAskedSo, asked-so, nth, own_forms}
 use Rattle.beep_desk.specs.Listed.{spoken_as, spoken_of}
 use Rattle.beep_desk.proofs.GivenLemmas.{prepared-unique, spoken-unique}
 use Rattle.beep_desk.proofs.LifeLemmas.{HasOneLife, OwnSaid, one-life, own_at}

@@ -3,25 +3,25 @@ use Rattle.std.proofs.Common.{◌≡◌, ◌∙◌, refl, sym, ap, ℕ, zero, su
 use Rattle.std.specs.Prelude.{is_some}
 use Rattle.std.specs.List.{list_any}
 use Rattle.std.proofs.lemmas.List.{take-map}
-use Rattle.beep_history.specs.declared.journal.Side.{Side}
-use Rattle.beep_mgmt.specs.Form.{Form}
-use Rattle.beep_mgmt.specs.Message.{message_said}
-use Rattle.beep_journal.specs.Laws.{pieces_from}
-use Rattle.beep_journal.specs.Log.{Moment}
-use Rattle.beep_journal.specs.Zero.{asked, zero_history}
-use Rattle.beep_channel.specs.Held.{Live}
-use Rattle.beep_lives.specs.Lives.{live_at}
-use Rattle.beep_outbox.specs.Queue.{marks_of as unsent_marks}
-use Rattle.beep_spoken.specs.Spoken.{Spoken}
-use Rattle.beep_asked.specs.Kept.{Kept, closes}
-use Rattle.beep_decide.specs.Asks.{is_close_of}
-use Rattle.beep_management.specs.Managed.{requests_among}
-use Rattle.beep_management.specs.Manages.{Manages}
-use Rattle.beep_peer.specs.Standing.{leaves}
+use Rattle.beep_session.specs.beep_history.specs.declared.journal.Side.{Side}
+use Rattle.beep_session.specs.beep_mgmt.specs.Form.{Form}
+use Rattle.beep_session.specs.beep_mgmt.specs.Message.{message_said}
+use Rattle.beep_session.specs.beep_journal.specs.Laws.{pieces_from}
+use Rattle.beep_session.specs.beep_journal.specs.Log.{Moment}
+use Rattle.beep_session.specs.beep_journal.specs.Zero.{asked, zero_history}
+use Rattle.beep_session.specs.beep_channel.specs.Held.{Live}
+use Rattle.beep_session.specs.beep_lives.specs.Lives.{live_at}
+use Rattle.beep_session.specs.beep_outbox.specs.Queue.{marks_of as unsent_marks}
+use Rattle.beep_session.specs.beep_spoken.specs.Spoken.{Spoken}
+use Rattle.beep_session.specs.beep_asked.specs.Kept.{Kept, closes}
+use Rattle.beep_session.specs.beep_decide.specs.Asks.{is_close_of}
+use Rattle.beep_session.specs.beep_management.specs.Managed.{requests_among}
+use Rattle.beep_session.specs.beep_management.specs.Manages.{Manages}
+use Rattle.beep_session.specs.beep_peer.specs.Standing.{leaves}
 use Rattle.beep_session.specs.Channels.{is_closing}
 use Rattle.beep_session.specs.Session.{Held}
-use Rattle.beep_talk.specs.Plan.{PlainPlan}
-use Rattle.beep_script.specs.Requested.{sender_texts}
+use Rattle.beep_desk.specs.beep_talk.specs.Plan.{PlainPlan}
+use Rattle.beep_desk.specs.beep_script.specs.Requested.{sender_texts}
 use Rattle.beep_desk.proofs.OwnLemmas.{any-append, any-map, any-reverse, form_said, own-waiting, picked, picked-spoken, requests-picked, said-spoken}
 use Rattle.beep_steps.specs.Logs.{StandsOn}
 use Rattle.beep_steps.specs.Sending.{Progress, SendsOn}

@@ -4,40 +4,40 @@ use Rattle.std.specs.Prelude.{nat_lt}
 use Rattle.std.specs.Option.{option_map_or}
 use Rattle.std.proofs.lemmas.Bool.Decides.{nat_tests}
 use Rattle.std.proofs.lemmas.List.{length-map, length-reverse}
-use Rattle.beep_frame.specs.declared.head.Head.{Head}
-use Rattle.beep_frame.specs.Frame.{is_msg}
-use Rattle.beep_history.specs.declared.journal.Side.{Side}
-use Rattle.beep_history.specs.Journal.{Item}
-use Rattle.beep_history.specs.Marks.{is_answered, previous, requests, waiting as waiting_in}
-use Rattle.beep_history.specs.Broken.{KeepsExchangeRules, under_way}
-use Rattle.beep_history.proofs.PassedLemmas.{sound}
-use Rattle.beep_history.proofs.SoundLemmas.{Sound, is_open, waiting-newest}
-use Rattle.beep_mgmt.specs.Form.{Form}
-use Rattle.beep_journal.specs.Lives.{has_release, is_live}
-use Rattle.beep_journal.specs.Log.{Moment}
-use Rattle.beep_journal.specs.Zero.{asked, events, zero_history}
-use Rattle.beep_exchange.specs.Given.{ends_reply, message_number}
-use Rattle.beep_exchange.specs.Kept.{Kept as KeptOf}
-use Rattle.beep_outbox.specs.Queue.{Message}
-use Rattle.beep_channel.specs.Held.{Live}
-use Rattle.beep_channel.specs.Fits.{asks as asks_in, as_number}
-use Rattle.beep_channel.specs.Sums.{ended_of, is_partly, new_asks}
-use Rattle.beep_channel.specs.Stands.{Stands}
-use Rattle.beep_lives.specs.Lives.{live_at}
-use Rattle.beep_standing.proofs.DueLemmas.{untaken-of}
-use Rattle.beep_asked.specs.Kept.{Kept}
-use Rattle.beep_management.specs.Managed.{lowest, numbers_of}
-use Rattle.beep_upright.specs.Turns.{kinds_in}
-use Rattle.beep_upright.proofs.MoreLemmas.{request_kinds}
-use Rattle.beep_upright.proofs.KindsLemmas.{count-requests}
-use Rattle.beep_peer.specs.Acts.{either_cause, first_asked_of, first_of_causes, lowest_used, numbered_cause, release_refusal}
-use Rattle.beep_peer.specs.Peering.{is_over, is_welcomed}
-use Rattle.beep_peer.specs.Standing.{leaves}
-use Rattle.beep_peer.specs.declared.refusals.ReleaseError.{ReleaseError}
+use Rattle.beep_session.specs.beep_frame.specs.declared.head.Head.{Head}
+use Rattle.beep_session.specs.beep_frame.specs.Frame.{is_msg}
+use Rattle.beep_session.specs.beep_history.specs.declared.journal.Side.{Side}
+use Rattle.beep_session.specs.beep_history.specs.Journal.{Item}
+use Rattle.beep_session.specs.beep_history.specs.Marks.{is_answered, previous, requests, waiting as waiting_in}
+use Rattle.beep_session.specs.beep_history.specs.Broken.{KeepsExchangeRules, under_way}
+use Rattle.beep_session.specs.beep_history.proofs.PassedLemmas.{sound}
+use Rattle.beep_session.specs.beep_history.proofs.SoundLemmas.{Sound, is_open, waiting-newest}
+use Rattle.beep_session.specs.beep_mgmt.specs.Form.{Form}
+use Rattle.beep_session.specs.beep_journal.specs.Lives.{has_release, is_live}
+use Rattle.beep_session.specs.beep_journal.specs.Log.{Moment}
+use Rattle.beep_session.specs.beep_journal.specs.Zero.{asked, events, zero_history}
+use Rattle.beep_session.specs.beep_exchange.specs.Given.{ends_reply, message_number}
+use Rattle.beep_session.specs.beep_exchange.specs.Kept.{Kept as KeptOf}
+use Rattle.beep_session.specs.beep_outbox.specs.Queue.{Message}
+use Rattle.beep_session.specs.beep_channel.specs.Held.{Live}
+use Rattle.beep_session.specs.beep_channel.specs.Fits.{asks as asks_in, as_number}
+use Rattle.beep_session.specs.beep_channel.specs.Sums.{ended_of, is_partly, new_asks}
+use Rattle.beep_session.specs.beep_channel.specs.Stands.{Stands}
+use Rattle.beep_session.specs.beep_lives.specs.Lives.{live_at}
+use Rattle.beep_session.specs.beep_standing.proofs.DueLemmas.{untaken-of}
+use Rattle.beep_session.specs.beep_asked.specs.Kept.{Kept}
+use Rattle.beep_session.specs.beep_management.specs.Managed.{lowest, numbers_of}
+use Rattle.beep_session.specs.beep_upright.specs.Turns.{kinds_in}
+use Rattle.beep_session.specs.beep_upright.proofs.MoreLemmas.{request_kinds}
+use Rattle.beep_session.specs.beep_upright.proofs.KindsLemmas.{count-requests}
+use Rattle.beep_session.specs.beep_peer.specs.Acts.{either_cause, first_asked_of, first_of_causes, lowest_used, numbered_cause, release_refusal}
+use Rattle.beep_session.specs.beep_peer.specs.Peering.{is_over, is_welcomed}
+use Rattle.beep_session.specs.beep_peer.specs.Standing.{leaves}
+use Rattle.beep_session.specs.beep_peer.specs.declared.refusals.ReleaseError.{ReleaseError}
 use Rattle.beep_session.specs.Session.{Held}
-use Rattle.beep_talk.specs.Plan.{PlainPlan}
-use Rattle.beep_script.specs.Desk.{grants_own, number_started}
-use Rattle.beep_script.specs.Requested.{sender_texts}
+use Rattle.beep_desk.specs.beep_talk.specs.Plan.{PlainPlan}
+use Rattle.beep_desk.specs.beep_script.specs.Desk.{grants_own, number_started}
+use Rattle.beep_desk.specs.beep_script.specs.Requested.{sender_texts}
 use Rattle.beep_desk.proofs.LifeLemmas.{OneLife, close-ends}
 use Rattle.beep_desk.proofs.OnceLemmas.{two-asked-yet}
 use Rattle.beep_steps.specs.Desking.{DesksWithin}

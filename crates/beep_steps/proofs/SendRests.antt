@@ -5,45 +5,45 @@ use Rattle.std.specs.Prelude.{is_some}
 use Rattle.std.proofs.lemmas.Bool.Decides.{nat_tests}
 use Rattle.std.proofs.lemmas.List.{map-append}
 use Rattle.std.proofs.lemmas.List.Concat.{flat_map-append}
-use Rattle.beep_frame.specs.Frame.{is_msg}
-use Rattle.beep_history.specs.declared.journal.Side.{Side}
-use Rattle.beep_history.specs.Journal.{Item}
-use Rattle.beep_history.specs.Marks.{Mark, octet, end, marks, mark_modulo_2_64}
-use Rattle.beep_history.specs.Messages.{Message}
-use Rattle.beep_history.specs.Broken.{KeepsExchangeRules}
-use Rattle.beep_history.specs.Windows.{open_now}
-use Rattle.beep_journal.specs.Life.{history, is_there, life, life_now}
-use Rattle.beep_journal.specs.Lives.{is_live, lives}
-use Rattle.beep_journal.specs.Log.{Moment}
-use Rattle.beep_journal.specs.Zero.{events, zero_history}
-use Rattle.beep_journal.proofs.MomentLemmas.{equal-number}
-use Rattle.beep_exchange.specs.Given.{ends_reply, message_number}
-use Rattle.beep_inbox.specs.Runs.{Run, marks_of as untaken_marks}
-use Rattle.beep_outbox.specs.Queue.{marks_of as unsent_marks}
-use Rattle.beep_channel.specs.Held.{Live}
-use Rattle.beep_channel.specs.Stands.{Stands, IsCounted, answer_number, answers_after, ends_of}
-use Rattle.beep_channel.proofs.CountedLemmas.{ends-append}
-use Rattle.beep_lives.specs.Lives.{live_at}
-use Rattle.beep_standing.specs.Standing.{Marks, AreLiveBy}
-use Rattle.beep_standing.specs.Due.{may_go}
-use Rattle.beep_giving.proofs.CountLemmas.{counted-above}
-use Rattle.beep_lawful.specs.declared.limits.TheConstants.{MESSAGE_NUMBERS}
-use Rattle.beep_lawful.specs.Due.{may_go as may_go_of, open_of}
-use Rattle.prof_raw.specs.Entries.{body_of}
-use Rattle.beep_talk.specs.declared.plan.Command.{Command}
-use Rattle.beep_talk.specs.Plan.{PlainPlan}
-use Rattle.beep_talk.specs.Talk.{answers_from, has_profile, message_of, nul, reply_of, talk}
-use Rattle.beep_frame.specs.declared.kind.Kind.{Kind}
-use Rattle.beep_script.specs.Script.{message_marks, script_marks, unsent}
-use Rattle.beep_script.specs.Sending.{answers_of}
-use Rattle.beep_script.specs.Prompt.{IsIdle}
+use Rattle.beep_session.specs.beep_frame.specs.Frame.{is_msg}
+use Rattle.beep_session.specs.beep_history.specs.declared.journal.Side.{Side}
+use Rattle.beep_session.specs.beep_history.specs.Journal.{Item}
+use Rattle.beep_session.specs.beep_history.specs.Marks.{Mark, octet, end, marks, mark_modulo_2_64}
+use Rattle.beep_session.specs.beep_history.specs.Messages.{Message}
+use Rattle.beep_session.specs.beep_history.specs.Broken.{KeepsExchangeRules}
+use Rattle.beep_session.specs.beep_history.specs.Windows.{open_now}
+use Rattle.beep_session.specs.beep_journal.specs.Life.{history, is_there, life, life_now}
+use Rattle.beep_session.specs.beep_journal.specs.Lives.{is_live, lives}
+use Rattle.beep_session.specs.beep_journal.specs.Log.{Moment}
+use Rattle.beep_session.specs.beep_journal.specs.Zero.{events, zero_history}
+use Rattle.beep_session.specs.beep_journal.proofs.MomentLemmas.{equal-number}
+use Rattle.beep_session.specs.beep_exchange.specs.Given.{ends_reply, message_number}
+use Rattle.beep_session.specs.beep_inbox.specs.Runs.{Run, marks_of as untaken_marks}
+use Rattle.beep_session.specs.beep_outbox.specs.Queue.{marks_of as unsent_marks}
+use Rattle.beep_session.specs.beep_channel.specs.Held.{Live}
+use Rattle.beep_session.specs.beep_channel.specs.Stands.{Stands, IsCounted, answer_number, answers_after, ends_of}
+use Rattle.beep_session.specs.beep_channel.proofs.CountedLemmas.{ends-append}
+use Rattle.beep_session.specs.beep_lives.specs.Lives.{live_at}
+use Rattle.beep_session.specs.beep_standing.specs.Standing.{Marks, AreLiveBy}
+use Rattle.beep_session.specs.beep_standing.specs.Due.{may_go}
+use Rattle.beep_session.specs.beep_giving.proofs.CountLemmas.{counted-above}
+use Rattle.beep_session.specs.beep_lawful.specs.declared.limits.TheConstants.{MESSAGE_NUMBERS}
+use Rattle.beep_session.specs.beep_lawful.specs.Due.{may_go as may_go_of, open_of}
+use Rattle.beep_desk.specs.prof_raw.specs.Entries.{body_of}
+use Rattle.beep_desk.specs.beep_talk.specs.declared.plan.Command.{Command}
+use Rattle.beep_desk.specs.beep_talk.specs.Plan.{PlainPlan}
+use Rattle.beep_desk.specs.beep_talk.specs.Talk.{answers_from, has_profile, message_of, nul, reply_of, talk}
+use Rattle.beep_session.specs.beep_frame.specs.declared.kind.Kind.{Kind}
+use Rattle.beep_desk.specs.beep_script.specs.Script.{message_marks, script_marks, unsent}
+use Rattle.beep_desk.specs.beep_script.specs.Sending.{answers_of}
+use Rattle.beep_desk.specs.beep_script.specs.Prompt.{IsIdle}
 use Rattle.beep_replies.specs.Replies.{replies, requests_passed, whole_requests}
 use Rattle.beep_replies.proofs.LogLemmas.{first-empty}
 use Rattle.beep_replies.proofs.PlacedLemmas.{replies_marks, replies-split}
 use Rattle.beep_replies.proofs.SaidLemmas.{said}
 use Rattle.beep_replies.proofs.StayLemmas.{script-is}
 use Rattle.beep_desk.proofs.LifeLemmas.{HasOneLife}
-use Rattle.beep_peer.specs.Acts.{held_of}
+use Rattle.beep_session.specs.beep_peer.specs.Acts.{held_of}
 use Rattle.beep_session.specs.Lawfully.{terms_of}
 use Rattle.beep_session.specs.Session.{Held}
 use Rattle.beep_steps.specs.Desking.{DesksOn}
@@ -142,9 +142,9 @@ module _ (plan : PlainPlan) (send : plan.command ≡ Command.Send) (size : ℕ) 
       let owed_is = counted.owed in
       let arrived = ap (ends_of is_msg) is.all_arrived ∙ ends-append is_msg (taken 1) (untaken_marks c.held.inbox) in
       let none = ap (λ (runs : List Run). ends_of is_msg (untaken_marks runs)) empty in
-      let told = ends-modulo is_msg (marks Side.Received (history 1 journal)) in
+      let modulo = ends-modulo is_msg (marks Side.Received (history 1 journal)) in
       let passed_are : ends_of is_msg (marks Side.Received (history 1 journal)) ≡ all = ends-requests (marks Side.Received (history 1 journal)) in
-      omega (arith, owed_is, arrived, none, told, passed_are)
+      omega (arith, owed_is, arrived, none, modulo, passed_are)
 
   talk-is : talk plan 1 k journal ≡ replies plan 0 all
   talk-is =

@@ -3,34 +3,34 @@ use Rattle.std.proofs.Common.{◌≡◌, ◌∙◌, refl, sym, ap, subst, ℕ, z
 use Rattle.std.specs.Prelude.{nat_le, nat_lt}
 use Rattle.std.proofs.lemmas.Bool.Decides.{nat_tests}
 use Rattle.std.proofs.lemmas.List.{length-map}
-use Rattle.beep_history.specs.declared.journal.Side.{Side}
-use Rattle.beep_history.specs.declared.limits.TheConstants.{MAX_REQUESTS}
-use Rattle.beep_history.specs.Journal.{Item}
-use Rattle.beep_history.specs.Broken.{KeepsExchangeRules}
-use Rattle.beep_text.specs.declared.limits.TheConstants.{MAX_TEXT}
-use Rattle.beep_mgmt.specs.Form.{Form, PlainProfile, start}
-use Rattle.beep_mgmt.specs.Message.{message_said}
-use Rattle.beep_journal.specs.Lives.{Event, has_release, is_live}
-use Rattle.beep_journal.specs.Log.{Moment}
-use Rattle.beep_journal.specs.Zero.{asked, events, zero_events, zero_history}
-use Rattle.beep_channel.specs.Held.{Live}
-use Rattle.beep_lives.specs.Lives.{live_at, numbers}
-use Rattle.beep_decide.specs.Asks.{is_close_of}
-use Rattle.beep_turns.specs.declared.turns.TheConstants.{MAX_CHANNELS}
-use Rattle.beep_asked.specs.Asked.{AreAsked}
-use Rattle.beep_asked.specs.Kept.{Kept, is_leaving}
-use Rattle.beep_management.specs.Managed.{has_number}
-use Rattle.beep_peer.specs.Acts.{asked_of, count_used, either_cause, first_of_causes, is_used}
-use Rattle.beep_peer.specs.Peering.{is_over, is_welcomed}
-use Rattle.beep_peer.specs.Standing.{leaves, rest_of}
-use Rattle.beep_peer.specs.declared.refusals.StartError.{StartError}
+use Rattle.beep_session.specs.beep_history.specs.declared.journal.Side.{Side}
+use Rattle.beep_session.specs.beep_history.specs.declared.limits.TheConstants.{MAX_REQUESTS}
+use Rattle.beep_session.specs.beep_history.specs.Journal.{Item}
+use Rattle.beep_session.specs.beep_history.specs.Broken.{KeepsExchangeRules}
+use Rattle.beep_session.specs.beep_text.specs.declared.limits.TheConstants.{MAX_TEXT}
+use Rattle.beep_session.specs.beep_mgmt.specs.Form.{Form, PlainProfile, start}
+use Rattle.beep_session.specs.beep_mgmt.specs.Message.{message_said}
+use Rattle.beep_session.specs.beep_journal.specs.Lives.{Event, has_release, is_live}
+use Rattle.beep_session.specs.beep_journal.specs.Log.{Moment}
+use Rattle.beep_session.specs.beep_journal.specs.Zero.{asked, events, zero_events, zero_history}
+use Rattle.beep_session.specs.beep_channel.specs.Held.{Live}
+use Rattle.beep_session.specs.beep_lives.specs.Lives.{live_at, numbers}
+use Rattle.beep_session.specs.beep_decide.specs.Asks.{is_close_of}
+use Rattle.beep_session.specs.beep_turns.specs.declared.turns.TheConstants.{MAX_CHANNELS}
+use Rattle.beep_session.specs.beep_asked.specs.Asked.{AreAsked}
+use Rattle.beep_session.specs.beep_asked.specs.Kept.{Kept, is_leaving}
+use Rattle.beep_session.specs.beep_management.specs.Managed.{has_number}
+use Rattle.beep_session.specs.beep_peer.specs.Acts.{asked_of, count_used, either_cause, first_of_causes, is_used}
+use Rattle.beep_session.specs.beep_peer.specs.Peering.{is_over, is_welcomed}
+use Rattle.beep_session.specs.beep_peer.specs.Standing.{leaves, rest_of}
+use Rattle.beep_session.specs.beep_peer.specs.declared.refusals.StartError.{StartError}
 use Rattle.beep_session.specs.Acts.{long_refusal, refusal_of_start, start_text}
 use Rattle.beep_session.specs.declared.limits.TheConstants.{GREATEST_SIZE}
 use Rattle.beep_session.specs.Session.{Held}
-use Rattle.beep_talk.specs.AtZero.{profile_of}
-use Rattle.beep_talk.specs.Plan.{PlainPlan}
-use Rattle.beep_script.specs.Desk.{grants_own, number_started}
-use Rattle.beep_script.specs.Requested.{sender_texts}
+use Rattle.beep_desk.specs.beep_talk.specs.AtZero.{profile_of}
+use Rattle.beep_desk.specs.beep_talk.specs.Plan.{PlainPlan}
+use Rattle.beep_desk.specs.beep_script.specs.Desk.{grants_own, number_started}
+use Rattle.beep_desk.specs.beep_script.specs.Requested.{sender_texts}
 use Rattle.beep_desk.proofs.OnceLemmas.{none-asked-yet}
 use Rattle.beep_steps.specs.Desking.{DesksWithin}
 use Rattle.beep_steps.specs.Scripting.{ScriptedOn}

@@ -1,35 +1,35 @@
 -- What each call of a session leaves of what a sender has said.
 use Rattle.std.proofs.Common.{◌≡◌, ℕ, ◌+◌, ◌≤◌, ◌==◌, nat_lt, Bool, true, false, not, ◌&&◌, ◌||◌, if◌then◌else◌, List, [], ◌∷◌, ◌++◌, map, take, length, Option, None, Some, refl, sym, ap, ◌∙◌, subst, arith}
 use Rattle.std.specs.Prelude.{is_some}
-use Rattle.beep_frame.specs.declared.head.Head.{Head}
-use Rattle.beep_frame.specs.declared.kind.Kind.{Kind}
-use Rattle.beep_frame.specs.Frame.{is_msg, same_kind}
-use Rattle.beep_history.specs.declared.journal.Side.{Side}
-use Rattle.beep_history.specs.Journal.{Item, began, passed, told, other}
-use Rattle.beep_history.specs.Marks.{Mark, position_of, marks, mark_modulo_2_64}
-use Rattle.beep_history.specs.Broken.{KeepsExchangeRules}
-use Rattle.beep_mgmt.specs.Form.{Form, greeting, start, chosen, close, okay, fault}
-use Rattle.beep_mgmt.specs.Message.{message_said}
-use Rattle.beep_journal.specs.declared.role.Role.{Role}
-use Rattle.beep_journal.specs.Broken.{none_tunes}
-use Rattle.beep_journal.specs.Laws.{rest_from}
-use Rattle.beep_journal.specs.Lives.{Event, close_came, start_granted, close_granted, lives, has_ended, life_named, is_live}
-use Rattle.beep_journal.specs.Zero.{channel_of, zero_history, zero_events, gathered, asked, said_to, completes_form, effect, coming, granting, events}
-use Rattle.beep_journal.specs.Life.{is_there}
-use Rattle.beep_lawful.specs.declared.terms.Terms.{Terms}
-use Rattle.beep_lawful.specs.Lawful.{IsLawful}
-use Rattle.beep_channel.specs.Held.{Live}
-use Rattle.beep_channel.specs.Stands.{Stands}
-use Rattle.beep_lives.specs.Lives.{live_at}
-use Rattle.beep_outbox.specs.Queue.{marks_of as unsent_marks}
-use Rattle.beep_standing.specs.Standing.{Marks, AreLiveBy}
-use Rattle.beep_talk.specs.Plan.{PlainPlan}
-use Rattle.beep_script.specs.Requested.{requests_from, sender_texts, SenderTexts}
-use Rattle.beep_script.specs.Sending.{LinesGiven, some_given, answers_of}
-use Rattle.beep_script.proofs.RequestedLemmas.{requests-append, requests-modulo, own_forms}
-use Rattle.beep_script.proofs.StartedLemmas.{StartsOnce, started-once}
-use Rattle.beep_script.proofs.OwnLemmas.{starts-once}
-use Rattle.beep_script.proofs.LineLemmas.{IsNoSent, life-some, life-whole}
+use Rattle.beep_session.specs.beep_frame.specs.declared.head.Head.{Head}
+use Rattle.beep_session.specs.beep_frame.specs.declared.kind.Kind.{Kind}
+use Rattle.beep_session.specs.beep_frame.specs.Frame.{is_msg, same_kind}
+use Rattle.beep_session.specs.beep_history.specs.declared.journal.Side.{Side}
+use Rattle.beep_session.specs.beep_history.specs.Journal.{Item, began, passed, told, other}
+use Rattle.beep_session.specs.beep_history.specs.Marks.{Mark, position_of, marks, mark_modulo_2_64}
+use Rattle.beep_session.specs.beep_history.specs.Broken.{KeepsExchangeRules}
+use Rattle.beep_session.specs.beep_mgmt.specs.Form.{Form, greeting, start, chosen, close, okay, fault}
+use Rattle.beep_session.specs.beep_mgmt.specs.Message.{message_said}
+use Rattle.beep_session.specs.beep_journal.specs.declared.role.Role.{Role}
+use Rattle.beep_session.specs.beep_journal.specs.Broken.{none_tunes}
+use Rattle.beep_session.specs.beep_journal.specs.Laws.{rest_from}
+use Rattle.beep_session.specs.beep_journal.specs.Lives.{Event, close_came, start_granted, close_granted, lives, has_ended, life_named, is_live}
+use Rattle.beep_session.specs.beep_journal.specs.Zero.{channel_of, zero_history, zero_events, gathered, asked, said_to, completes_form, effect, coming, granting, events}
+use Rattle.beep_session.specs.beep_journal.specs.Life.{is_there}
+use Rattle.beep_session.specs.beep_lawful.specs.declared.terms.Terms.{Terms}
+use Rattle.beep_session.specs.beep_lawful.specs.Lawful.{IsLawful}
+use Rattle.beep_session.specs.beep_channel.specs.Held.{Live}
+use Rattle.beep_session.specs.beep_channel.specs.Stands.{Stands}
+use Rattle.beep_session.specs.beep_lives.specs.Lives.{live_at}
+use Rattle.beep_session.specs.beep_outbox.specs.Queue.{marks_of as unsent_marks}
+use Rattle.beep_session.specs.beep_standing.specs.Standing.{Marks, AreLiveBy}
+use Rattle.beep_desk.specs.beep_talk.specs.Plan.{PlainPlan}
+use Rattle.beep_desk.specs.beep_script.specs.Requested.{requests_from, sender_texts, SenderTexts}
+use Rattle.beep_desk.specs.beep_script.specs.Sending.{LinesGiven, some_given, answers_of}
+use Rattle.beep_desk.specs.beep_script.proofs.RequestedLemmas.{requests-append, requests-modulo, own_forms}
+use Rattle.beep_desk.specs.beep_script.proofs.StartedLemmas.{StartsOnce, started-once}
+use Rattle.beep_desk.specs.beep_script.proofs.OwnLemmas.{starts-once}
+use Rattle.beep_desk.specs.beep_script.proofs.LineLemmas.{IsNoSent, life-some, life-whole}
 use Rattle.beep_steps.specs.Sending.{Progress, Sends}
 
 -- ---- what stands for a lawful journal of an initiator

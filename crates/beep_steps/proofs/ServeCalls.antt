@@ -2,35 +2,35 @@
 use Rattle.std.proofs.Common.{◌≡◌, ℕ, ◌==◌, Bool, true, false, List, [], ◌∷◌, ◌++◌, Option, None, Some, refl, sym, ap, ◌∙◌, subst}
 use Rattle.std.specs.Prelude.{Result, Ok, Err, OnOk, OnErr, IfSome, IfNone}
 use Rattle.std.specs.List.{list_any}
-use Rattle.beep_frame.specs.declared.kind.Kind.{Kind}
-use Rattle.beep_frame.specs.declared.seq.Seq.{Seq}
-use Rattle.beep_frame.specs.Frame.{framed, seq_frame, is_msg}
-use Rattle.beep_frame.specs.Spelling.{spelling}
-use Rattle.beep_history.specs.declared.journal.Side.{Side}
-use Rattle.beep_history.specs.Journal.{Item, began, passed, told}
-use Rattle.beep_history.specs.Marks.{Mark}
-use Rattle.beep_mgmt.specs.Form.{Form}
-use Rattle.beep_mgmt.specs.Message.{message_said, message_text}
-use Rattle.beep_journal.specs.Zero.{zero_history, gathered, completes_form}
-use Rattle.beep_journal.specs.Log.{Moment, got_all, put_all}
-use Rattle.beep_inbox.specs.declared.part.Part.{Part}
-use Rattle.beep_standing.specs.Standing.{Marks}
-use Rattle.beep_standing.proofs.SendLemmas.{with-other}
-use Rattle.beep_hearing.specs.declared.ear.Ear.{Ear}
-use Rattle.beep_hearing.specs.Hears.{Hears}
-use Rattle.beep_decide.specs.Decide.{PlainOffer, PlainStanding, decide}
-use Rattle.beep_answering.specs.declared.settled.Settled.{Settled}
-use Rattle.beep_answering.specs.Sent.{greeting_of}
-use Rattle.beep_management.specs.Managed.{Prepared}
-use Rattle.beep_outbox.specs.Queue.{message_marks}
-use Rattle.beep_giving.specs.Giving.{next_message}
-use Rattle.beep_speaking.specs.declared.emit.Emit.{Emit}
-use Rattle.beep_upright.specs.Frames.{AreFrames, IsFramed}
-use Rattle.beep_upright.specs.Upright.{IsUpright}
-use Rattle.beep_peer.specs.Acts.{IsUnchanged}
-use Rattle.beep_peer.specs.Calls.{Begins, Settles, SettlesReply, SettlesRequest}
-use Rattle.beep_peer.specs.Lawfully.{SpeaksLawfully}
-use Rattle.beep_peer.specs.Peering.{IsPeer, is_over}
+use Rattle.beep_session.specs.beep_frame.specs.declared.kind.Kind.{Kind}
+use Rattle.beep_session.specs.beep_frame.specs.declared.seq.Seq.{Seq}
+use Rattle.beep_session.specs.beep_frame.specs.Frame.{framed, seq_frame, is_msg}
+use Rattle.beep_session.specs.beep_frame.specs.Spelling.{spelling}
+use Rattle.beep_session.specs.beep_history.specs.declared.journal.Side.{Side}
+use Rattle.beep_session.specs.beep_history.specs.Journal.{Item, began, passed, told}
+use Rattle.beep_session.specs.beep_history.specs.Marks.{Mark}
+use Rattle.beep_session.specs.beep_mgmt.specs.Form.{Form}
+use Rattle.beep_session.specs.beep_mgmt.specs.Message.{message_said, message_text}
+use Rattle.beep_session.specs.beep_journal.specs.Zero.{zero_history, gathered, completes_form}
+use Rattle.beep_session.specs.beep_journal.specs.Log.{Moment, got_all, put_all}
+use Rattle.beep_session.specs.beep_inbox.specs.declared.part.Part.{Part}
+use Rattle.beep_session.specs.beep_standing.specs.Standing.{Marks}
+use Rattle.beep_session.specs.beep_standing.proofs.SendLemmas.{with-other}
+use Rattle.beep_session.specs.beep_hearing.specs.declared.ear.Ear.{Ear}
+use Rattle.beep_session.specs.beep_hearing.specs.Hears.{Hears}
+use Rattle.beep_session.specs.beep_decide.specs.Decide.{PlainOffer, PlainStanding, decide}
+use Rattle.beep_session.specs.beep_answering.specs.declared.settled.Settled.{Settled}
+use Rattle.beep_session.specs.beep_answering.specs.Sent.{greeting_of}
+use Rattle.beep_session.specs.beep_management.specs.Managed.{Prepared}
+use Rattle.beep_session.specs.beep_outbox.specs.Queue.{message_marks}
+use Rattle.beep_session.specs.beep_giving.specs.Giving.{next_message}
+use Rattle.beep_session.specs.beep_speaking.specs.declared.emit.Emit.{Emit}
+use Rattle.beep_session.specs.beep_upright.specs.Frames.{AreFrames, IsFramed}
+use Rattle.beep_session.specs.beep_upright.specs.Upright.{IsUpright}
+use Rattle.beep_session.specs.beep_peer.specs.Acts.{IsUnchanged}
+use Rattle.beep_session.specs.beep_peer.specs.Calls.{Begins, Settles, SettlesReply, SettlesRequest}
+use Rattle.beep_session.specs.beep_peer.specs.Lawfully.{SpeaksLawfully}
+use Rattle.beep_session.specs.beep_peer.specs.Peering.{IsPeer, is_over}
 use Rattle.beep_session.specs.declared.event.Event.{Event}
 use Rattle.beep_session.specs.Channels.{IsOfPeer, IsStill, Gives, Takes}
 use Rattle.beep_session.specs.Feeds.{Feeds}
@@ -38,7 +38,7 @@ use Rattle.beep_session.specs.Lawfully.{terms_of, IsLawfulSession, KeepsUpright,
 use Rattle.beep_session.specs.Session.{Held}
 use Rattle.beep_logged.proofs.EndLemmas.{put-append}
 use Rattle.beep_logged.proofs.WriteLemmas.{frame-written, seq-written, lawful-frame}
-use Rattle.beep_talk.specs.Plan.{PlainPlan}
+use Rattle.beep_desk.specs.beep_talk.specs.Plan.{PlainPlan}
 use Rattle.beep_steps.specs.Logs.{WaitsOn}
 use Rattle.beep_steps.specs.Serving.{IsListener, Serves, ServesOn, ServesWaiting, KeepsServing}
 use Rattle.beep_steps.proofs.CallLemmas.{on-so, gained-on, waits-on, settles-on}

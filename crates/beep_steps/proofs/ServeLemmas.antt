@@ -5,50 +5,50 @@ use Rattle.std.specs.List.{list_any}
 use Rattle.std.proofs.lemmas.List.{append_assoc, append-nil}
 use Rattle.std.proofs.lemmas.List.Folds.{list_any-append}
 use Rattle.std.proofs.lemmas.Slice.Eq.{bytes_eq-Decides}
-use Rattle.beep_frame.specs.declared.kind.Kind.{Kind}
-use Rattle.beep_frame.specs.declared.tag.Tag.{Tag}
-use Rattle.beep_frame.specs.Frame.{is_msg}
-use Rattle.beep_history.specs.declared.journal.Side.{Side}
-use Rattle.beep_history.specs.Journal.{Item}
-use Rattle.beep_history.specs.Marks.{Mark, octet, end, marks, mark_modulo_2_64}
-use Rattle.beep_history.specs.Broken.{KeepsExchangeRules}
-use Rattle.beep_mime.specs.Split.{mime_header}
-use Rattle.beep_text.specs.Tree.{Items}
-use Rattle.beep_text.specs.declared.attr.Attr.{Attr}
-use Rattle.beep_text.specs.Elements.{no_pieces, alone, around, pieces_text}
-use Rattle.beep_text.specs.Canonical.{is_nothing, tag_as, pieces_as, element_text}
-use Rattle.beep_mgmt.specs.declared.profile.Encoding.{Encoding}
-use Rattle.beep_mgmt.specs.Form.{Form, PlainProfile, greeting, start, chosen, close, okay, fault}
-use Rattle.beep_mgmt.specs.Written.{element, is_text, profile_as, profiles_as, element_as}
-use Rattle.beep_mgmt.specs.Message.{message_said, message_text}
-use Rattle.beep_journal.specs.Laws.{contents, pieces_from, rest_from}
-use Rattle.beep_journal.specs.Log.{Moment, got_all, put_all}
-use Rattle.beep_journal.specs.Zero.{zero_history, asked, said_at}
-use Rattle.beep_journal.proofs.PiecesLemmas.{are-cut}
-use Rattle.beep_channel.specs.Held.{Live}
-use Rattle.beep_channel.specs.Stands.{Stands, ends_of}
-use Rattle.beep_lives.specs.Lives.{live_at}
-use Rattle.beep_outbox.specs.Queue.{Message, message_marks, marks_of, marks_of as unsent_marks}
-use Rattle.beep_standing.specs.Standing.{Marks, AreLiveBy}
-use Rattle.beep_decide.specs.Decide.{PlainOffer, PlainStanding, Decision, refuse, choose, tune, grant_close, decide, uri_at, note_of}
-use Rattle.beep_decide.specs.Laws.{IsOfferAt, IsFirstOffered}
-use Rattle.beep_decide.proofs.AnswerLemmas.{offered-uri, start-chosen}
-use Rattle.beep_answering.specs.declared.settled.Settled.{Settled}
-use Rattle.beep_answering.specs.Decided.{SaysAnswer, SettledBy}
-use Rattle.beep_answering.specs.Sent.{IsMessage, greeting_of, plain_listed}
-use Rattle.beep_spoken.specs.Spoken.{Spoken, text_of, AllSaid}
-use Rattle.beep_exchange.specs.Given.{ends_reply}
-use Rattle.beep_management.specs.Manages.{Manages}
-use Rattle.beep_management.specs.declared.wait.Wait.{Wait}
-use Rattle.beep_management.specs.Managed.{Prepared}
-use Rattle.beep_peer.specs.declared.peer.Peer.{Peer}
-use Rattle.beep_peer.proofs.LetLemmas.{left-words}
-use Rattle.beep_peer.specs.Calls.{Begins, GivesFirst, words_of}
-use Rattle.beep_peer.specs.Waiting.{AreGiven}
+use Rattle.beep_session.specs.beep_frame.specs.declared.kind.Kind.{Kind}
+use Rattle.beep_session.specs.beep_frame.specs.declared.tag.Tag.{Tag}
+use Rattle.beep_session.specs.beep_frame.specs.Frame.{is_msg}
+use Rattle.beep_session.specs.beep_history.specs.declared.journal.Side.{Side}
+use Rattle.beep_session.specs.beep_history.specs.Journal.{Item}
+use Rattle.beep_session.specs.beep_history.specs.Marks.{Mark, octet, end, marks, mark_modulo_2_64}
+use Rattle.beep_session.specs.beep_history.specs.Broken.{KeepsExchangeRules}
+use Rattle.beep_session.specs.beep_mime.specs.Split.{mime_header}
+use Rattle.beep_session.specs.beep_text.specs.Tree.{Items}
+use Rattle.beep_session.specs.beep_text.specs.declared.attr.Attr.{Attr}
+use Rattle.beep_session.specs.beep_text.specs.Elements.{no_pieces, alone, around, pieces_text}
+use Rattle.beep_session.specs.beep_text.specs.Canonical.{is_nothing, tag_as, pieces_as, element_text}
+use Rattle.beep_session.specs.beep_mgmt.specs.declared.profile.Encoding.{Encoding}
+use Rattle.beep_session.specs.beep_mgmt.specs.Form.{Form, PlainProfile, greeting, start, chosen, close, okay, fault}
+use Rattle.beep_session.specs.beep_mgmt.specs.Written.{element, is_text, profile_as, profiles_as, element_as}
+use Rattle.beep_session.specs.beep_mgmt.specs.Message.{message_said, message_text}
+use Rattle.beep_session.specs.beep_journal.specs.Laws.{contents, pieces_from, rest_from}
+use Rattle.beep_session.specs.beep_journal.specs.Log.{Moment, got_all, put_all}
+use Rattle.beep_session.specs.beep_journal.specs.Zero.{zero_history, asked, said_at}
+use Rattle.beep_session.specs.beep_journal.proofs.PiecesLemmas.{are-cut}
+use Rattle.beep_session.specs.beep_channel.specs.Held.{Live}
+use Rattle.beep_session.specs.beep_channel.specs.Stands.{Stands, ends_of}
+use Rattle.beep_session.specs.beep_lives.specs.Lives.{live_at}
+use Rattle.beep_session.specs.beep_outbox.specs.Queue.{Message, message_marks, marks_of, marks_of as unsent_marks}
+use Rattle.beep_session.specs.beep_standing.specs.Standing.{Marks, AreLiveBy}
+use Rattle.beep_session.specs.beep_decide.specs.Decide.{PlainOffer, PlainStanding, Decision, refuse, choose, tune, grant_close, decide, uri_at, note_of}
+use Rattle.beep_session.specs.beep_decide.specs.Laws.{IsOfferAt, IsFirstOffered}
+use Rattle.beep_session.specs.beep_decide.proofs.AnswerLemmas.{offered-uri, start-chosen}
+use Rattle.beep_session.specs.beep_answering.specs.declared.settled.Settled.{Settled}
+use Rattle.beep_session.specs.beep_answering.specs.Decided.{SaysAnswer, SettledBy}
+use Rattle.beep_session.specs.beep_answering.specs.Sent.{IsMessage, greeting_of, plain_listed}
+use Rattle.beep_session.specs.beep_spoken.specs.Spoken.{Spoken, text_of, AllSaid}
+use Rattle.beep_session.specs.beep_exchange.specs.Given.{ends_reply}
+use Rattle.beep_session.specs.beep_management.specs.Manages.{Manages}
+use Rattle.beep_session.specs.beep_management.specs.declared.wait.Wait.{Wait}
+use Rattle.beep_session.specs.beep_management.specs.Managed.{Prepared}
+use Rattle.beep_session.specs.beep_peer.specs.declared.peer.Peer.{Peer}
+use Rattle.beep_session.specs.beep_peer.proofs.LetLemmas.{left-words}
+use Rattle.beep_session.specs.beep_peer.specs.Calls.{Begins, GivesFirst, words_of}
+use Rattle.beep_session.specs.beep_peer.specs.Waiting.{AreGiven}
 use Rattle.beep_session.specs.Session.{Held}
-use Rattle.beep_talk.specs.Plan.{PlainPlan}
-use Rattle.beep_script.specs.Requested.{requests_from}
-use Rattle.beep_script.proofs.RequestedLemmas.{requests-append, requests-modulo, one-request, one-rest, asked-so, AreAskedSo, own_forms}
+use Rattle.beep_desk.specs.beep_talk.specs.Plan.{PlainPlan}
+use Rattle.beep_desk.specs.beep_script.specs.Requested.{requests_from}
+use Rattle.beep_desk.specs.beep_script.proofs.RequestedLemmas.{requests-append, requests-modulo, one-request, one-rest, asked-so, AreAskedSo, own_forms}
 use Rattle.beep_served.specs.Served.{says_other, chooses_other, IsServing}
 use Rattle.beep_served.proofs.ShownLemmas.{serves-on, served-before}
 use Rattle.beep_steps.specs.Serving.{Serves, ServesOn, ShowsServing}

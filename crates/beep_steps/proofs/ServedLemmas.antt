@@ -1,12 +1,12 @@
 -- All that comes to a listener is served, as the log of its link shows.
 use Rattle.std.proofs.Common.{◌≡◌, ℕ, ◌+◌, ◌<◌, ◌^◌, List, [], ◌∷◌, length, refl, ap, ◌∙◌, arith}
-use Rattle.beep_journal.specs.Broken.{none_tunes}
-use Rattle.beep_journal.specs.Journal.{Past, Shows}
-use Rattle.beep_journal.specs.Log.{Moment, got, put, got_all, put_all}
-use Rattle.beep_lawful.specs.declared.terms.Terms.{Terms}
-use Rattle.beep_wires.specs.Log.{Entry, read, wrote, quiet, ended}
+use Rattle.beep_session.specs.beep_journal.specs.Broken.{none_tunes}
+use Rattle.beep_session.specs.beep_journal.specs.Journal.{Past, Shows}
+use Rattle.beep_session.specs.beep_journal.specs.Log.{Moment, got, put, got_all, put_all}
+use Rattle.beep_session.specs.beep_lawful.specs.declared.terms.Terms.{Terms}
+use Rattle.beep_link.specs.beep_wires.specs.Log.{Entry, read, wrote, quiet, ended}
 use Rattle.beep_link.specs.Causes.{octets_read}
-use Rattle.beep_talk.specs.Plan.{PlainPlan}
+use Rattle.beep_desk.specs.beep_talk.specs.Plan.{PlainPlan}
 use Rattle.beep_served.specs.Served.{IsServed, octets_got}
 use Rattle.beep_served.proofs.ShownLemmas.{shown-served}
 use Rattle.beep_steps.specs.Logs.{moments, IsLawfulOn}

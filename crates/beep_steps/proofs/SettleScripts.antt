@@ -1,22 +1,22 @@
 -- A message of channel zero that is settled leaves a sender's script above channel zero.
 use Rattle.std.proofs.Common.{◌≡◌, ◌≤◌, Bool, true, false, List, [], ◌∷◌, ◌++◌, Option, refl, ◌∙◌}
-use Rattle.beep_frame.specs.Frame.{is_msg}
-use Rattle.beep_history.specs.declared.journal.Side.{Side}
-use Rattle.beep_history.specs.Journal.{Item, passed}
-use Rattle.beep_mgmt.specs.Form.{Form}
-use Rattle.beep_mgmt.specs.Message.{message_said}
-use Rattle.beep_journal.specs.Lives.{lives}
-use Rattle.beep_journal.specs.Zero.{zero_history, gathered, completes_form, events}
-use Rattle.beep_journal.specs.Log.{Moment}
-use Rattle.beep_decide.specs.Decide.{PlainStanding}
-use Rattle.beep_answering.specs.declared.settled.Settled.{Settled}
-use Rattle.beep_peer.specs.Calls.{SettlesReply, SettlesRequest}
-use Rattle.beep_upright.specs.Upright.{IsUpright}
+use Rattle.beep_session.specs.beep_frame.specs.Frame.{is_msg}
+use Rattle.beep_session.specs.beep_history.specs.declared.journal.Side.{Side}
+use Rattle.beep_session.specs.beep_history.specs.Journal.{Item, passed}
+use Rattle.beep_session.specs.beep_mgmt.specs.Form.{Form}
+use Rattle.beep_session.specs.beep_mgmt.specs.Message.{message_said}
+use Rattle.beep_session.specs.beep_journal.specs.Lives.{lives}
+use Rattle.beep_session.specs.beep_journal.specs.Zero.{zero_history, gathered, completes_form, events}
+use Rattle.beep_session.specs.beep_journal.specs.Log.{Moment}
+use Rattle.beep_session.specs.beep_decide.specs.Decide.{PlainStanding}
+use Rattle.beep_session.specs.beep_answering.specs.declared.settled.Settled.{Settled}
+use Rattle.beep_session.specs.beep_peer.specs.Calls.{SettlesReply, SettlesRequest}
+use Rattle.beep_session.specs.beep_upright.specs.Upright.{IsUpright}
 use Rattle.beep_session.specs.Channels.{IsOfPeer}
 use Rattle.beep_session.specs.Lawfully.{terms_of}
 use Rattle.beep_session.specs.Session.{Held}
-use Rattle.beep_talk.specs.Plan.{PlainPlan}
-use Rattle.beep_script.specs.Requested.{requests_from}
+use Rattle.beep_desk.specs.beep_talk.specs.Plan.{PlainPlan}
+use Rattle.beep_desk.specs.beep_script.specs.Requested.{requests_from}
 use Rattle.beep_steps.specs.Sending.{Progress}
 use Rattle.beep_steps.specs.Scripting.{Scripts, ScriptedOn, ScriptedWaiting}
 use Rattle.beep_steps.proofs.CallSends.{first-none}

@@ -1,30 +1,30 @@
 -- A message of channel zero that is settled leaves a sender so far.
 use Rattle.std.proofs.Common.{◌≡◌, ℕ, zero, suc, ◌-◌, ◌<◌, ◌≤◌, Bool, true, false, ◌||◌, List, [], ◌∷◌, ◌++◌, length, slice_get, Option, Some, refl, ap, ◌∙◌, arith}
 use Rattle.std.specs.List.{list_any}
-use Rattle.beep_frame.specs.declared.kind.Kind.{Kind}
-use Rattle.beep_frame.specs.Frame.{is_msg, is_ans}
-use Rattle.beep_history.specs.declared.journal.Side.{Side}
-use Rattle.beep_history.specs.Journal.{Item, passed}
-use Rattle.beep_history.specs.Marks.{position_of}
-use Rattle.beep_mgmt.specs.Form.{Form}
-use Rattle.beep_mgmt.specs.Message.{message_said}
-use Rattle.beep_journal.specs.Lives.{lives}
-use Rattle.beep_journal.specs.Zero.{zero_history, gathered, said_to, has_form, completes_form, events}
-use Rattle.beep_journal.specs.Log.{Moment}
-use Rattle.beep_decide.specs.Decide.{PlainStanding, Decision, refuse, choose, tune, grant_close, decide}
-use Rattle.beep_asked.specs.Kept.{Kept, oldest}
-use Rattle.beep_asked.proofs.LawsLemmas.{reply-waits}
-use Rattle.beep_answering.specs.declared.settled.Settled.{Settled}
-use Rattle.beep_answering.specs.Decided.{kind_of}
-use Rattle.beep_management.specs.Managed.{Prepared}
-use Rattle.beep_peer.specs.Calls.{Settles, SettlesReply, SettlesRequest}
-use Rattle.beep_peer.proofs.WaitingLemmas.{ends-reply}
-use Rattle.beep_upright.specs.Upright.{IsUpright}
+use Rattle.beep_session.specs.beep_frame.specs.declared.kind.Kind.{Kind}
+use Rattle.beep_session.specs.beep_frame.specs.Frame.{is_msg, is_ans}
+use Rattle.beep_session.specs.beep_history.specs.declared.journal.Side.{Side}
+use Rattle.beep_session.specs.beep_history.specs.Journal.{Item, passed}
+use Rattle.beep_session.specs.beep_history.specs.Marks.{position_of}
+use Rattle.beep_session.specs.beep_mgmt.specs.Form.{Form}
+use Rattle.beep_session.specs.beep_mgmt.specs.Message.{message_said}
+use Rattle.beep_session.specs.beep_journal.specs.Lives.{lives}
+use Rattle.beep_session.specs.beep_journal.specs.Zero.{zero_history, gathered, said_to, has_form, completes_form, events}
+use Rattle.beep_session.specs.beep_journal.specs.Log.{Moment}
+use Rattle.beep_session.specs.beep_decide.specs.Decide.{PlainStanding, Decision, refuse, choose, tune, grant_close, decide}
+use Rattle.beep_session.specs.beep_asked.specs.Kept.{Kept, oldest}
+use Rattle.beep_session.specs.beep_asked.proofs.LawsLemmas.{reply-waits}
+use Rattle.beep_session.specs.beep_answering.specs.declared.settled.Settled.{Settled}
+use Rattle.beep_session.specs.beep_answering.specs.Decided.{kind_of}
+use Rattle.beep_session.specs.beep_management.specs.Managed.{Prepared}
+use Rattle.beep_session.specs.beep_peer.specs.Calls.{Settles, SettlesReply, SettlesRequest}
+use Rattle.beep_session.specs.beep_peer.proofs.WaitingLemmas.{ends-reply}
+use Rattle.beep_session.specs.beep_upright.specs.Upright.{IsUpright}
 use Rattle.beep_session.specs.Channels.{IsOfPeer}
 use Rattle.beep_session.specs.Lawfully.{terms_of}
 use Rattle.beep_session.specs.Session.{Held}
-use Rattle.beep_talk.specs.Plan.{PlainPlan}
-use Rattle.beep_script.specs.Requested.{requests_from}
+use Rattle.beep_desk.specs.beep_talk.specs.Plan.{PlainPlan}
+use Rattle.beep_desk.specs.beep_script.specs.Requested.{requests_from}
 use Rattle.beep_steps.specs.Logs.{WaitsOn}
 use Rattle.beep_steps.specs.Sending.{Progress, Sends, SendsOn, SendsWaiting}
 use Rattle.beep_steps.proofs.CallLemmas.{settles-on}

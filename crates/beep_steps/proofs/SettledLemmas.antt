@@ -1,11 +1,11 @@
 -- What is settled ends an end where it refuses it, and else leaves it one that nothing refused.
 use Rattle.std.proofs.Common.{◌≡◌, ℕ, Bool, false, List, [], None, refl, sym, ap, ◌∙◌, subst}
-use Rattle.beep_journal.specs.Journal.{Past}
-use Rattle.beep_journal.specs.Log.{Moment, got_all}
-use Rattle.beep_lawful.specs.declared.terms.Terms.{Terms}
-use Rattle.beep_answering.specs.declared.settled.Settled.{Settled}
-use Rattle.beep_talk.specs.declared.plan.Command.{Command}
-use Rattle.beep_script.specs.Refused.{refusal}
+use Rattle.beep_session.specs.beep_journal.specs.Journal.{Past}
+use Rattle.beep_session.specs.beep_journal.specs.Log.{Moment, got_all}
+use Rattle.beep_session.specs.beep_lawful.specs.declared.terms.Terms.{Terms}
+use Rattle.beep_session.specs.beep_answering.specs.declared.settled.Settled.{Settled}
+use Rattle.beep_desk.specs.beep_talk.specs.declared.plan.Command.{Command}
+use Rattle.beep_desk.specs.beep_script.specs.Refused.{refusal}
 use Rattle.beep_link.specs.declared.ended.Stop.{Stop}
 use Rattle.beep_steps.specs.Logs.{command_of}
 use Rattle.beep_steps.specs.Refusing.{refused_so, IsUnrefused, RefusesOn, RefusesWith, SettlesSo, Unrefused}

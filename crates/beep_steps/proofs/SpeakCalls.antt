@@ -1,54 +1,54 @@
 -- What each call of a session leaves of a listener that keeps its script.
 use Rattle.std.proofs.Common.{◌≡◌, ℕ, ◌<◌, ◌==◌, Bool, true, false, not, ◌||◌, if◌then◌else◌, List, [], ◌∷◌, ◌++◌, Option, None, Some, refl, sym, ap, ◌∙◌, subst}
 use Rattle.std.specs.Prelude.{IfSome, IfNone, is_some}
-use Rattle.beep_frame.specs.declared.head.Head.{Head}
-use Rattle.beep_frame.specs.declared.rule.Rule.{Rule}
-use Rattle.beep_frame.specs.Frame.{framed, seq_frame}
-use Rattle.beep_frame.specs.Spelling.{spelling}
-use Rattle.beep_history.specs.declared.journal.Side.{Side}
-use Rattle.beep_history.specs.Journal.{Item, began, passed, told}
-use Rattle.beep_history.specs.Broken.{first_of}
-use Rattle.beep_journal.specs.Broken.{none_tunes, or_else, session_rules, broken_head, breaks_size, breaks_no_greeting, breaks_no_such_channel}
-use Rattle.beep_journal.specs.Lives.{Event, has_release, lives, is_live}
-use Rattle.beep_journal.specs.Zero.{events}
-use Rattle.beep_journal.specs.Life.{is_released, is_there, life_now}
-use Rattle.beep_journal.specs.Log.{Moment, got_all, put_all}
-use Rattle.beep_journal.proofs.JournalLemmas.{began-events, told-events}
-use Rattle.beep_decide.specs.Decide.{is_among}
-use Rattle.beep_lawful.specs.declared.terms.Terms.{Terms}
-use Rattle.beep_lawful.specs.Lawful.{IsLawful}
-use Rattle.beep_lawful.proofs.LawfulLemmas.{head-unbroken, item-lawful}
-use Rattle.beep_channel.specs.Held.{Live}
-use Rattle.beep_inbox.specs.declared.part.Part.{Part}
-use Rattle.beep_standing.specs.Standing.{Marks, AreLiveBy}
-use Rattle.beep_standing.proofs.ZeroLemmas.{none-live}
-use Rattle.beep_hearing.specs.declared.ear.Ear.{Ear}
-use Rattle.beep_hearing.specs.Hears.{Hears}
-use Rattle.beep_giving.proofs.CountLemmas.{turned}
-use Rattle.beep_speaking.specs.declared.emit.Emit.{Emit}
-use Rattle.beep_upright.specs.Frames.{AreFrames, IsFramed}
-use Rattle.beep_peer.specs.Calls.{Begins}
-use Rattle.beep_peer.specs.Lawfully.{SpeaksLawfully}
-use Rattle.beep_peer.specs.Peering.{Carries, IsPeer, is_over}
+use Rattle.beep_session.specs.beep_frame.specs.declared.head.Head.{Head}
+use Rattle.beep_session.specs.beep_frame.specs.declared.rule.Rule.{Rule}
+use Rattle.beep_session.specs.beep_frame.specs.Frame.{framed, seq_frame}
+use Rattle.beep_session.specs.beep_frame.specs.Spelling.{spelling}
+use Rattle.beep_session.specs.beep_history.specs.declared.journal.Side.{Side}
+use Rattle.beep_session.specs.beep_history.specs.Journal.{Item, began, passed, told}
+use Rattle.beep_session.specs.beep_history.specs.Broken.{first_of}
+use Rattle.beep_session.specs.beep_journal.specs.Broken.{none_tunes, or_else, session_rules, broken_head, breaks_size, breaks_no_greeting, breaks_no_such_channel}
+use Rattle.beep_session.specs.beep_journal.specs.Lives.{Event, has_release, lives, is_live}
+use Rattle.beep_session.specs.beep_journal.specs.Zero.{events}
+use Rattle.beep_session.specs.beep_journal.specs.Life.{is_released, is_there, life_now}
+use Rattle.beep_session.specs.beep_journal.specs.Log.{Moment, got_all, put_all}
+use Rattle.beep_session.specs.beep_journal.proofs.JournalLemmas.{began-events, told-events}
+use Rattle.beep_session.specs.beep_decide.specs.Decide.{is_among}
+use Rattle.beep_session.specs.beep_lawful.specs.declared.terms.Terms.{Terms}
+use Rattle.beep_session.specs.beep_lawful.specs.Lawful.{IsLawful}
+use Rattle.beep_session.specs.beep_lawful.proofs.LawfulLemmas.{head-unbroken, item-lawful}
+use Rattle.beep_session.specs.beep_channel.specs.Held.{Live}
+use Rattle.beep_session.specs.beep_inbox.specs.declared.part.Part.{Part}
+use Rattle.beep_session.specs.beep_standing.specs.Standing.{Marks, AreLiveBy}
+use Rattle.beep_session.specs.beep_standing.proofs.ZeroLemmas.{none-live}
+use Rattle.beep_session.specs.beep_hearing.specs.declared.ear.Ear.{Ear}
+use Rattle.beep_session.specs.beep_hearing.specs.Hears.{Hears}
+use Rattle.beep_session.specs.beep_giving.proofs.CountLemmas.{turned}
+use Rattle.beep_session.specs.beep_speaking.specs.declared.emit.Emit.{Emit}
+use Rattle.beep_session.specs.beep_upright.specs.Frames.{AreFrames, IsFramed}
+use Rattle.beep_session.specs.beep_peer.specs.Calls.{Begins}
+use Rattle.beep_session.specs.beep_peer.specs.Lawfully.{SpeaksLawfully}
+use Rattle.beep_session.specs.beep_peer.specs.Peering.{Carries, IsPeer, is_over}
 use Rattle.beep_session.specs.declared.event.Event.{Event as Heard}
 use Rattle.beep_session.specs.Channels.{IsOfPeer, IsStill, Takes}
 use Rattle.beep_session.specs.Lawfully.{terms_of, IsLawfulSession, KeepsUpright, FeedsLawfully, GainsLawfully, WaitsLawfully}
 use Rattle.beep_session.specs.Session.{Held}
 use Rattle.beep_logged.proofs.EndLemmas.{put-append}
 use Rattle.beep_logged.proofs.WriteLemmas.{frame-written, seq-written, lawful-frame}
-use Rattle.beep_talk.specs.declared.plan.Command.{Command}
-use Rattle.beep_talk.specs.Plan.{PlainPlan}
-use Rattle.beep_talk.specs.Talk.{has_peer_release}
+use Rattle.beep_desk.specs.beep_talk.specs.declared.plan.Command.{Command}
+use Rattle.beep_desk.specs.beep_talk.specs.Plan.{PlainPlan}
+use Rattle.beep_desk.specs.beep_talk.specs.Talk.{has_peer_release}
 use Rattle.beep_served.specs.Served.{HaveProfile, IsServing}
 use Rattle.beep_replies.specs.Replies.{first_said}
 use Rattle.beep_steps.specs.Logs.{StandsOn}
 use Rattle.beep_steps.specs.Serving.{ShowsServing}
-use Rattle.beep_steps.specs.Speaking.{Notes, IsSaid, KeepsTold, SpeaksSo, AreNoted, SpeaksOn, SpeaksWaiting, SpeaksGone, IsBorn, IsUnspoken, KeepsSpeaking}
+use Rattle.beep_steps.specs.Speaking.{Notes, IsSaid, KeepsSaid, SpeaksSo, AreNoted, SpeaksOn, SpeaksWaiting, SpeaksGone, IsBorn, IsUnspoken, KeepsSpeaking}
 use Rattle.beep_steps.proofs.BornLemmas.{born-going, born-unclosed, one-born}
 use Rattle.beep_steps.proofs.CallLemmas.{on-so, gained-on, waits-on}
 use Rattle.beep_steps.proofs.SpeakLemmas.{first-begun, asks-now, no-release, sent-release}
-use Rattle.beep_steps.proofs.SpeakLives.{given-told, nothing-told}
-use Rattle.beep_steps.proofs.SpeakSteps.{Quiet, Passing, ToldAt, quiet-passing, passing-then, item-quiet, frame-passing, gained-quiet, gained-told, live-of, dead-of, now-of, said-on, silent-on, seq-told, sent-told}
+use Rattle.beep_steps.proofs.SpeakLives.{given-said, nothing-said}
+use Rattle.beep_steps.proofs.SpeakSteps.{Quiet, Passing, SaidAt, quiet-passing, passing-then, item-quiet, frame-passing, gained-quiet, gained-said, live-of, dead-of, now-of, said-on, silent-on, seq-said, sent-said}
 use Rattle.beep_steps.proofs.StepLemmas.{frame-turns}
 
 -- ---- what is kept as a journal goes on
@@ -64,7 +64,7 @@ quiet-there plan old new q n = ap (λ (es : List Event). n == 0 || is_live n es)
 
 module _ (plan : PlainPlan) (notes : Notes) (old new : List Item) (given now : Marks) (p : Passing plan old new) (carries : Carries old new given now)
     (s : SpeaksSo plan notes old given) (noted : AreNoted notes old) where
-  pub scripts-on : (leaving : Bool) → has_peer_release (events new) ≡ leaving → KeepsTold plan new → SpeaksSo plan (record notes { leaving = leaving }) new now
+  pub scripts-on : (leaving : Bool) → has_peer_release (events new) ≡ leaving → KeepsSaid plan new → SpeaksSo plan (record notes { leaving = leaving }) new now
   scripts-on leaving left keeps = record {
     said = λ n above there among.
         let was = noted.spoken n above among in
@@ -81,7 +81,7 @@ noted-same notes old new same noted = record {
 }
 
 -- what comes without a whole message of channel zero, or a SEQ that goes out
-pub scripts-quiet : (plan : PlainPlan) (notes : Notes) (old new : List Item) (given : Marks) → Quiet plan old new → KeepsTold plan new → SpeaksSo plan notes old given → AreNoted notes old
+pub scripts-quiet : (plan : PlainPlan) (notes : Notes) (old new : List Item) (given : Marks) → Quiet plan old new → KeepsSaid plan new → SpeaksSo plan notes old given → AreNoted notes old
     → SpeaksSo plan notes new given
 scripts-quiet plan notes old new given q keeps s noted =
     scripts-on plan notes old new given given (quiet-passing plan old new q) (carries-all old new given (quiet-there plan old new q)) s noted notes.leaving
@@ -156,8 +156,8 @@ same-speaking plan before after old mid new same h = subst (λ (x : Held). Keeps
 abbrev nothing : Notes
 nothing = record { spoken = []; leaving = false }
 
-none-told : (plan : PlainPlan) → KeepsTold plan []
-none-told plan n c above = record { rest = _; whole_is = refl }
+empty-said : (plan : PlainPlan) → KeepsSaid plan []
+empty-said plan n c above = record { rest = _; whole_is = refl }
 
 pub begins-speaking : (plan : PlainPlan) (session : Held) (size : ℕ) (greeting : List ℕ) (b : Begins size greeting session.peer) (taken : Marks) → plan.command ≡ Command.Listen
     → (on : StandsOn session []) → on.journal ≡ [] → on.given ≡ b.given → SpeaksOn plan (record { spoken = []; leaving = false }) session []
@@ -168,7 +168,7 @@ begins-speaking plan session size greeting b taken listens on empty is = record 
     said = λ n above there among. clash false among refl;
     silent = λ n above there none. b.same n (turned n above);
     leaving = no-release;
-    keeps = none-told plan;
+    keeps = empty-said plan;
   }));
   noted = record {
     spoken = λ n above among. clash false among refl;
@@ -195,7 +195,7 @@ module _ (plan : PlainPlan) (notes : Notes) (octets : List ℕ) (old new : Held)
         record {
           listens = s.listens;
           on = gained-on octets old new log same s.on going g;
-          scripts = scripts-quiet plan notes s.on.journal (g.gained ++ s.on.journal) s.on.given q (gained-told plan g.gained s.on.journal g.gains.join s.scripts.keeps) s.scripts s.noted;
+          scripts = scripts-quiet plan notes s.on.journal (g.gained ++ s.on.journal) s.on.given q (gained-said plan g.gained s.on.journal g.gains.join s.scripts.keeps) s.scripts s.noted;
           noted = noted-same notes s.on.journal (g.gained ++ s.on.journal) (quiet-there plan s.on.journal (g.gained ++ s.on.journal) q) s.noted;
         }
 
@@ -206,7 +206,7 @@ module _ (plan : PlainPlan) (notes : Notes) (octets : List ℕ) (old new : Held)
         record {
           listens = s.listens;
           on = waits-on octets old new log same s.on going kept g;
-          scripts = scripts-quiet plan notes s.on.journal (z.gained ++ s.on.journal) s.on.given q (gained-told plan z.gained s.on.journal z.join s.scripts.keeps) s.scripts s.noted;
+          scripts = scripts-quiet plan notes s.on.journal (z.gained ++ s.on.journal) s.on.given q (gained-said plan z.gained s.on.journal z.join s.scripts.keeps) s.scripts s.noted;
           noted = noted-same notes s.on.journal (z.gained ++ s.on.journal) (quiet-there plan s.on.journal (z.gained ++ s.on.journal) q) s.noted;
         }
 
@@ -275,22 +275,22 @@ module _ (plan : PlainPlan) (notes : Notes) (head : Head) (payload : List ℕ) (
 
   -- what was sent of a live life is of its script
   here : (size : ℕ) (taken : Marks) (channels : List Live) → AreLiveBy size next now taken channels → Carries journal next given now → HaveProfile plan.raw_uri next
-      → (n : ℕ) → (n == 0) ≡ false → is_there n next ≡ true → ToldAt plan n (life_now n next) next
+      → (n : ℕ) → (n == 0) ≡ false → is_there n next ≡ true → SaidAt plan n (life_now n next) next
   here size taken channels live carries have n above there = of (is_among n notes.spoken) refl
     where
-      of : (b : Bool) → is_among n notes.spoken ≡ b → ToldAt plan n (life_now n next) next
+      of : (b : Bool) → is_among n notes.spoken ≡ b → SaidAt plan n (life_now n next) next
       of true among =
           let was = noted.spoken n above among in
-          given-told plan listens size next now taken channels live n above there have (said-on plan journal next given now passing carries n above was there (s.said n above was among))
+          given-said plan listens size next now taken channels live n above there have (said-on plan journal next given now passing carries n above was there (s.said n above was among))
       of false none =
-          nothing-told plan listens size next now taken channels live n above there
+          nothing-said plan listens size next now taken channels live n above there
           (silent-on plan journal next given now passing carries n above (λ was. s.silent n above was none) there)
 
   pub gone-scripts : (size : ℕ) (taken : Marks) (channels : List Live) → AreLiveBy size next now taken channels → Carries journal next given now → HaveProfile plan.raw_uri next
       → is_there head.channel journal ≡ true → SpeaksSo plan notes next now
   gone-scripts size taken channels live carries have there =
       scripts-on plan notes journal next given now passing carries s noted notes.leaving release
-      (sent-told plan head payload journal there s.keeps (λ above alive. here size taken channels live carries have head.channel above alive))
+      (sent-said plan head payload journal there s.keeps (λ above alive. here size taken channels live carries have head.channel above alive))
 
   -- one in which nothing was spoken begins by the frame
   not-live : (n : ℕ) → IsUnspoken notes n next → is_live n (events (began Side.Sent head ∷ journal)) ≡ false
@@ -354,7 +354,7 @@ module _ (plan : PlainPlan) (notes : Notes) (old new : Held) (before after : Lis
       (gone-same plan notes new (put_all octets (put_all before log)) s.on.journal s.listens
       (on-so old new same s.on.fed s.on.rest journal s.on.given s.on.taken (put_all octets (put_all before log)) m.1 (is, s.on.framed)
       (seq-written (terms_of old) s.on.rest s.on.journal (put_all before log) seq s.on.logged is m.1.lawful))
-      (scripts-quiet plan notes s.on.journal journal s.on.given q (seq-told plan Side.Sent seq s.on.journal s.scripts.keeps) s.scripts s.noted) s.noted (quiet-there plan s.on.journal journal q))
+      (scripts-quiet plan notes s.on.journal journal s.on.given q (seq-said plan Side.Sent seq s.on.journal s.scripts.keeps) s.scripts s.noted) s.noted (quiet-there plan s.on.journal journal q))
   speaks-speaking going (Emit.Data head) is m =
       let octets = spelling (framed head m.payload) in
       let all = put_all octets (put_all before log) in

@@ -1,33 +1,33 @@
 -- In a live life all of a listener's script is sent exactly where all that was given is, once no request waits there.
 use Rattle.std.proofs.Common.{◌≡◌, ◌∙◌, refl, sym, ap, subst, ℕ, zero, suc, ◌+◌, ◌==◌, Bool, true, false, not, ◌&&◌, if◌then◌else◌, List, [], ◌∷◌, ◌++◌, length, map, flat_map, arith, append-nil, length-append}
-use Rattle.beep_frame.specs.declared.head.Head.{Head}
-use Rattle.beep_frame.specs.declared.kind.Kind.{Kind}
-use Rattle.beep_frame.specs.declared.tag.Tag.{Tag}
-use Rattle.beep_frame.specs.Frame.{is_msg}
-use Rattle.beep_history.specs.declared.journal.Side.{Side}
-use Rattle.beep_history.specs.Journal.{Item, began, passed, told}
-use Rattle.beep_history.specs.Marks.{carries, end, frame_marks, marks, mark_modulo_2_64, octet, tag_of, waiting}
-use Rattle.beep_history.specs.Messages.{Message, gathered, messages}
-use Rattle.beep_history.specs.Broken.{KeepsExchangeRules}
-use Rattle.beep_journal.specs.Life.{history, is_there, life, life_now}
-use Rattle.beep_journal.proofs.MomentLemmas.{equal-number, same-number}
-use Rattle.beep_exchange.specs.Given.{ends_reply}
-use Rattle.beep_exchange.specs.Kept.{Kept}
-use Rattle.beep_inbox.specs.Runs.{Run, run_marks, marks_of as untaken_marks}
-use Rattle.beep_outbox.specs.Queue.{Message as Unsent, marks_of as unsent_marks}
-use Rattle.beep_channel.specs.Fits.{replies as queued_replies}
-use Rattle.beep_channel.specs.Held.{Live}
-use Rattle.beep_channel.specs.Stands.{Stands, ends_of}
-use Rattle.beep_channel.specs.Sums.{ended_of}
-use Rattle.beep_channel.proofs.CountedLemmas.{ends-append, ends-part}
-use Rattle.beep_standing.specs.Standing.{Marks, AreLiveBy}
-use Rattle.beep_giving.proofs.CountLemmas.{counted-above}
-use Rattle.beep_decide.specs.Decide.{is_among}
-use Rattle.beep_talk.specs.declared.plan.Command.{Command}
-use Rattle.beep_talk.specs.Plan.{PlainPlan}
-use Rattle.beep_talk.specs.Talk.{talk}
-use Rattle.beep_script.specs.Desk.{is_said}
-use Rattle.beep_script.specs.Script.{message_marks}
+use Rattle.beep_session.specs.beep_frame.specs.declared.head.Head.{Head}
+use Rattle.beep_session.specs.beep_frame.specs.declared.kind.Kind.{Kind}
+use Rattle.beep_session.specs.beep_frame.specs.declared.tag.Tag.{Tag}
+use Rattle.beep_session.specs.beep_frame.specs.Frame.{is_msg}
+use Rattle.beep_session.specs.beep_history.specs.declared.journal.Side.{Side}
+use Rattle.beep_session.specs.beep_history.specs.Journal.{Item, began, passed, told}
+use Rattle.beep_session.specs.beep_history.specs.Marks.{carries, end, frame_marks, marks, mark_modulo_2_64, octet, tag_of, waiting}
+use Rattle.beep_session.specs.beep_history.specs.Messages.{Message, gathered, messages}
+use Rattle.beep_session.specs.beep_history.specs.Broken.{KeepsExchangeRules}
+use Rattle.beep_session.specs.beep_journal.specs.Life.{history, is_there, life, life_now}
+use Rattle.beep_session.specs.beep_journal.proofs.MomentLemmas.{equal-number, same-number}
+use Rattle.beep_session.specs.beep_exchange.specs.Given.{ends_reply}
+use Rattle.beep_session.specs.beep_exchange.specs.Kept.{Kept}
+use Rattle.beep_session.specs.beep_inbox.specs.Runs.{Run, run_marks, marks_of as untaken_marks}
+use Rattle.beep_session.specs.beep_outbox.specs.Queue.{Message as Unsent, marks_of as unsent_marks}
+use Rattle.beep_session.specs.beep_channel.specs.Fits.{replies as queued_replies}
+use Rattle.beep_session.specs.beep_channel.specs.Held.{Live}
+use Rattle.beep_session.specs.beep_channel.specs.Stands.{Stands, ends_of}
+use Rattle.beep_session.specs.beep_channel.specs.Sums.{ended_of}
+use Rattle.beep_session.specs.beep_channel.proofs.CountedLemmas.{ends-append, ends-part}
+use Rattle.beep_session.specs.beep_standing.specs.Standing.{Marks, AreLiveBy}
+use Rattle.beep_session.specs.beep_giving.proofs.CountLemmas.{counted-above}
+use Rattle.beep_session.specs.beep_decide.specs.Decide.{is_among}
+use Rattle.beep_desk.specs.beep_talk.specs.declared.plan.Command.{Command}
+use Rattle.beep_desk.specs.beep_talk.specs.Plan.{PlainPlan}
+use Rattle.beep_desk.specs.beep_talk.specs.Talk.{talk}
+use Rattle.beep_desk.specs.beep_script.specs.Desk.{is_said}
+use Rattle.beep_desk.specs.beep_script.specs.Script.{message_marks}
 use Rattle.beep_served.specs.Served.{HaveProfile}
 use Rattle.beep_replies.specs.Replies.{first_said, replies, requests_passed, whole_requests}
 use Rattle.beep_replies.proofs.SaidLemmas.{said}
@@ -162,7 +162,7 @@ module _ (plan : PlainPlan) (listens : plan.command ≡ Command.Listen) (size : 
       let counted = counted-above size n journal given taken channels c above live (channel-at plan listens size journal given taken channels live n above there).1 in
       let owed = counted.owed in
       let arrived = ap (ends_of is_msg) at.all_arrived ∙ ends-append is_msg (taken n) (untaken_marks c.held.inbox) in
-      let told = ends-modulo is_msg (marks Side.Received (history n journal)) in
+      let modulo = ends-modulo is_msg (marks Side.Received (history n journal)) in
       let passed_are : ends_of is_msg (marks Side.Received (history n journal)) ≡ requests_passed n k journal =
       ends-requests (marks Side.Received (history n journal)) ∙ ap (λ (p : List Item). whole_requests Side.Received p) life-is in
       let one = sums.owed in
@@ -173,7 +173,7 @@ module _ (plan : PlainPlan) (listens : plan.command ≡ Command.Listen) (size : 
       let same = ap (ends_of any) sent in
       let is = replied in
       let all : length (messages Side.Sent past) ≡ length (talk plan n k journal) =
-      omega (arith, waits, queued, untaken, owed, arrived, told, passed_are, one, two, given_are, talk_are, sent_are, same, is) in
+      omega (arith, waits, queued, untaken, owed, arrived, modulo, passed_are, one, two, given_are, talk_are, sent_are, same, is) in
       ap (λ (x : ℕ). x == length (talk plan n k journal)) all ∙ same-number (length (talk plan n k journal))
     where
       empty : ends_of any (unsent_marks c.held.queue) ≡ 0

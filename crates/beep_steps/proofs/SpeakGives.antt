@@ -3,53 +3,53 @@ use Rattle.std.proofs.Common.{◌≡◌, ℕ, ◌+◌, ◌==◌, Bool, true, fal
 use Rattle.std.specs.Prelude.{is_some, Option, Result, Ok, OnOk}
 use Rattle.std.proofs.lemmas.List.{map-append}
 use Rattle.std.proofs.lemmas.List.Concat.{flat_map-append}
-use Rattle.beep_frame.specs.declared.kind.Kind.{Kind}
-use Rattle.beep_frame.specs.declared.tag.Tag.{Tag}
-use Rattle.beep_frame.specs.Modulo.{modulo_2_64 as count_modulo}
-use Rattle.beep_history.specs.Journal.{Item}
-use Rattle.beep_history.specs.Marks.{Mark, octet, end, modulo_2_64, mark_modulo_2_64}
-use Rattle.beep_history.specs.Messages.{Message}
-use Rattle.beep_mgmt.specs.Form.{fault}
-use Rattle.beep_mgmt.specs.Message.{message_text}
-use Rattle.beep_journal.specs.Life.{is_there, life_now}
-use Rattle.beep_journal.specs.Zero.{events}
-use Rattle.beep_journal.specs.Log.{Moment}
-use Rattle.beep_journal.proofs.MomentLemmas.{equal-number, same-number}
-use Rattle.beep_decide.specs.Decide.{is_among, note_of}
-use Rattle.beep_exchange.specs.Given.{ends_reply}
-use Rattle.beep_outbox.specs.Queue.{message_marks as given_marks}
-use Rattle.beep_channel.specs.Stands.{ends_of}
-use Rattle.beep_standing.specs.Standing.{Marks, with_marks}
-use Rattle.beep_standing.proofs.SendLemmas.{with-other}
-use Rattle.beep_lives.specs.Lives.{live_at}
-use Rattle.beep_giving.specs.Giving.{next_message}
-use Rattle.beep_giving.specs.Looks.{answers_of}
+use Rattle.beep_session.specs.beep_frame.specs.declared.kind.Kind.{Kind}
+use Rattle.beep_session.specs.beep_frame.specs.declared.tag.Tag.{Tag}
+use Rattle.beep_session.specs.beep_frame.specs.Modulo.{modulo_2_64 as count_modulo}
+use Rattle.beep_session.specs.beep_history.specs.Journal.{Item}
+use Rattle.beep_session.specs.beep_history.specs.Marks.{Mark, octet, end, modulo_2_64, mark_modulo_2_64}
+use Rattle.beep_session.specs.beep_history.specs.Messages.{Message}
+use Rattle.beep_session.specs.beep_mgmt.specs.Form.{fault}
+use Rattle.beep_session.specs.beep_mgmt.specs.Message.{message_text}
+use Rattle.beep_session.specs.beep_journal.specs.Life.{is_there, life_now}
+use Rattle.beep_session.specs.beep_journal.specs.Zero.{events}
+use Rattle.beep_session.specs.beep_journal.specs.Log.{Moment}
+use Rattle.beep_session.specs.beep_journal.proofs.MomentLemmas.{equal-number, same-number}
+use Rattle.beep_session.specs.beep_decide.specs.Decide.{is_among, note_of}
+use Rattle.beep_session.specs.beep_exchange.specs.Given.{ends_reply}
+use Rattle.beep_session.specs.beep_outbox.specs.Queue.{message_marks as given_marks}
+use Rattle.beep_session.specs.beep_channel.specs.Stands.{ends_of}
+use Rattle.beep_session.specs.beep_standing.specs.Standing.{Marks, with_marks}
+use Rattle.beep_session.specs.beep_standing.proofs.SendLemmas.{with-other}
+use Rattle.beep_session.specs.beep_lives.specs.Lives.{live_at}
+use Rattle.beep_session.specs.beep_giving.specs.Giving.{next_message}
+use Rattle.beep_session.specs.beep_giving.specs.Looks.{answers_of}
 use Rattle.beep_session.specs.Channels.{Gives}
 use Rattle.beep_session.specs.Lawfully.{KeepsUpright}
 use Rattle.beep_session.specs.Session.{Held}
-use Rattle.beep_talk.specs.declared.plan.Command.{Command}
-use Rattle.beep_talk.specs.Plan.{PlainPlan}
-use Rattle.beep_talk.specs.Talk.{has_peer_release, ready, refusal, reply_of}
-use Rattle.beep_script.specs.Script.{message_marks}
+use Rattle.beep_desk.specs.beep_talk.specs.declared.plan.Command.{Command}
+use Rattle.beep_desk.specs.beep_talk.specs.Plan.{PlainPlan}
+use Rattle.beep_desk.specs.beep_talk.specs.Talk.{has_peer_release, ready, refusal, reply_of}
+use Rattle.beep_desk.specs.beep_script.specs.Script.{message_marks}
 use Rattle.beep_replies.specs.Replies.{first_said, replies}
 use Rattle.beep_replies.proofs.SaidLemmas.{next-reply}
-use Rattle.beep_steps.specs.Speaking.{Notes, asked_now, modulo_marks, AreNoted, IsSaid, KeepsSpeaking, KeepsTold, SpeaksNew, SpeaksOn, SpeaksSo}
+use Rattle.beep_steps.specs.Speaking.{Notes, asked_now, modulo_marks, AreNoted, IsSaid, KeepsSpeaking, KeepsSaid, SpeaksNew, SpeaksOn, SpeaksSo}
 use Rattle.beep_steps.proofs.CallLemmas.{on-so}
 use Rattle.beep_steps.proofs.SpeakCalls.{peer-speaking, same-speaking}
 use Rattle.beep_steps.proofs.SpeakLives.{no-answers, one-reply, said-ends}
 
 -- ---- marks
 
-told-octets : (tag : Tag) (os : List ℕ) (ms : List Mark) → map mark_modulo_2_64 (map (octet tag) os ++ ms) ≡ map (octet (modulo_2_64 tag)) os ++ map mark_modulo_2_64 ms
-told-octets tag [] ms = refl
-told-octets tag (o ∷ os) ms = ap (λ (rest : List Mark). octet (modulo_2_64 tag) o ∷ rest) (told-octets tag os ms)
+modulo-octets : (tag : Tag) (os : List ℕ) (ms : List Mark) → map mark_modulo_2_64 (map (octet tag) os ++ ms) ≡ map (octet (modulo_2_64 tag)) os ++ map mark_modulo_2_64 ms
+modulo-octets tag [] ms = refl
+modulo-octets tag (o ∷ os) ms = ap (λ (rest : List Mark). octet (modulo_2_64 tag) o ∷ rest) (modulo-octets tag os ms)
 
 -- one message, its position modulo 2^64
-pub one-told : (m : Message) → modulo_marks (m ∷ []) ≡ given_marks (record { tag = modulo_2_64 m.tag; octets = m.content })
-one-told m = ap (map mark_modulo_2_64) (append-nil (message_marks m)) ∙ told-octets m.tag m.content (end m.tag ∷ [])
+pub one-modulo : (m : Message) → modulo_marks (m ∷ []) ≡ given_marks (record { tag = modulo_2_64 m.tag; octets = m.content })
+one-modulo m = ap (map mark_modulo_2_64) (append-nil (message_marks m)) ∙ modulo-octets m.tag m.content (end m.tag ∷ [])
 
-told-append : (xs ys : List Message) → modulo_marks (xs ++ ys) ≡ modulo_marks xs ++ modulo_marks ys
-told-append xs ys = ap (map mark_modulo_2_64) (flat_map-append message_marks xs ys) ∙ map-append mark_modulo_2_64 (flat_map message_marks xs) (flat_map message_marks ys)
+modulo-append : (xs ys : List Message) → modulo_marks (xs ++ ys) ≡ modulo_marks xs ++ modulo_marks ys
+modulo-append xs ys = ap (map mark_modulo_2_64) (flat_map-append message_marks xs ys) ∙ map-append mark_modulo_2_64 (flat_map message_marks xs) (flat_map message_marks ys)
 
 -- ---- a refusal
 
@@ -65,8 +65,8 @@ module _ (plan : PlainPlan) (listens : plan.command ≡ Command.Listen) where
     given_is =
         ap (λ (k : ℕ). given ++ given_marks (record { tag = refusal-as (count_modulo k) 0; octets = message_text (fault 550 (note_of 550)) })) count-is
         ∙ ap (λ (ms : List Mark). ms ++ given_marks (record { tag = refusal-as (count_modulo s.count) 0; octets = message_text (fault 550 (note_of 550)) })) s.given_is
-        ∙ ap (λ (ms : List Mark). modulo_marks (first ++ replies plan 0 s.count) ++ ms) (sym (one-told (refusal s.count)))
-        ∙ sym (told-append (first ++ replies plan 0 s.count) (refusal s.count ∷ []))
+        ∙ ap (λ (ms : List Mark). modulo_marks (first ++ replies plan 0 s.count) ++ ms) (sym (one-modulo (refusal s.count)))
+        ∙ sym (modulo-append (first ++ replies plan 0 s.count) (refusal s.count ∷ []))
         ∙ ap modulo_marks (append_assoc first (replies plan 0 s.count) (refusal s.count ∷ []) ∙ ap (λ (ms : List Message). first ++ ms) (sym next));
   }
     where
@@ -88,7 +88,7 @@ abbrev ready-octets : List ℕ
 ready-octets = ready.content
 
 pub ready-said : (plan : PlainPlan) → IsSaid plan (ready ∷ []) ([] ++ given_marks (next_message Kind.Msg ready.content []))
-ready-said plan = record { count = 0; given_is = sym (one-told ready) }
+ready-said plan = record { count = 0; given_is = sym (one-modulo ready) }
 
 pub none-said : (plan : PlainPlan) → IsSaid plan [] []
 none-said plan = record { count = 0; given_is = refl }
@@ -130,7 +130,7 @@ module _ (plan : PlainPlan) (notes : Notes) (number : ℕ) (journal : List Item)
 -- what is asked first was given in a life that has just begun
 pub first-scripts : (plan : PlainPlan) (notes : Notes) (number : ℕ) (journal : List Item) (given now : Marks) → ((n : ℕ) → (number == n) ≡ false → now n ≡ given n) → AreNoted notes journal
     → ((n : ℕ) → (n == 0) ≡ false → is_there n journal ≡ true → (number == n) ≡ false → IsSaid plan (first_said plan n (life_now n journal) journal) (given n))
-    → has_peer_release (events journal) ≡ notes.leaving → KeepsTold plan journal → IsSaid plan (first_said plan number (life_now number journal) journal) (now number) → SpeaksSo plan notes journal now
+    → has_peer_release (events journal) ≡ notes.leaving → KeepsSaid plan journal → IsSaid plan (first_said plan number (life_now number journal) journal) (now number) → SpeaksSo plan notes journal now
 first-scripts plan notes number journal given now same noted others leaving keeps first = record {
   said = λ n above there among. of n above there (number == n) refl;
   silent = λ n above there none. absurd (let g : true ≡ false = sym (noted.all n above there) ∙ none in cc);

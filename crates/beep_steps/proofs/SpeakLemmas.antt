@@ -3,24 +3,24 @@ use Rattle.std.proofs.Common.{◌≡◌, ℕ, ◌+◌, ◌<◌, ◌==◌, Bool, 
 use Rattle.std.specs.Prelude.{nat_lt}
 use Rattle.std.specs.List.{list_any}
 use Rattle.std.proofs.lemmas.Bool.Decides.{nat_tests}
-use Rattle.beep_frame.specs.declared.head.Head.{Head}
-use Rattle.beep_frame.specs.declared.kind.Kind.{Kind}
-use Rattle.beep_frame.specs.Frame.{is_msg, same_kind}
-use Rattle.beep_history.specs.declared.journal.Side.{Side}
-use Rattle.beep_history.specs.Journal.{Item, began, passed, told}
-use Rattle.beep_history.specs.Marks.{position_of}
-use Rattle.beep_history.specs.Messages.{Message}
-use Rattle.beep_text.specs.Said.{element_said}
-use Rattle.beep_mgmt.specs.Form.{Form, greeting, start, chosen, close, okay, fault}
-use Rattle.beep_mgmt.specs.Message.{message_said}
-use Rattle.beep_journal.specs.Lives.{Event, start_granted, lives}
-use Rattle.beep_journal.specs.Zero.{zero_history, zero_events, events, gathered, asked, coming, granting, effect, said_to, completes_form}
-use Rattle.beep_decide.specs.Asks.{is_close_of}
-use Rattle.beep_asked.specs.Kept.{Kept, is_leaving}
-use Rattle.beep_asked.specs.Asked.{AreAsked}
-use Rattle.beep_talk.specs.declared.plan.Command.{Command}
-use Rattle.beep_talk.specs.Plan.{PlainPlan}
-use Rattle.beep_talk.specs.Talk.{begins_with, has_profile, asked_first, has_peer_release, chooses, ready}
+use Rattle.beep_session.specs.beep_frame.specs.declared.head.Head.{Head}
+use Rattle.beep_session.specs.beep_frame.specs.declared.kind.Kind.{Kind}
+use Rattle.beep_session.specs.beep_frame.specs.Frame.{is_msg, same_kind}
+use Rattle.beep_session.specs.beep_history.specs.declared.journal.Side.{Side}
+use Rattle.beep_session.specs.beep_history.specs.Journal.{Item, began, passed, told}
+use Rattle.beep_session.specs.beep_history.specs.Marks.{position_of}
+use Rattle.beep_session.specs.beep_history.specs.Messages.{Message}
+use Rattle.beep_session.specs.beep_text.specs.Said.{element_said}
+use Rattle.beep_session.specs.beep_mgmt.specs.Form.{Form, greeting, start, chosen, close, okay, fault}
+use Rattle.beep_session.specs.beep_mgmt.specs.Message.{message_said}
+use Rattle.beep_session.specs.beep_journal.specs.Lives.{Event, start_granted, lives}
+use Rattle.beep_session.specs.beep_journal.specs.Zero.{zero_history, zero_events, events, gathered, asked, coming, granting, effect, said_to, completes_form}
+use Rattle.beep_session.specs.beep_decide.specs.Asks.{is_close_of}
+use Rattle.beep_session.specs.beep_asked.specs.Kept.{Kept, is_leaving}
+use Rattle.beep_session.specs.beep_asked.specs.Asked.{AreAsked}
+use Rattle.beep_desk.specs.beep_talk.specs.declared.plan.Command.{Command}
+use Rattle.beep_desk.specs.beep_talk.specs.Plan.{PlainPlan}
+use Rattle.beep_desk.specs.beep_talk.specs.Talk.{begins_with, has_profile, asked_first, has_peer_release, chooses, ready}
 use Rattle.beep_served.specs.Served.{HaveProfile}
 use Rattle.beep_replies.specs.Replies.{first_said}
 use Rattle.beep_replies.proofs.SaidLemmas.{lives-grow, profile-begun}

@@ -5,37 +5,37 @@ use Rattle.std.specs.List.{list_any}
 use Rattle.std.proofs.lemmas.List.{map-append}
 use Rattle.std.proofs.lemmas.List.Folds.{list_any-append}
 use Rattle.std.proofs.lemmas.List.Concat.{flat_map-append}
-use Rattle.beep_frame.specs.declared.kind.Kind.{Kind}
-use Rattle.beep_frame.specs.declared.tag.Tag.{Tag}
-use Rattle.beep_frame.specs.Frame.{is_msg, is_ans}
-use Rattle.beep_history.specs.declared.journal.Side.{Side}
-use Rattle.beep_history.specs.Journal.{Item}
-use Rattle.beep_history.specs.Marks.{Mark, octet, end, marks, mark_modulo_2_64}
-use Rattle.beep_history.specs.Messages.{Message}
-use Rattle.beep_history.specs.Broken.{KeepsExchangeRules}
-use Rattle.beep_journal.specs.Lives.{Event}
-use Rattle.beep_journal.specs.Zero.{zero_history, events}
-use Rattle.beep_journal.specs.Life.{history, is_there, life, life_now}
-use Rattle.beep_exchange.specs.Given.{ends_reply}
-use Rattle.beep_inbox.specs.Runs.{marks_of as untaken_marks}
-use Rattle.beep_outbox.specs.Queue.{marks_of as unsent_marks}
-use Rattle.beep_channel.specs.Held.{Live}
-use Rattle.beep_channel.specs.Stands.{Stands, ends_of, answers_after, answer_number, answers_with}
-use Rattle.beep_channel.proofs.CountedLemmas.{ends-append}
-use Rattle.beep_lives.specs.Lives.{live_at}
-use Rattle.beep_standing.specs.Standing.{Marks, AreLiveBy}
-use Rattle.beep_giving.specs.Looks.{answers_of}
-use Rattle.beep_giving.proofs.CountLemmas.{counted-above}
-use Rattle.beep_talk.specs.declared.plan.Command.{Command}
-use Rattle.beep_talk.specs.Plan.{PlainPlan}
-use Rattle.beep_talk.specs.Talk.{begins_with, asked_first, has_peer_release, ready, refusal, reply_of, talk}
-use Rattle.beep_script.specs.Script.{script_marks, message_marks}
+use Rattle.beep_session.specs.beep_frame.specs.declared.kind.Kind.{Kind}
+use Rattle.beep_session.specs.beep_frame.specs.declared.tag.Tag.{Tag}
+use Rattle.beep_session.specs.beep_frame.specs.Frame.{is_msg, is_ans}
+use Rattle.beep_session.specs.beep_history.specs.declared.journal.Side.{Side}
+use Rattle.beep_session.specs.beep_history.specs.Journal.{Item}
+use Rattle.beep_session.specs.beep_history.specs.Marks.{Mark, octet, end, marks, mark_modulo_2_64}
+use Rattle.beep_session.specs.beep_history.specs.Messages.{Message}
+use Rattle.beep_session.specs.beep_history.specs.Broken.{KeepsExchangeRules}
+use Rattle.beep_session.specs.beep_journal.specs.Lives.{Event}
+use Rattle.beep_session.specs.beep_journal.specs.Zero.{zero_history, events}
+use Rattle.beep_session.specs.beep_journal.specs.Life.{history, is_there, life, life_now}
+use Rattle.beep_session.specs.beep_exchange.specs.Given.{ends_reply}
+use Rattle.beep_session.specs.beep_inbox.specs.Runs.{marks_of as untaken_marks}
+use Rattle.beep_session.specs.beep_outbox.specs.Queue.{marks_of as unsent_marks}
+use Rattle.beep_session.specs.beep_channel.specs.Held.{Live}
+use Rattle.beep_session.specs.beep_channel.specs.Stands.{Stands, ends_of, answers_after, answer_number, answers_with}
+use Rattle.beep_session.specs.beep_channel.proofs.CountedLemmas.{ends-append}
+use Rattle.beep_session.specs.beep_lives.specs.Lives.{live_at}
+use Rattle.beep_session.specs.beep_standing.specs.Standing.{Marks, AreLiveBy}
+use Rattle.beep_session.specs.beep_giving.specs.Looks.{answers_of}
+use Rattle.beep_session.specs.beep_giving.proofs.CountLemmas.{counted-above}
+use Rattle.beep_desk.specs.beep_talk.specs.declared.plan.Command.{Command}
+use Rattle.beep_desk.specs.beep_talk.specs.Plan.{PlainPlan}
+use Rattle.beep_desk.specs.beep_talk.specs.Talk.{begins_with, asked_first, has_peer_release, ready, refusal, reply_of, talk}
+use Rattle.beep_desk.specs.beep_script.specs.Script.{script_marks, message_marks}
 use Rattle.beep_served.specs.Served.{HaveProfile}
 use Rattle.beep_replies.specs.Replies.{first_said, replies, requests_passed, ends_msg}
 use Rattle.beep_replies.proofs.SaidLemmas.{next-reply, said}
 use Rattle.beep_replies.proofs.StayLemmas.{script-is}
 use Rattle.beep_steps.specs.Speaking.{IsSaid, modulo_marks}
-use Rattle.beep_steps.proofs.SpeakSteps.{ToldAt, live-life}
+use Rattle.beep_steps.proofs.SpeakSteps.{SaidAt, live-life}
 
 -- ---- ends among marks
 
@@ -172,21 +172,21 @@ module _ (plan : PlainPlan) (listens : plan.command ≡ Command.Listen) (size : 
       let c = counted-above size n journal given taken channels channel-at.0 above live channel-at.1 in
       let owed = c.owed in
       let all = ap (ends_of is_msg) stands.all_arrived ∙ ends-append is_msg (taken n) (untaken_marks channel-at.0.held.inbox) in
-      let told = ends-modulo is_msg (marks Side.Received (history n journal)) in
+      let modulo = ends-modulo is_msg (marks Side.Received (history n journal)) in
       let whole = ends-requests (marks Side.Received (history n journal)) in
       let same : length (filter ends_msg (marks Side.Received (history n journal))) ≡ requests_passed n k journal =
       ap (λ (past : List Item). length (filter ends_msg (marks Side.Received past))) past-is in
-      omega (arith, owed, all, told, whole, same)
+      omega (arith, owed, all, modulo, whole, same)
 
-  pub nothing-told : given n ≡ [] → ToldAt plan n k journal
-  nothing-told none = record { rest = _; whole_is = ap (λ (ms : List Mark). ms ++ map mark_modulo_2_64 (script_marks plan n k journal)) (sym (front (map mark_modulo_2_64 (marks Side.Sent (life n k journal))) (unsent_marks channel-at.0.held.queue) (sym none ∙ all-given))) }
+  pub nothing-said : given n ≡ [] → SaidAt plan n k journal
+  nothing-said none = record { rest = _; whole_is = ap (λ (ms : List Mark). ms ++ map mark_modulo_2_64 (script_marks plan n k journal)) (sym (front (map mark_modulo_2_64 (marks Side.Sent (life n k journal))) (unsent_marks channel-at.0.held.queue) (sym none ∙ all-given))) }
     where
       front : (xs ys : List Mark) → [] ≡ xs ++ ys → xs ≡ []
       front [] ys e = refl
       front (x ∷ xs) ys e = absurd (let h : [] ≡ x ∷ (xs ++ ys) = e in cc)
 
-  pub given-told : HaveProfile plan.raw_uri journal → IsSaid plan (first_said plan n k journal) (given n) → ToldAt plan n k journal
-  given-told have s = record {
+  pub given-said : HaveProfile plan.raw_uri journal → IsSaid plan (first_said plan n k journal) (given n) → SaidAt plan n k journal
+  given-said have s = record {
     rest = unsent_marks channel-at.0.held.queue ++ modulo_marks more.rest;
     whole_is = ap (map mark_modulo_2_64) (script-is plan n k journal above) ∙ ap modulo_marks talk-is ∙ split
         ∙ ap (λ (ms : List Mark). ms ++ modulo_marks more.rest) (sym s.given_is ∙ all-given)

@@ -2,36 +2,36 @@
 use Rattle.std.proofs.Common.{◌≡◌, ℕ, ◌==◌, Bool, true, false, not, ◌&&◌, ◌||◌, if◌then◌else◌, List, [], ◌∷◌, ◌++◌, length, Option, None, Some, refl, sym, ap, ◌∙◌, subst}
 use Rattle.std.specs.Prelude.{is_some}
 use Rattle.std.specs.List.{list_any}
-use Rattle.beep_frame.specs.declared.head.Head.{Head}
-use Rattle.beep_frame.specs.declared.kind.Kind.{Kind}
-use Rattle.beep_frame.specs.Frame.{is_msg, same_kind}
-use Rattle.beep_history.specs.declared.journal.Side.{Side}
-use Rattle.beep_history.specs.Journal.{Item, passed}
-use Rattle.beep_history.specs.Marks.{position_of}
-use Rattle.beep_mgmt.specs.Form.{Form, PlainProfile, greeting, start, chosen, close, okay, fault}
-use Rattle.beep_mgmt.specs.Message.{message_said}
-use Rattle.beep_journal.specs.Lives.{Event, is_live}
-use Rattle.beep_journal.specs.Zero.{zero_history, zero_events, gathered, asked, said_at, said_to, coming, granting, completes_form, events}
-use Rattle.beep_journal.specs.Life.{is_there}
-use Rattle.beep_journal.specs.Log.{Moment}
-use Rattle.beep_journal.proofs.MomentLemmas.{equal-number}
-use Rattle.beep_decide.specs.Asks.{is_close_of}
-use Rattle.beep_decide.specs.Decide.{PlainStanding, Decision, refuse, choose, tune, grant_close, decide, decide_start, is_among}
-use Rattle.beep_asked.specs.Kept.{Kept, is_leaving, oldest}
-use Rattle.beep_asked.specs.Asked.{EndsReply}
-use Rattle.beep_asked.proofs.LawsLemmas.{reply-waits}
-use Rattle.beep_answering.specs.declared.settled.Settled.{Settled}
-use Rattle.beep_answering.specs.Decided.{SettledBy, IsSettledAs, IsBegunBy, IsClosedBy, refused_as}
-use Rattle.beep_management.specs.declared.wait.Wait.{Wait}
-use Rattle.beep_peer.specs.Calls.{Settles, SettlesReply, SettlesRequest}
-use Rattle.beep_peer.specs.Standing.{standing_of}
-use Rattle.beep_peer.proofs.WaitingLemmas.{ends-reply}
-use Rattle.beep_upright.specs.Upright.{IsUpright}
+use Rattle.beep_session.specs.beep_frame.specs.declared.head.Head.{Head}
+use Rattle.beep_session.specs.beep_frame.specs.declared.kind.Kind.{Kind}
+use Rattle.beep_session.specs.beep_frame.specs.Frame.{is_msg, same_kind}
+use Rattle.beep_session.specs.beep_history.specs.declared.journal.Side.{Side}
+use Rattle.beep_session.specs.beep_history.specs.Journal.{Item, passed}
+use Rattle.beep_session.specs.beep_history.specs.Marks.{position_of}
+use Rattle.beep_session.specs.beep_mgmt.specs.Form.{Form, PlainProfile, greeting, start, chosen, close, okay, fault}
+use Rattle.beep_session.specs.beep_mgmt.specs.Message.{message_said}
+use Rattle.beep_session.specs.beep_journal.specs.Lives.{Event, is_live}
+use Rattle.beep_session.specs.beep_journal.specs.Zero.{zero_history, zero_events, gathered, asked, said_at, said_to, coming, granting, completes_form, events}
+use Rattle.beep_session.specs.beep_journal.specs.Life.{is_there}
+use Rattle.beep_session.specs.beep_journal.specs.Log.{Moment}
+use Rattle.beep_session.specs.beep_journal.proofs.MomentLemmas.{equal-number}
+use Rattle.beep_session.specs.beep_decide.specs.Asks.{is_close_of}
+use Rattle.beep_session.specs.beep_decide.specs.Decide.{PlainStanding, Decision, refuse, choose, tune, grant_close, decide, decide_start, is_among}
+use Rattle.beep_session.specs.beep_asked.specs.Kept.{Kept, is_leaving, oldest}
+use Rattle.beep_session.specs.beep_asked.specs.Asked.{EndsReply}
+use Rattle.beep_session.specs.beep_asked.proofs.LawsLemmas.{reply-waits}
+use Rattle.beep_session.specs.beep_answering.specs.declared.settled.Settled.{Settled}
+use Rattle.beep_session.specs.beep_answering.specs.Decided.{SettledBy, IsSettledAs, IsBegunBy, IsClosedBy, refused_as}
+use Rattle.beep_session.specs.beep_management.specs.declared.wait.Wait.{Wait}
+use Rattle.beep_session.specs.beep_peer.specs.Calls.{Settles, SettlesReply, SettlesRequest}
+use Rattle.beep_session.specs.beep_peer.specs.Standing.{standing_of}
+use Rattle.beep_session.specs.beep_peer.proofs.WaitingLemmas.{ends-reply}
+use Rattle.beep_session.specs.beep_upright.specs.Upright.{IsUpright}
 use Rattle.beep_session.specs.Channels.{IsOfPeer}
 use Rattle.beep_session.specs.Lawfully.{terms_of}
 use Rattle.beep_session.specs.Session.{Held}
-use Rattle.beep_talk.specs.Plan.{PlainPlan}
-use Rattle.beep_talk.specs.Talk.{has_peer_release}
+use Rattle.beep_desk.specs.beep_talk.specs.Plan.{PlainPlan}
+use Rattle.beep_desk.specs.beep_talk.specs.Talk.{has_peer_release}
 use Rattle.beep_served.specs.Served.{IsServing}
 use Rattle.beep_served.proofs.ProfileLemmas.{serving-then}
 use Rattle.beep_steps.specs.Logs.{WaitsOn}
@@ -40,7 +40,7 @@ use Rattle.beep_steps.specs.Speaking.{Notes, closes_all, noted_by, SpeaksOn, Spe
 use Rattle.beep_steps.proofs.CallLemmas.{settles-on}
 use Rattle.beep_steps.proofs.SettleSends.{form-alone, oldest-there}
 use Rattle.beep_steps.proofs.SpeakLemmas.{came-release, asked-release, waiting-asked}
-use Rattle.beep_steps.proofs.SpeakSteps.{came-told, frame-passing}
+use Rattle.beep_steps.proofs.SpeakSteps.{came-said, frame-passing}
 use Rattle.beep_steps.proofs.SpeakCalls.{scripts-on, serving-at}
 use Rattle.beep_steps.proofs.SpeakStanding.{closing-leaves}
 
@@ -243,7 +243,7 @@ module _ (plan : PlainPlan) (notes : Notes) (old new : Held) (same : IsOfPeer ol
         listens = w.listens;
         on = settles-on old new same log o m upright fits;
         scripts = scripts-on plan notes o.journal now o.given m.given_now (frame-passing plan Side.Received o.head o.payload o.journal) m.given_is w.scripts w.noted (closes_all settled || notes.leaving) flag
-            (came-told plan o.head o.payload o.journal w.scripts.keeps);
+            (came-said plan o.head o.payload o.journal w.scripts.keeps);
         noted = record {
           spoken = λ n above among. there n ∙ w.noted.spoken n above among;
           all = λ n above is. w.noted.all n above (sym (there n) ∙ is);

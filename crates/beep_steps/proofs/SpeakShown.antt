@@ -1,31 +1,31 @@
 -- What a log shows of a listener that keeps its script.
 use Rattle.std.proofs.Common.{◌≡◌, ℕ, ◌+◌, ◌==◌, Bool, true, false, not, ◌&&◌, if◌then◌else◌, List, [], ◌∷◌, ◌++◌, map, flat_map, Option, None, Some, inl, inr, refl, sym, ap, ◌∙◌, subst, arith, append-nil}
 use Rattle.std.specs.Prelude.{nat_lt}
-use Rattle.beep_frame.specs.declared.head.Head.{Head}
-use Rattle.beep_frame.specs.declared.rule.Rule.{Rule}
-use Rattle.beep_frame.specs.declared.seq.Seq.{Seq}
-use Rattle.beep_history.specs.declared.journal.Side.{Side}
-use Rattle.beep_history.specs.Journal.{Item, began, passed, told}
-use Rattle.beep_history.specs.Marks.{Mark, marks, mark_modulo_2_64}
-use Rattle.beep_journal.specs.Broken.{Tuning, none_tunes, broken_head, broken_seq}
-use Rattle.beep_journal.specs.Lives.{lives}
-use Rattle.beep_journal.specs.Zero.{events}
-use Rattle.beep_journal.specs.Life.{is_of_life, is_released, life}
-use Rattle.beep_journal.specs.Log.{Moment, got, put, got_all, put_all}
-use Rattle.beep_journal.specs.Journal.{Past, begins, seq_ends, TakesOctet, TakesWhere, Takes, goes_on, Shows}
-use Rattle.beep_journal.proofs.LifeLemmas.{nothing-before}
-use Rattle.beep_journal.proofs.MomentLemmas.{equal-number}
-use Rattle.beep_journal.proofs.ShownLemmas.{one-shown}
-use Rattle.beep_lawful.proofs.LawfulLemmas.{both-one, both-two}
+use Rattle.beep_session.specs.beep_frame.specs.declared.head.Head.{Head}
+use Rattle.beep_session.specs.beep_frame.specs.declared.rule.Rule.{Rule}
+use Rattle.beep_session.specs.beep_frame.specs.declared.seq.Seq.{Seq}
+use Rattle.beep_session.specs.beep_history.specs.declared.journal.Side.{Side}
+use Rattle.beep_session.specs.beep_history.specs.Journal.{Item, began, passed, told}
+use Rattle.beep_session.specs.beep_history.specs.Marks.{Mark, marks, mark_modulo_2_64}
+use Rattle.beep_session.specs.beep_journal.specs.Broken.{Tuning, none_tunes, broken_head, broken_seq}
+use Rattle.beep_session.specs.beep_journal.specs.Lives.{lives}
+use Rattle.beep_session.specs.beep_journal.specs.Zero.{events}
+use Rattle.beep_session.specs.beep_journal.specs.Life.{is_of_life, is_released, life}
+use Rattle.beep_session.specs.beep_journal.specs.Log.{Moment, got, put, got_all, put_all}
+use Rattle.beep_session.specs.beep_journal.specs.Journal.{Past, begins, seq_ends, TakesOctet, TakesWhere, Takes, goes_on, Shows}
+use Rattle.beep_session.specs.beep_journal.proofs.LifeLemmas.{nothing-before}
+use Rattle.beep_session.specs.beep_journal.proofs.MomentLemmas.{equal-number}
+use Rattle.beep_session.specs.beep_journal.proofs.ShownLemmas.{one-shown}
+use Rattle.beep_session.specs.beep_lawful.proofs.LawfulLemmas.{both-one, both-two}
 use Rattle.beep_session.specs.Session.{Held}
-use Rattle.beep_talk.specs.Plan.{PlainPlan}
-use Rattle.beep_talk.specs.Talk.{asked_first, begins_with, chooses, replied, talk}
-use Rattle.beep_script.specs.Script.{message_marks, script_marks, BeginsWith}
+use Rattle.beep_desk.specs.beep_talk.specs.Plan.{PlainPlan}
+use Rattle.beep_desk.specs.beep_talk.specs.Talk.{asked_first, begins_with, chooses, replied, talk}
+use Rattle.beep_desk.specs.beep_script.specs.Script.{message_marks, script_marks, BeginsWith}
 use Rattle.beep_served.specs.Served.{side_of}
 use Rattle.beep_served.proofs.ShownLemmas.{Adds, stays, more}
 use Rattle.beep_replies.proofs.StayLemmas.{more-front, same-front, script-is}
-use Rattle.beep_steps.specs.Speaking.{KeepsTold, Notes, SpeaksOn, ShowsTold}
-use Rattle.beep_steps.proofs.SpeakSteps.{ToldAt, began-told, came-told, map-front, seq-told}
+use Rattle.beep_steps.specs.Speaking.{KeepsSaid, Notes, SpeaksOn, ShowsSaid}
+use Rattle.beep_steps.proofs.SpeakSteps.{SaidAt, began-said, came-said, map-front, seq-said}
 
 -- ---- what an octet adds
 
@@ -59,25 +59,25 @@ put-adds tunes octet old new takes = where-adds (goes_on old) tunes Side.Sent oc
 
 -- ---- what comes
 
-came-item : (plan : PlainPlan) (item : Item) (journal : List Item) → side_of item ≡ Side.Received → KeepsTold plan journal → KeepsTold plan (item ∷ journal)
-came-item plan (began by head) journal side keeps = began-told plan by head journal keeps
-came-item plan (told by seq) journal side keeps = seq-told plan by seq journal keeps
-came-item plan (passed Side.Received head payload) journal side keeps = came-told plan head payload journal keeps
+came-item : (plan : PlainPlan) (item : Item) (journal : List Item) → side_of item ≡ Side.Received → KeepsSaid plan journal → KeepsSaid plan (item ∷ journal)
+came-item plan (began by head) journal side keeps = began-said plan by head journal keeps
+came-item plan (told by seq) journal side keeps = seq-said plan by seq journal keeps
+came-item plan (passed Side.Received head payload) journal side keeps = came-said plan head payload journal keeps
 came-item plan (passed Side.Sent head payload) journal side keeps = absurd (let g : Side.Sent ≡ Side.Received = side in cc)
 
-came-adds : (plan : PlainPlan) (old new : List Item) → Adds Side.Received old new → KeepsTold plan old → KeepsTold plan new
-came-adds plan old new (stays is) keeps = subst (KeepsTold plan) (sym is) keeps
-came-adds plan old new (more item side is) keeps = subst (KeepsTold plan) (sym is) (came-item plan item old side keeps)
+came-adds : (plan : PlainPlan) (old new : List Item) → Adds Side.Received old new → KeepsSaid plan old → KeepsSaid plan new
+came-adds plan old new (stays is) keeps = subst (KeepsSaid plan) (sym is) keeps
+came-adds plan old new (more item side is) keeps = subst (KeepsSaid plan) (sym is) (came-item plan item old side keeps)
 
 -- what comes is no sent frame
-pub comes-told : (plan : PlainPlan) (octets : List ℕ) (log : List Moment) (before after : Past) → Shows none_tunes log before → Shows none_tunes (got_all octets log) after
-    → KeepsTold plan before.journal → KeepsTold plan after.journal
-comes-told plan [] log before after one two keeps = subst (λ (p : Past). KeepsTold plan p.journal) (one-shown none_tunes log before after one two) keeps
-comes-told plan (octet ∷ octets) log before after one two keeps =
+pub comes-said : (plan : PlainPlan) (octets : List ℕ) (log : List Moment) (before after : Past) → Shows none_tunes log before → Shows none_tunes (got_all octets log) after
+    → KeepsSaid plan before.journal → KeepsSaid plan after.journal
+comes-said plan [] log before after one two keeps = subst (λ (p : Past). KeepsSaid plan p.journal) (one-shown none_tunes log before after one two) keeps
+comes-said plan (octet ∷ octets) log before after one two keeps =
     let mid = middle octets (got octet ∷ log) after two in
     let first : before ≡ mid.1.0 = one-shown none_tunes log before mid.1.0 one mid.1.1 in
-    comes-told plan octets (got octet ∷ log) mid.0 after mid.1 two
-    (came-adds plan mid.1.0.journal mid.0.journal (got-adds none_tunes octet mid.1.0 mid.0 mid.1.2) (subst (λ (p : Past). KeepsTold plan p.journal) first keeps))
+    comes-said plan octets (got octet ∷ log) mid.0 after mid.1 two
+    (came-adds plan mid.1.0.journal mid.0.journal (got-adds none_tunes octet mid.1.0 mid.0 mid.1.2) (subst (λ (p : Past). KeepsSaid plan p.journal) first keeps))
   where
     -- what was shown before the octets
     middle : (octets : List ℕ) (log : List Moment) (after : Past) → Shows none_tunes (got_all octets log) after → (mid : Past) × Shows none_tunes log mid
@@ -104,7 +104,7 @@ none-replied plan n c (told by seq) journal side = refl
 none-replied plan n c (passed Side.Sent head payload) journal side = refl
 none-replied plan n c (passed Side.Received head payload) journal side = absurd (let g : Side.Received ≡ Side.Sent = side in cc)
 
-went-at : (plan : PlainPlan) (n c : ℕ) (item : Item) (journal : List Item) → (n == 0) ≡ false → side_of item ≡ Side.Sent → ToldAt plan n c (item ∷ journal) → ToldAt plan n c journal
+went-at : (plan : PlainPlan) (n c : ℕ) (item : Item) (journal : List Item) → (n == 0) ≡ false → side_of item ≡ Side.Sent → SaidAt plan n c (item ∷ journal) → SaidAt plan n c journal
 went-at plan n c item journal above side at = of (begins_with plan.raw_uri n c item journal) refl
   where
     begins : (chooses plan.raw_uri item journal && (lives n (events journal) + 1 == c && nat_lt (lives n (events journal)) (lives n (events (item ∷ journal))))) ≡ true → life n c journal ≡ []
@@ -118,7 +118,7 @@ went-at plan n c item journal above side at = of (begins_with plan.raw_uri n c i
         ap (λ (b : Bool). talk plan n c journal ++ ((if b then asked_first plan.command (events journal) else []) ++ replied plan n c item journal)) none
         ∙ ap (λ ms. talk plan n c journal ++ ms) (none-replied plan n c item journal side) ∙ append-nil (talk plan n c journal)
 
-    of : (b : Bool) → begins_with plan.raw_uri n c item journal ≡ b → ToldAt plan n c journal
+    of : (b : Bool) → begins_with plan.raw_uri n c item journal ≡ b → SaidAt plan n c journal
     of true is =
         subst (λ (past : List Item). BeginsWith (map mark_modulo_2_64 (script_marks plan n c journal)) (map mark_modulo_2_64 (marks Side.Sent past))) (sym (begins is))
         (record { rest = map mark_modulo_2_64 (script_marks plan n c journal); whole_is = refl })
@@ -129,18 +129,18 @@ went-at plan n c item journal above side at = of (begins_with plan.raw_uri n c i
         (subst (λ (ms : List Mark). BeginsWith (map mark_modulo_2_64 ms) (map mark_modulo_2_64 (marks Side.Sent (life n c (item ∷ journal))))) same at)
         (map-front (marks Side.Sent (life n c (item ∷ journal))) (marks Side.Sent (life n c journal)) (marks-before n c item journal))
 
-went-adds : (plan : PlainPlan) (old new : List Item) → Adds Side.Sent old new → KeepsTold plan new → KeepsTold plan old
-went-adds plan old new (stays is) keeps = subst (KeepsTold plan) is keeps
-went-adds plan old new (more item side is) keeps = λ n c above. went-at plan n c item old above side (subst (KeepsTold plan) is keeps n c above)
+went-adds : (plan : PlainPlan) (old new : List Item) → Adds Side.Sent old new → KeepsSaid plan new → KeepsSaid plan old
+went-adds plan old new (stays is) keeps = subst (KeepsSaid plan) is keeps
+went-adds plan old new (more item side is) keeps = λ n c above. went-at plan n c item old above side (subst (KeepsSaid plan) is keeps n c above)
 
-pub goes-told : (plan : PlainPlan) (octets : List ℕ) (log : List Moment) (before after : Past) → Shows none_tunes log before → Shows none_tunes (put_all octets log) after
-    → KeepsTold plan after.journal → KeepsTold plan before.journal
-goes-told plan octets log before after one two keeps =
+pub goes-said : (plan : PlainPlan) (octets : List ℕ) (log : List Moment) (before after : Past) → Shows none_tunes log before → Shows none_tunes (put_all octets log) after
+    → KeepsSaid plan after.journal → KeepsSaid plan before.journal
+goes-said plan octets log before after one two keeps =
     let mid = back octets log after two keeps in
-    subst (λ (p : Past). KeepsTold plan p.journal) (one-shown none_tunes log mid.0 before mid.1.0 one) mid.1.1
+    subst (λ (p : Past). KeepsSaid plan p.journal) (one-shown none_tunes log mid.0 before mid.1.0 one) mid.1.1
   where
-    back : (octets : List ℕ) (log : List Moment) (after : Past) → Shows none_tunes (put_all octets log) after → KeepsTold plan after.journal
-        → (mid : Past) × (Shows none_tunes log mid × KeepsTold plan mid.journal)
+    back : (octets : List ℕ) (log : List Moment) (after : Past) → Shows none_tunes (put_all octets log) after → KeepsSaid plan after.journal
+        → (mid : Past) × (Shows none_tunes log mid × KeepsSaid plan mid.journal)
     back [] log after shows keeps = (after, (shows, keeps))
     back (octet ∷ octets) log after shows keeps =
         let next = back octets (put octet ∷ log) after shows keeps in
@@ -149,15 +149,15 @@ goes-told plan octets log before after one two keeps =
 -- ---- a session on its log
 
 module _ (plan : PlainPlan) (notes : Notes) (session : Held) where
-  speaking-on : (log : List Moment) (s : SpeaksOn plan notes session log) → KeepsTold plan s.on.logged.shown.past.journal
-  speaking-on log s = subst (KeepsTold plan) (sym s.on.logged.shown.journal_is) s.scripts.keeps
+  speaking-on : (log : List Moment) (s : SpeaksOn plan notes session log) → KeepsSaid plan s.on.logged.shown.past.journal
+  speaking-on log s = subst (KeepsSaid plan) (sym s.on.logged.shown.journal_is) s.scripts.keeps
 
   -- whatever comes, and wherever it stops
-  pub shows-comes : (octets : List ℕ) (log : List Moment) → SpeaksOn plan notes session log → ShowsTold plan (got_all octets log)
+  pub shows-comes : (octets : List ℕ) (log : List Moment) → SpeaksOn plan notes session log → ShowsSaid plan (got_all octets log)
   shows-comes octets log s past shows =
-      comes-told plan octets log s.on.logged.shown.past past s.on.logged.shown.shows shows (speaking-on log s)
+      comes-said plan octets log s.on.logged.shown.past past s.on.logged.shown.shows shows (speaking-on log s)
 
   -- whatever of what is to be written was written
-  pub shows-goes : (octets : List ℕ) (log : List Moment) → SpeaksOn plan notes session (put_all octets log) → ShowsTold plan log
+  pub shows-goes : (octets : List ℕ) (log : List Moment) → SpeaksOn plan notes session (put_all octets log) → ShowsSaid plan log
   shows-goes octets log s past shows =
-      goes-told plan octets log past s.on.logged.shown.past shows s.on.logged.shown.shows (speaking-on (put_all octets log) s)
+      goes-said plan octets log past s.on.logged.shown.past shows s.on.logged.shown.shows (speaking-on (put_all octets log) s)

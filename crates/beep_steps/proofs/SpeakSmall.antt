@@ -3,60 +3,60 @@ use Rattle.std.proofs.Common.{◌≡◌, ℕ, ◌+◌, ◌-◌, ◌<◌, ◌≤�
 use Rattle.std.specs.Option.{option_map_or}
 use Rattle.std.proofs.lemmas.List.{map-append}
 use Rattle.std.proofs.lemmas.List.Concat.{flat_map-append}
-use Rattle.beep_frame.specs.declared.head.Head.{Head}
-use Rattle.beep_frame.specs.declared.tag.Tag.{Tag}
-use Rattle.beep_frame.specs.Frame.{is_msg}
-use Rattle.beep_history.specs.declared.journal.Side.{Side}
-use Rattle.beep_history.specs.declared.limits.TheConstants.{MAX_REQUESTS}
-use Rattle.beep_history.specs.Journal.{Item, began, passed, told, same_side, other}
-use Rattle.beep_history.specs.Marks.{Mark, Request, octet, end, marks, mark_modulo_2_64, modulo_2_64, requests, begins_request, named, position_of, tag_of, carries, frame_marks}
-use Rattle.beep_history.specs.Messages.{Message}
-use Rattle.beep_history.proofs.ListsLemmas.{find-below}
-use Rattle.beep_history.proofs.SoundLemmas.{requests-numbered}
-use Rattle.beep_journal.specs.Broken.{none_tunes}
-use Rattle.beep_journal.specs.Lives.{Event}
-use Rattle.beep_journal.specs.Zero.{events}
-use Rattle.beep_journal.specs.Life.{is_of_life, life}
-use Rattle.beep_journal.specs.Log.{Moment}
-use Rattle.beep_lawful.specs.declared.terms.Terms.{Terms}
-use Rattle.beep_lawful.specs.Lawful.{IsLawful, IsLawfulLog}
-use Rattle.beep_lawful.proofs.LawfulLemmas.{lawful-before}
-use Rattle.beep_talk.specs.declared.plan.Command.{Command}
-use Rattle.beep_talk.specs.Plan.{PlainPlan}
-use Rattle.beep_talk.specs.Talk.{asked_first, begins_with, called_for, ends_request, has_peer_release, has_profile, ready, refusal, replied, reply_of, talk}
-use Rattle.beep_script.specs.Script.{message_marks, script_marks, BeginsWith}
+use Rattle.beep_session.specs.beep_frame.specs.declared.head.Head.{Head}
+use Rattle.beep_session.specs.beep_frame.specs.declared.tag.Tag.{Tag}
+use Rattle.beep_session.specs.beep_frame.specs.Frame.{is_msg}
+use Rattle.beep_session.specs.beep_history.specs.declared.journal.Side.{Side}
+use Rattle.beep_session.specs.beep_history.specs.declared.limits.TheConstants.{MAX_REQUESTS}
+use Rattle.beep_session.specs.beep_history.specs.Journal.{Item, began, passed, told, same_side, other}
+use Rattle.beep_session.specs.beep_history.specs.Marks.{Mark, Request, octet, end, marks, mark_modulo_2_64, modulo_2_64, requests, begins_request, named, position_of, tag_of, carries, frame_marks}
+use Rattle.beep_session.specs.beep_history.specs.Messages.{Message}
+use Rattle.beep_session.specs.beep_history.proofs.ListsLemmas.{find-below}
+use Rattle.beep_session.specs.beep_history.proofs.SoundLemmas.{requests-numbered}
+use Rattle.beep_session.specs.beep_journal.specs.Broken.{none_tunes}
+use Rattle.beep_session.specs.beep_journal.specs.Lives.{Event}
+use Rattle.beep_session.specs.beep_journal.specs.Zero.{events}
+use Rattle.beep_session.specs.beep_journal.specs.Life.{is_of_life, life}
+use Rattle.beep_session.specs.beep_journal.specs.Log.{Moment}
+use Rattle.beep_session.specs.beep_lawful.specs.declared.terms.Terms.{Terms}
+use Rattle.beep_session.specs.beep_lawful.specs.Lawful.{IsLawful, IsLawfulLog}
+use Rattle.beep_session.specs.beep_lawful.proofs.LawfulLemmas.{lawful-before}
+use Rattle.beep_desk.specs.beep_talk.specs.declared.plan.Command.{Command}
+use Rattle.beep_desk.specs.beep_talk.specs.Plan.{PlainPlan}
+use Rattle.beep_desk.specs.beep_talk.specs.Talk.{asked_first, begins_with, called_for, ends_request, has_peer_release, has_profile, ready, refusal, replied, reply_of, talk}
+use Rattle.beep_desk.specs.beep_script.specs.Script.{message_marks, script_marks, BeginsWith}
 use Rattle.beep_served.specs.Served.{side_of, items_got, octets_got}
 use Rattle.beep_served.proofs.PositionLemmas.{few-asked}
 use Rattle.beep_served.proofs.ShownLemmas.{items-shown}
 use Rattle.beep_replies.specs.Replies.{KeepsAbove}
 use Rattle.beep_replies.proofs.StayLemmas.{script-is}
-use Rattle.beep_steps.specs.Speaking.{KeepsTold, ShowsAbove, ShowsTold}
+use Rattle.beep_steps.specs.Speaking.{KeepsSaid, ShowsAbove, ShowsSaid}
 use Rattle.beep_steps.proofs.SpeakLives.{one-reply}
 
 -- ---- marks that are the same modulo 2^64
 
-abbrev pub AreTold : List Mark → Type 0
-AreTold ms = map mark_modulo_2_64 ms ≡ ms
+abbrev pub AreUnwrapped : List Mark → Type 0
+AreUnwrapped ms = map mark_modulo_2_64 ms ≡ ms
 
-pub told-both : (xs ys : List Mark) → AreTold xs → AreTold ys → AreTold (xs ++ ys)
-told-both xs ys p q = map-append mark_modulo_2_64 xs ys ∙ ap (λ (ms : List Mark). ms ++ map mark_modulo_2_64 ys) p ∙ ap (λ (ms : List Mark). xs ++ ms) q
+pub unwrapped-both : (xs ys : List Mark) → AreUnwrapped xs → AreUnwrapped ys → AreUnwrapped (xs ++ ys)
+unwrapped-both xs ys p q = map-append mark_modulo_2_64 xs ys ∙ ap (λ (ms : List Mark). ms ++ map mark_modulo_2_64 ys) p ∙ ap (λ (ms : List Mark). xs ++ ms) q
 
-pub tag-told : (t : Tag) → t.request < 2 ^ 64 → modulo_2_64 t ≡ t
-tag-told t less = ap (λ (n : ℕ). record { kind = t.kind; request = n; ansno = t.ansno }) (omega (arith, less))
+pub tag-unwrapped : (t : Tag) → t.request < 2 ^ 64 → modulo_2_64 t ≡ t
+tag-unwrapped t less = ap (λ (n : ℕ). record { kind = t.kind; request = n; ansno = t.ansno }) (omega (arith, less))
 
-octets-told : (t : Tag) (os : List ℕ) → modulo_2_64 t ≡ t → AreTold (map (octet t) os)
-octets-told t [] e = refl
-octets-told t (o ∷ os) e = ap (λ (u : Tag). octet u o ∷ map mark_modulo_2_64 (map (octet t) os)) e ∙ ap (λ (ms : List Mark). octet t o ∷ ms) (octets-told t os e)
+octets-unwrapped : (t : Tag) (os : List ℕ) → modulo_2_64 t ≡ t → AreUnwrapped (map (octet t) os)
+octets-unwrapped t [] e = refl
+octets-unwrapped t (o ∷ os) e = ap (λ (u : Tag). octet u o ∷ map mark_modulo_2_64 (map (octet t) os)) e ∙ ap (λ (ms : List Mark). octet t o ∷ ms) (octets-unwrapped t os e)
 
-end-told : (t : Tag) (b : Bool) → modulo_2_64 t ≡ t → AreTold (if b then [] else end t ∷ [])
-end-told t true e = refl
-end-told t false e = ap (λ (u : Tag). end u ∷ []) e
+end-unwrapped : (t : Tag) (b : Bool) → modulo_2_64 t ≡ t → AreUnwrapped (if b then [] else end t ∷ [])
+end-unwrapped t true e = refl
+end-unwrapped t false e = ap (λ (u : Tag). end u ∷ []) e
 
-pub frame-told : (t : Tag) (head : Head) (payload : List ℕ) → modulo_2_64 t ≡ t → AreTold (frame_marks t head payload)
-frame-told t head payload e = told-both (map (octet t) payload) (if head.more then [] else end t ∷ []) (octets-told t payload e) (end-told t head.more e)
+pub frame-unwrapped : (t : Tag) (head : Head) (payload : List ℕ) → modulo_2_64 t ≡ t → AreUnwrapped (frame_marks t head payload)
+frame-unwrapped t head payload e = unwrapped-both (map (octet t) payload) (if head.more then [] else end t ∷ []) (octets-unwrapped t payload e) (end-unwrapped t head.more e)
 
-pub message-told : (m : Message) → m.tag.request < 2 ^ 64 → AreTold (message_marks m)
-message-told m less = told-both (map (octet m.tag) m.content) (end m.tag ∷ []) (octets-told m.tag m.content (tag-told m.tag less)) (end-told m.tag false (tag-told m.tag less))
+pub message-unwrapped : (m : Message) → m.tag.request < 2 ^ 64 → AreUnwrapped (message_marks m)
+message-unwrapped m less = unwrapped-both (map (octet m.tag) m.content) (end m.tag ∷ []) (octets-unwrapped m.tag m.content (tag-unwrapped m.tag less)) (end-unwrapped m.tag false (tag-unwrapped m.tag less))
 
 -- ---- how much came
 
@@ -133,83 +133,83 @@ module _ (terms : Terms) (n c : ℕ) (above : (n == 0) ≡ false) where
   before-few : (item : Item) (journal : List Item) → items_got (item ∷ journal) < 2 ^ 32 → items_got journal < 2 ^ 32
   before-few item journal few = let less = items-more item journal in omega (arith, few, less)
 
-  sent-item : (item : Item) (journal : List Item) → IsLawful terms none_tunes journal → items_got journal < 2 ^ 32 → AreTold (marks Side.Sent (life n c journal))
-      → AreTold (marks Side.Sent (item ∷ life n c journal))
+  sent-item : (item : Item) (journal : List Item) → IsLawful terms none_tunes journal → items_got journal < 2 ^ 32 → AreUnwrapped (marks Side.Sent (life n c journal))
+      → AreUnwrapped (marks Side.Sent (item ∷ life n c journal))
   sent-item (began by head) journal lawful few before = before
   sent-item (told by seq) journal lawful few before = before
   sent-item (passed by head payload) journal lawful few before =
       let past = life n c journal in
-      told-both (marks Side.Sent past) (if carries Side.Sent past by head then frame_marks (tag_of Side.Sent past head) head payload else []) before (of (carries Side.Sent past by head))
+      unwrapped-both (marks Side.Sent past) (if carries Side.Sent past by head then frame_marks (tag_of Side.Sent past head) head payload else []) before (of (carries Side.Sent past by head))
     where
-      of : (b : Bool) → AreTold (if b then frame_marks (tag_of Side.Sent (life n c journal) head) head payload else [])
-      of true = frame-told (tag_of Side.Sent (life n c journal) head) head payload (tag-told (tag_of Side.Sent (life n c journal) head) (position-less Side.Sent journal head lawful few))
+      of : (b : Bool) → AreUnwrapped (if b then frame_marks (tag_of Side.Sent (life n c journal) head) head payload else [])
+      of true = frame-unwrapped (tag_of Side.Sent (life n c journal) head) head payload (tag-unwrapped (tag_of Side.Sent (life n c journal) head) (position-less Side.Sent journal head lawful few))
       of false = refl
 
-  pub sent-told : (journal : List Item) → IsLawful terms none_tunes journal → items_got journal < 2 ^ 32 → AreTold (marks Side.Sent (life n c journal))
-  sent-told [] lawful few = refl
-  sent-told (item ∷ journal) lawful few =
+  pub sent-unwrapped : (journal : List Item) → IsLawful terms none_tunes journal → items_got journal < 2 ^ 32 → AreUnwrapped (marks Side.Sent (life n c journal))
+  sent-unwrapped [] lawful few = refl
+  sent-unwrapped (item ∷ journal) lawful few =
       let earlier = lawful-before terms none_tunes (item ∷ []) journal lawful in
       let less = before-few item journal few in
-      of (is_of_life n c item journal) earlier less (sent-told journal earlier less)
+      of (is_of_life n c item journal) earlier less (sent-unwrapped journal earlier less)
     where
-      of : (b : Bool) → IsLawful terms none_tunes journal → items_got journal < 2 ^ 32 → AreTold (marks Side.Sent (life n c journal))
-          → AreTold (marks Side.Sent (if b then item ∷ life n c journal else life n c journal))
+      of : (b : Bool) → IsLawful terms none_tunes journal → items_got journal < 2 ^ 32 → AreUnwrapped (marks Side.Sent (life n c journal))
+          → AreUnwrapped (marks Side.Sent (if b then item ∷ life n c journal else life n c journal))
       of true earlier less before = sent-item item journal earlier less before
       of false earlier less before = before
 
   -- ---- what is to be said
 
   module _ (plan : PlainPlan) (listens : plan.command ≡ Command.Listen) where
-    asked-told : (command : Command) (es : List Event) → AreTold (flat_map message_marks (asked_first command es))
-    asked-told Command.Send es = refl
-    asked-told Command.Listen es = of (has_peer_release es)
+    asked-unwrapped : (command : Command) (es : List Event) → AreUnwrapped (flat_map message_marks (asked_first command es))
+    asked-unwrapped Command.Send es = refl
+    asked-unwrapped Command.Listen es = of (has_peer_release es)
       where
-        of : (b : Bool) → AreTold (flat_map message_marks (if b then [] else ready ∷ []))
+        of : (b : Bool) → AreUnwrapped (flat_map message_marks (if b then [] else ready ∷ []))
         of true = refl
-        of false = told-both (message_marks ready) [] (message-told ready (omega arith)) refl
+        of false = unwrapped-both (message_marks ready) [] (message-unwrapped ready (omega arith)) refl
 
-    first-told : (b : Bool) (es : List Event) → AreTold (flat_map message_marks (if b then asked_first plan.command es else []))
-    first-told true es = asked-told plan.command es
-    first-told false es = refl
+    first-unwrapped : (b : Bool) (es : List Event) → AreUnwrapped (flat_map message_marks (if b then asked_first plan.command es else []))
+    first-unwrapped true es = asked-unwrapped plan.command es
+    first-unwrapped false es = refl
 
-    refusal-told : (position : ℕ) → position < 2 ^ 64 → AreTold (flat_map message_marks (reply_of plan.command plan.lines position))
-    refusal-told position less =
-        subst (λ (ms : List Message). AreTold (flat_map message_marks ms)) (sym (one-reply plan listens position))
-        (told-both (message_marks (refusal position)) [] (message-told (refusal position) less) refl)
+    refusal-unwrapped : (position : ℕ) → position < 2 ^ 64 → AreUnwrapped (flat_map message_marks (reply_of plan.command plan.lines position))
+    refusal-unwrapped position less =
+        subst (λ (ms : List Message). AreUnwrapped (flat_map message_marks ms)) (sym (one-reply plan listens position))
+        (unwrapped-both (message_marks (refusal position)) [] (message-unwrapped (refusal position) less) refl)
 
-    replied-told : (item : Item) (journal : List Item) → IsLawful terms none_tunes journal → items_got journal < 2 ^ 32 → AreTold (flat_map message_marks (replied plan n c item journal))
-    replied-told (began by head) journal lawful few = refl
-    replied-told (told by seq) journal lawful few = refl
-    replied-told (passed Side.Sent head payload) journal lawful few = refl
-    replied-told (passed Side.Received head payload) journal lawful few = of (ends_request n c head journal && has_profile plan.raw_uri n c journal)
+    replied-unwrapped : (item : Item) (journal : List Item) → IsLawful terms none_tunes journal → items_got journal < 2 ^ 32 → AreUnwrapped (flat_map message_marks (replied plan n c item journal))
+    replied-unwrapped (began by head) journal lawful few = refl
+    replied-unwrapped (told by seq) journal lawful few = refl
+    replied-unwrapped (passed Side.Sent head payload) journal lawful few = refl
+    replied-unwrapped (passed Side.Received head payload) journal lawful few = of (ends_request n c head journal && has_profile plan.raw_uri n c journal)
       where
-        of : (b : Bool) → AreTold (flat_map message_marks (if b then reply_of plan.command plan.lines (position_of Side.Received (life n c journal) head) else []))
-        of true = refusal-told (position_of Side.Received (life n c journal) head) (position-less Side.Received journal head lawful few)
+        of : (b : Bool) → AreUnwrapped (flat_map message_marks (if b then reply_of plan.command plan.lines (position_of Side.Received (life n c journal) head) else []))
+        of true = refusal-unwrapped (position_of Side.Received (life n c journal) head) (position-less Side.Received journal head lawful few)
         of false = refl
 
-    pub talk-told : (journal : List Item) → IsLawful terms none_tunes journal → items_got journal < 2 ^ 32 → AreTold (flat_map message_marks (talk plan n c journal))
-    talk-told [] lawful few = refl
-    talk-told (item ∷ journal) lawful few =
+    pub talk-unwrapped : (journal : List Item) → IsLawful terms none_tunes journal → items_got journal < 2 ^ 32 → AreUnwrapped (flat_map message_marks (talk plan n c journal))
+    talk-unwrapped [] lawful few = refl
+    talk-unwrapped (item ∷ journal) lawful few =
         let earlier = lawful-before terms none_tunes (item ∷ []) journal lawful in
         let less = before-few item journal few in
         let first = if begins_with plan.raw_uri n c item journal then asked_first plan.command (events journal) else [] in
         let more = replied plan n c item journal in
-        subst AreTold (sym (flat_map-append message_marks (talk plan n c journal) (called_for plan n c item journal)))
-        (told-both (flat_map message_marks (talk plan n c journal)) (flat_map message_marks (called_for plan n c item journal)) (talk-told journal earlier less)
-        (subst AreTold (sym (flat_map-append message_marks first more))
-        (told-both (flat_map message_marks first) (flat_map message_marks more) (first-told (begins_with plan.raw_uri n c item journal) (events journal)) (replied-told item journal earlier less))))
+        subst AreUnwrapped (sym (flat_map-append message_marks (talk plan n c journal) (called_for plan n c item journal)))
+        (unwrapped-both (flat_map message_marks (talk plan n c journal)) (flat_map message_marks (called_for plan n c item journal)) (talk-unwrapped journal earlier less)
+        (subst AreUnwrapped (sym (flat_map-append message_marks first more))
+        (unwrapped-both (flat_map message_marks first) (flat_map message_marks more) (first-unwrapped (begins_with plan.raw_uri n c item journal) (events journal)) (replied-unwrapped item journal earlier less))))
 
 -- ---- all lives
 
-pub told-above : (plan : PlainPlan) (terms : Terms) (journal : List Item) → plan.command ≡ Command.Listen → IsLawful terms none_tunes journal → items_got journal < 2 ^ 32 → KeepsTold plan journal
+pub said-above : (plan : PlainPlan) (terms : Terms) (journal : List Item) → plan.command ≡ Command.Listen → IsLawful terms none_tunes journal → items_got journal < 2 ^ 32 → KeepsSaid plan journal
     → KeepsAbove plan journal
-told-above plan terms journal listens lawful few keeps n c above =
-    let script : AreTold (script_marks plan n c journal) = subst AreTold (sym (script-is plan n c journal above)) (talk-told terms n c above plan listens journal lawful few) in
+said-above plan terms journal listens lawful few keeps n c above =
+    let script : AreUnwrapped (script_marks plan n c journal) = subst AreUnwrapped (sym (script-is plan n c journal above)) (talk-unwrapped terms n c above plan listens journal lawful few) in
     subst (λ (ms : List Mark). BeginsWith ms (marks Side.Sent (life n c journal))) script
-    (subst (λ (ms : List Mark). BeginsWith (map mark_modulo_2_64 (script_marks plan n c journal)) ms) (sent-told terms n c above journal lawful few) (keeps n c above))
+    (subst (λ (ms : List Mark). BeginsWith (map mark_modulo_2_64 (script_marks plan n c journal)) ms) (sent-unwrapped terms n c above journal lawful few) (keeps n c above))
 
-pub shown-above : (plan : PlainPlan) (terms : Terms) (log : List Moment) → plan.command ≡ Command.Listen → IsLawfulLog terms none_tunes log → octets_got log < 2 ^ 32 → ShowsTold plan log
+pub shown-above : (plan : PlainPlan) (terms : Terms) (log : List Moment) → plan.command ≡ Command.Listen → IsLawfulLog terms none_tunes log → octets_got log < 2 ^ 32 → ShowsSaid plan log
     → ShowsAbove plan log
 shown-above plan terms log listens lawful few t past shows =
     let most = items-shown none_tunes log past shows in
-    told-above plan terms past.journal listens (lawful.items past shows) (omega (arith, few, most)) (t past shows)
+    said-above plan terms past.journal listens (lawful.items past shows) (omega (arith, few, most)) (t past shows)

@@ -4,26 +4,26 @@ use Rattle.std.specs.Prelude.{nat_lt}
 use Rattle.std.specs.List.{list_any}
 use Rattle.std.proofs.lemmas.Bool.Decides.{nat_tests}
 use Rattle.std.proofs.lemmas.List.{map-append}
-use Rattle.beep_frame.specs.declared.head.Head.{Head}
-use Rattle.beep_frame.specs.declared.seq.Seq.{Seq}
-use Rattle.beep_history.specs.declared.journal.Side.{Side}
-use Rattle.beep_history.specs.Journal.{Item, began, passed, told}
-use Rattle.beep_history.specs.Marks.{Mark, marks, mark_modulo_2_64}
-use Rattle.beep_journal.specs.Lives.{Event, lives, is_live, has_ended}
-use Rattle.beep_journal.specs.Zero.{events}
-use Rattle.beep_journal.specs.Life.{is_there, life, life_now, life_under_way}
-use Rattle.beep_journal.specs.Laws.{IsLiveLife}
-use Rattle.beep_journal.proofs.JournalLemmas.{began-events, began-there, began-now, told-events, above-events, above-there, above-now}
-use Rattle.beep_journal.proofs.MomentLemmas.{equal-number}
-use Rattle.beep_lawful.proofs.LawfulLemmas.{both-one, both-two}
-use Rattle.beep_standing.specs.Standing.{Marks}
-use Rattle.beep_hearing.specs.Hears.{Join, ends_zero}
-use Rattle.beep_peer.specs.Peering.{Carries}
-use Rattle.beep_talk.specs.Plan.{PlainPlan}
-use Rattle.beep_script.specs.Script.{script_marks, BeginsWith}
+use Rattle.beep_session.specs.beep_frame.specs.declared.head.Head.{Head}
+use Rattle.beep_session.specs.beep_frame.specs.declared.seq.Seq.{Seq}
+use Rattle.beep_session.specs.beep_history.specs.declared.journal.Side.{Side}
+use Rattle.beep_session.specs.beep_history.specs.Journal.{Item, began, passed, told}
+use Rattle.beep_session.specs.beep_history.specs.Marks.{Mark, marks, mark_modulo_2_64}
+use Rattle.beep_session.specs.beep_journal.specs.Lives.{Event, lives, is_live, has_ended}
+use Rattle.beep_session.specs.beep_journal.specs.Zero.{events}
+use Rattle.beep_session.specs.beep_journal.specs.Life.{is_there, life, life_now, life_under_way}
+use Rattle.beep_session.specs.beep_journal.specs.Laws.{IsLiveLife}
+use Rattle.beep_session.specs.beep_journal.proofs.JournalLemmas.{began-events, began-there, began-now, told-events, above-events, above-there, above-now}
+use Rattle.beep_session.specs.beep_journal.proofs.MomentLemmas.{equal-number}
+use Rattle.beep_session.specs.beep_lawful.proofs.LawfulLemmas.{both-one, both-two}
+use Rattle.beep_session.specs.beep_standing.specs.Standing.{Marks}
+use Rattle.beep_session.specs.beep_hearing.specs.Hears.{Join, ends_zero}
+use Rattle.beep_session.specs.beep_peer.specs.Peering.{Carries}
+use Rattle.beep_desk.specs.beep_talk.specs.Plan.{PlainPlan}
+use Rattle.beep_desk.specs.beep_script.specs.Script.{script_marks, BeginsWith}
 use Rattle.beep_replies.specs.Replies.{first_said, sends_in}
 use Rattle.beep_replies.proofs.StayLemmas.{more-front, marks-grow, same-sent}
-use Rattle.beep_steps.specs.Speaking.{IsSaid, KeepsTold}
+use Rattle.beep_steps.specs.Speaking.{IsSaid, KeepsSaid}
 use Rattle.beep_steps.proofs.SpeakLemmas.{first-same}
 use Rattle.beep_steps.proofs.StepLemmas.{Turns, frame-turns}
 
@@ -153,41 +153,41 @@ map-front whole front more = record {
 }
 
 -- what was sent in one life is the beginning of its script, positions modulo 2^64
-abbrev pub ToldAt : PlainPlan → ℕ → ℕ → List Item → Type 0
-ToldAt plan n c journal = BeginsWith (map mark_modulo_2_64 (script_marks plan n c journal)) (map mark_modulo_2_64 (marks Side.Sent (life n c journal)))
+abbrev pub SaidAt : PlainPlan → ℕ → ℕ → List Item → Type 0
+SaidAt plan n c journal = BeginsWith (map mark_modulo_2_64 (script_marks plan n c journal)) (map mark_modulo_2_64 (marks Side.Sent (life n c journal)))
 
-pub told-item : (plan : PlainPlan) (n c : ℕ) (item : Item) (journal : List Item) → (n == 0) ≡ false → sends_in n c item journal ≡ false → ToldAt plan n c journal → ToldAt plan n c (item ∷ journal)
-told-item plan n c item journal above none at =
+pub said-item : (plan : PlainPlan) (n c : ℕ) (item : Item) (journal : List Item) → (n == 0) ≡ false → sends_in n c item journal ≡ false → SaidAt plan n c journal → SaidAt plan n c (item ∷ journal)
+said-item plan n c item journal above none at =
     subst (λ (ms : List Mark). BeginsWith (map mark_modulo_2_64 (script_marks plan n c (item ∷ journal))) (map mark_modulo_2_64 ms)) (sym (same-sent n c item journal none))
     (more-front (map mark_modulo_2_64 (script_marks plan n c (item ∷ journal))) (map mark_modulo_2_64 (script_marks plan n c journal)) (map mark_modulo_2_64 (marks Side.Sent (life n c journal)))
     (map-front (script_marks plan n c (item ∷ journal)) (script_marks plan n c journal) (marks-grow plan n c (item ∷ []) journal above)) at)
 
-pub came-told : (plan : PlainPlan) (head : Head) (payload : List ℕ) (journal : List Item) → KeepsTold plan journal → KeepsTold plan (passed Side.Received head payload ∷ journal)
-came-told plan head payload journal keeps n c above = told-item plan n c (passed Side.Received head payload) journal above refl (keeps n c above)
+pub came-said : (plan : PlainPlan) (head : Head) (payload : List ℕ) (journal : List Item) → KeepsSaid plan journal → KeepsSaid plan (passed Side.Received head payload ∷ journal)
+came-said plan head payload journal keeps n c above = said-item plan n c (passed Side.Received head payload) journal above refl (keeps n c above)
 
-pub began-told : (plan : PlainPlan) (by : Side) (head : Head) (journal : List Item) → KeepsTold plan journal → KeepsTold plan (began by head ∷ journal)
-began-told plan by head journal keeps n c above = told-item plan n c (began by head) journal above refl (keeps n c above)
+pub began-said : (plan : PlainPlan) (by : Side) (head : Head) (journal : List Item) → KeepsSaid plan journal → KeepsSaid plan (began by head ∷ journal)
+began-said plan by head journal keeps n c above = said-item plan n c (began by head) journal above refl (keeps n c above)
 
-pub seq-told : (plan : PlainPlan) (by : Side) (seq : Seq) (journal : List Item) → KeepsTold plan journal → KeepsTold plan (told by seq ∷ journal)
-seq-told plan by seq journal keeps n c above = told-item plan n c (told by seq) journal above refl (keeps n c above)
+pub seq-said : (plan : PlainPlan) (by : Side) (seq : Seq) (journal : List Item) → KeepsSaid plan journal → KeepsSaid plan (told by seq ∷ journal)
+seq-said plan by seq journal keeps n c above = said-item plan n c (told by seq) journal above refl (keeps n c above)
 
-pub gained-told : (plan : PlainPlan) (gained journal : List Item) → Join gained journal → KeepsTold plan journal → KeepsTold plan (gained ++ journal)
-gained-told plan [] journal join keeps = keeps
-gained-told plan (began by head ∷ gained) journal join keeps = began-told plan by head (gained ++ journal) (gained-told plan gained journal join.1 keeps)
-gained-told plan (told by seq ∷ gained) journal join keeps = seq-told plan by seq (gained ++ journal) (gained-told plan gained journal join.1 keeps)
-gained-told plan (passed by head payload ∷ gained) journal join keeps =
-    subst (λ (side : Side). KeepsTold plan (passed side head payload ∷ (gained ++ journal))) (sym join.0.0)
-    (came-told plan head payload (gained ++ journal) (gained-told plan gained journal join.1 keeps))
+pub gained-said : (plan : PlainPlan) (gained journal : List Item) → Join gained journal → KeepsSaid plan journal → KeepsSaid plan (gained ++ journal)
+gained-said plan [] journal join keeps = keeps
+gained-said plan (began by head ∷ gained) journal join keeps = began-said plan by head (gained ++ journal) (gained-said plan gained journal join.1 keeps)
+gained-said plan (told by seq ∷ gained) journal join keeps = seq-said plan by seq (gained ++ journal) (gained-said plan gained journal join.1 keeps)
+gained-said plan (passed by head payload ∷ gained) journal join keeps =
+    subst (λ (side : Side). KeepsSaid plan (passed side head payload ∷ (gained ++ journal))) (sym join.0.0)
+    (came-said plan head payload (gained ++ journal) (gained-said plan gained journal join.1 keeps))
 
 -- a frame that goes out, of a live life above zero or of channel zero
 module _ (plan : PlainPlan) (head : Head) (payload : List ℕ) (journal : List Item) (there : is_there head.channel journal ≡ true) where
   abbrev sent-then : List Item
   sent-then = passed Side.Sent head payload ∷ began Side.Sent head ∷ journal
 
-  pub sent-told : KeepsTold plan journal → ((head.channel == 0) ≡ false → is_there head.channel sent-then ≡ true → ToldAt plan head.channel (life_now head.channel sent-then) sent-then) → KeepsTold plan sent-then
-  sent-told keeps here n c above = of (sends_in n c (passed Side.Sent head payload) (began Side.Sent head ∷ journal)) refl
+  pub sent-said : KeepsSaid plan journal → ((head.channel == 0) ≡ false → is_there head.channel sent-then ≡ true → SaidAt plan head.channel (life_now head.channel sent-then) sent-then) → KeepsSaid plan sent-then
+  sent-said keeps here n c above = of (sends_in n c (passed Side.Sent head payload) (began Side.Sent head ∷ journal)) refl
     where
-      own : (head.channel == n) ≡ true → (life_under_way n Side.Sent (began Side.Sent head ∷ journal) == c) ≡ true → ToldAt plan n c sent-then
+      own : (head.channel == n) ≡ true → (life_under_way n Side.Sent (began Side.Sent head ∷ journal) == c) ≡ true → SaidAt plan n c sent-then
       own same counts =
           let is : head.channel ≡ n = equal-number head.channel n same in
           let up : (head.channel == 0) ≡ false = ap (λ (m : ℕ). m == 0) is ∙ above in
@@ -195,13 +195,13 @@ module _ (plan : PlainPlan) (head : Head) (payload : List ℕ) (journal : List I
           let under : life_under_way n Side.Sent (began Side.Sent head ∷ journal) ≡ life_now n journal = ap (λ (b : Bool). if b then life_now n journal else 0) same in
           let count : life_now n journal ≡ c = sym under ∙ equal-number (life_under_way n Side.Sent (began Side.Sent head ∷ journal)) c counts in
           let alive : is_there head.channel sent-then ≡ true = above-there Side.Sent head payload (began Side.Sent head ∷ journal) up head.channel ∙ began-there Side.Sent head journal head.channel ∙ there in
-          subst (λ (k : ℕ). ToldAt plan n k sent-then) (ap (λ (m : ℕ). life_now m sent-then) (sym is) ∙ now ∙ ap (λ (m : ℕ). life_now m journal) is ∙ count)
-          (subst (λ (m : ℕ). ToldAt plan m (life_now m sent-then) sent-then) is (here up alive))
+          subst (λ (k : ℕ). SaidAt plan n k sent-then) (ap (λ (m : ℕ). life_now m sent-then) (sym is) ∙ now ∙ ap (λ (m : ℕ). life_now m journal) is ∙ count)
+          (subst (λ (m : ℕ). SaidAt plan m (life_now m sent-then) sent-then) is (here up alive))
 
-      of : (b : Bool) → sends_in n c (passed Side.Sent head payload) (began Side.Sent head ∷ journal) ≡ b → ToldAt plan n c sent-then
+      of : (b : Bool) → sends_in n c (passed Side.Sent head payload) (began Side.Sent head ∷ journal) ≡ b → SaidAt plan n c sent-then
       of true is =
           own (both-one (head.channel == n) (life_under_way n Side.Sent (began Side.Sent head ∷ journal) == c) is)
           (both-two (head.channel == n) (life_under_way n Side.Sent (began Side.Sent head ∷ journal) == c) is)
       of false none =
-          told-item plan n c (passed Side.Sent head payload) (began Side.Sent head ∷ journal) above none
-          (told-item plan n c (began Side.Sent head) journal above refl (keeps n c above))
+          said-item plan n c (passed Side.Sent head payload) (began Side.Sent head ∷ journal) above none
+          (said-item plan n c (began Side.Sent head) journal above refl (keeps n c above))

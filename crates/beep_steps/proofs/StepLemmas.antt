@@ -2,29 +2,29 @@
 use Rattle.std.proofs.Common.{◌≡◌, ◌∙◌, refl, sym, ap, subst, ℕ, ◌<◌, ◌==◌, ◌+◌, Bool, true, false, not, ◌&&◌, ◌||◌, nat_lt, List, [], ◌∷◌, ◌++◌, Option, None, Some, append-nil, arith}
 use Rattle.std.proofs.lemmas.Bool.Decides.{nat_tests}
 use Rattle.std.specs.List.{list_any, flat_map}
-use Rattle.beep_frame.specs.declared.head.Head.{Head}
-use Rattle.beep_frame.specs.Frame.{is_ans}
-use Rattle.beep_frame.specs.declared.seq.Seq.{Seq}
-use Rattle.beep_history.specs.declared.journal.Side.{Side}
-use Rattle.beep_history.specs.Journal.{Item, began, passed, told, other}
-use Rattle.beep_history.specs.Marks.{marks, position_of}
-use Rattle.beep_mgmt.specs.Form.{Form, greeting, start, chosen, close, okay, fault}
-use Rattle.beep_journal.specs.Lives.{Event, start_granted, close_granted, lives, is_live, live_life, life_named}
-use Rattle.beep_journal.specs.Zero.{zero_history, events, said_to}
-use Rattle.beep_journal.specs.Life.{history, is_there, life, life_now, life_under_way}
-use Rattle.beep_journal.proofs.JournalLemmas.{began-there, began-history, began-others, told-there, told-history, told-others, above-there, above-history, above-others}
-use Rattle.beep_journal.proofs.LifeLemmas.{nothing-before}
-use Rattle.beep_journal.proofs.MomentLemmas.{apart-zero, equal-number, same-number, other-start, other-start-lives, other-close, close-live}
-use Rattle.beep_standing.specs.Moving.{MovesNone, BeginsLife, EndsLife, BeginsWhere, EndsWhere, Granted, GrantedWhere, is_grant}
-use Rattle.beep_standing.proofs.MovesLemmas.{frame-moves}
-use Rattle.beep_standing.proofs.ZeroLemmas.{now-of-zero}
-use Rattle.beep_hearing.specs.Hears.{ends_zero, is_above}
-use Rattle.beep_speaking.specs.declared.emit.Emit.{Emit}
+use Rattle.beep_session.specs.beep_frame.specs.declared.head.Head.{Head}
+use Rattle.beep_session.specs.beep_frame.specs.Frame.{is_ans}
+use Rattle.beep_session.specs.beep_frame.specs.declared.seq.Seq.{Seq}
+use Rattle.beep_session.specs.beep_history.specs.declared.journal.Side.{Side}
+use Rattle.beep_session.specs.beep_history.specs.Journal.{Item, began, passed, told, other}
+use Rattle.beep_session.specs.beep_history.specs.Marks.{marks, position_of}
+use Rattle.beep_session.specs.beep_mgmt.specs.Form.{Form, greeting, start, chosen, close, okay, fault}
+use Rattle.beep_session.specs.beep_journal.specs.Lives.{Event, start_granted, close_granted, lives, is_live, live_life, life_named}
+use Rattle.beep_session.specs.beep_journal.specs.Zero.{zero_history, events, said_to}
+use Rattle.beep_session.specs.beep_journal.specs.Life.{history, is_there, life, life_now, life_under_way}
+use Rattle.beep_session.specs.beep_journal.proofs.JournalLemmas.{began-there, began-history, began-others, told-there, told-history, told-others, above-there, above-history, above-others}
+use Rattle.beep_session.specs.beep_journal.proofs.LifeLemmas.{nothing-before}
+use Rattle.beep_session.specs.beep_journal.proofs.MomentLemmas.{apart-zero, equal-number, same-number, other-start, other-start-lives, other-close, close-live}
+use Rattle.beep_session.specs.beep_standing.specs.Moving.{MovesNone, BeginsLife, EndsLife, BeginsWhere, EndsWhere, Granted, GrantedWhere, is_grant}
+use Rattle.beep_session.specs.beep_standing.proofs.MovesLemmas.{frame-moves}
+use Rattle.beep_session.specs.beep_standing.proofs.ZeroLemmas.{now-of-zero}
+use Rattle.beep_session.specs.beep_hearing.specs.Hears.{ends_zero, is_above}
+use Rattle.beep_session.specs.beep_speaking.specs.declared.emit.Emit.{Emit}
 use Rattle.beep_steps.specs.Steps.{Says, is_zero_frame}
-use Rattle.beep_talk.specs.Plan.{PlainPlan}
-use Rattle.beep_talk.specs.Talk.{has_profile, chooses}
-use Rattle.prof_raw.specs.Line.{line_of}
-use Rattle.beep_script.specs.Lines.{lines, heard, heard_at, ends_answer, entries_in}
+use Rattle.beep_desk.specs.beep_talk.specs.Plan.{PlainPlan}
+use Rattle.beep_desk.specs.beep_talk.specs.Talk.{has_profile, chooses}
+use Rattle.beep_desk.specs.prof_raw.specs.Line.{line_of}
+use Rattle.beep_desk.specs.beep_script.specs.Lines.{lines, heard, heard_at, ends_answer, entries_in}
 
 -- ---- one moment of channel zero
 

@@ -2,19 +2,19 @@
 use Rattle.std.proofs.Common.{◌≡◌, ◌∙◌, refl, sym, ap, ℕ, ◌==◌, Bool, true, false, ◌||◌, nat_lt, if◌then◌else◌, List, [], ◌∷◌, ◌++◌, length, map, Option, Some, None, append-nil, append_assoc}
 use Rattle.std.specs.Prelude.{is_some}
 use Rattle.std.proofs.lemmas.List.{append_cancel_left, map-append}
-use Rattle.beep_history.specs.declared.journal.Side.{Side}
-use Rattle.beep_history.specs.Journal.{Item}
-use Rattle.beep_history.specs.Marks.{Mark, octet, end, marks, mark_modulo_2_64}
-use Rattle.beep_inbox.specs.Runs.{Run, marks_of, AllMarked}
-use Rattle.beep_journal.specs.Life.{history, is_there}
-use Rattle.beep_channel.specs.Held.{Live}
-use Rattle.beep_lives.specs.Lives.{live_at}
-use Rattle.beep_standing.specs.Standing.{Marks, AreLiveBy, with_marks}
-use Rattle.beep_journal.proofs.MomentLemmas.{equal-number}
-use Rattle.beep_hearing.specs.Hears.{SameAbove}
-use Rattle.beep_peer.specs.Peering.{Carries}
+use Rattle.beep_session.specs.beep_history.specs.declared.journal.Side.{Side}
+use Rattle.beep_session.specs.beep_history.specs.Journal.{Item}
+use Rattle.beep_session.specs.beep_history.specs.Marks.{Mark, octet, end, marks, mark_modulo_2_64}
+use Rattle.beep_session.specs.beep_inbox.specs.Runs.{Run, marks_of, AllMarked}
+use Rattle.beep_session.specs.beep_journal.specs.Life.{history, is_there}
+use Rattle.beep_session.specs.beep_channel.specs.Held.{Live}
+use Rattle.beep_session.specs.beep_lives.specs.Lives.{live_at}
+use Rattle.beep_session.specs.beep_standing.specs.Standing.{Marks, AreLiveBy, with_marks}
+use Rattle.beep_session.specs.beep_journal.proofs.MomentLemmas.{equal-number}
+use Rattle.beep_session.specs.beep_hearing.specs.Hears.{SameAbove}
+use Rattle.beep_session.specs.beep_peer.specs.Peering.{Carries}
 use Rattle.beep_session.specs.Looks.{IsTakenAt}
-use Rattle.beep_talk.specs.Plan.{PlainPlan}
+use Rattle.beep_desk.specs.beep_talk.specs.Plan.{PlainPlan}
 use Rattle.beep_steps.proofs.StepLemmas.{Steps, Rests}
 use Rattle.beep_steps.proofs.ArrivedLemmas.{turn}
 

@@ -6,24 +6,24 @@ use Rattle.std.proofs.lemmas.List.{length-append, append_assoc}
 use Rattle.std.proofs.lemmas.List.Folds.{list_all-append}
 use Rattle.std.proofs.lemmas.Str.{length-encode, len_utf8_bounds}
 use Rattle.std.proofs.lemmas.Bool.Decides.{nat_tests}
-use Rattle.beep_chars.specs.Characters.{is_allowed, is_space}
-use Rattle.beep_chars.proofs.BoolLemmas.{both, left_of, right_of}
-use Rattle.beep_text.specs.declared.limits.TheConstants.{MAX_TEXT}
-use Rattle.beep_text.specs.Tree.{Tree, nothing}
-use Rattle.beep_text.specs.Elements.{IsBody, Written, written_text, attr_text}
-use Rattle.beep_text.specs.Canonical.{written_as, attr_as, element_text}
-use Rattle.beep_text.specs.Lawful.{IsElement, are_attrs, are_items}
-use Rattle.beep_text.proofs.WrittenLemmas.{canonical-body}
-use Rattle.beep_mime.specs.Split.{mime_header, body_of}
-use Rattle.beep_mime.proofs.SplitLemmas.{body_of-header}
-use Rattle.beep_mgmt.specs.Form.{Form, start, close}
-use Rattle.beep_mgmt.specs.Message.{message_text, message_said, Says}
-use Rattle.beep_mgmt.specs.Said.{form_said}
-use Rattle.beep_mgmt.specs.Written.{setting, element, element_as, profile_as, with_element}
-use Rattle.beep_answering.specs.Sent.{is_uri, closing_of}
-use Rattle.beep_answering.proofs.LengthLemmas.{closing-length, profile-plain}
-use Rattle.beep_talk.specs.AtZero.{profile_of}
-use Rattle.beep_script.specs.Requested.{SenderTexts}
+use Rattle.beep_session.specs.beep_chars.specs.Characters.{is_allowed, is_space}
+use Rattle.beep_session.specs.beep_chars.proofs.BoolLemmas.{both, left_of, right_of}
+use Rattle.beep_session.specs.beep_text.specs.declared.limits.TheConstants.{MAX_TEXT}
+use Rattle.beep_session.specs.beep_text.specs.Tree.{Tree, nothing}
+use Rattle.beep_session.specs.beep_text.specs.Elements.{IsBody, Written, written_text, attr_text}
+use Rattle.beep_session.specs.beep_text.specs.Canonical.{written_as, attr_as, element_text}
+use Rattle.beep_session.specs.beep_text.specs.Lawful.{IsElement, are_attrs, are_items}
+use Rattle.beep_session.specs.beep_text.proofs.WrittenLemmas.{canonical-body}
+use Rattle.beep_session.specs.beep_mime.specs.Split.{mime_header, body_of}
+use Rattle.beep_session.specs.beep_mime.proofs.SplitLemmas.{body_of-header}
+use Rattle.beep_session.specs.beep_mgmt.specs.Form.{Form, start, close}
+use Rattle.beep_session.specs.beep_mgmt.specs.Message.{message_text, message_said, Says}
+use Rattle.beep_session.specs.beep_mgmt.specs.Said.{form_said}
+use Rattle.beep_session.specs.beep_mgmt.specs.Written.{setting, element, element_as, profile_as, with_element}
+use Rattle.beep_session.specs.beep_answering.specs.Sent.{is_uri, closing_of}
+use Rattle.beep_session.specs.beep_answering.proofs.LengthLemmas.{closing-length, profile-plain}
+use Rattle.beep_desk.specs.beep_talk.specs.AtZero.{profile_of}
+use Rattle.beep_desk.specs.beep_script.specs.Requested.{SenderTexts}
 
 -- the message of a lawful element says what the element does
 ended : (body : List ℕ) (e : Tree) → IsBody body e → IsBody (body ++ 13 ∷ 10 ∷ []) e

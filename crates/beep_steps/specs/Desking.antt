@@ -3,32 +3,32 @@
 -- The code keeps no list: it prepares an answer as its request is settled, and lets it go as what
 -- it waits for comes.
 use Rattle.std.specs.Prelude.{◌≡◌, ◌⊎◌, ◌≤◌, ℕ, ◌==◌, Bool, true, false, not, ◌&&◌, ◌||◌, List, [], ◌∷◌, None, Some, map}
-use Rattle.beep_frame.specs.declared.head.Head.{Head}
-use Rattle.beep_frame.specs.declared.kind.Kind.{Kind}
-use Rattle.beep_frame.specs.Frame.{is_nul, same_kind}
-use Rattle.beep_history.specs.declared.journal.Side.{Side}
-use Rattle.beep_history.specs.Journal.{Item, began, passed}
-use Rattle.beep_history.specs.Marks.{is_answered, marks, mark_modulo_2_64, previous}
-use Rattle.beep_history.specs.Broken.{under_way}
-use Rattle.beep_journal.specs.Broken.{is_greeting, none_tunes}
-use Rattle.beep_journal.specs.Journal.{Past, Shows}
-use Rattle.beep_journal.specs.Log.{Moment}
-use Rattle.beep_journal.specs.Life.{is_released}
-use Rattle.beep_journal.specs.Zero.{asked, zero_history}
-use Rattle.beep_mgmt.specs.Message.{message_said, message_text}
-use Rattle.beep_decide.specs.Decide.{PlainOffer}
-use Rattle.beep_answering.specs.Decided.{NoneTunes}
-use Rattle.beep_answering.specs.declared.settled.Settled.{Settled}
-use Rattle.beep_script.specs.Desk.{asks, ends_lines, grants_own}
-use Rattle.beep_talk.specs.AtZero.{zero_message}
-use Rattle.beep_mgmt.specs.Form.{close}
+use Rattle.beep_session.specs.beep_frame.specs.declared.head.Head.{Head}
+use Rattle.beep_session.specs.beep_frame.specs.declared.kind.Kind.{Kind}
+use Rattle.beep_session.specs.beep_frame.specs.Frame.{is_nul, same_kind}
+use Rattle.beep_session.specs.beep_history.specs.declared.journal.Side.{Side}
+use Rattle.beep_session.specs.beep_history.specs.Journal.{Item, began, passed}
+use Rattle.beep_session.specs.beep_history.specs.Marks.{is_answered, marks, mark_modulo_2_64, previous}
+use Rattle.beep_session.specs.beep_history.specs.Broken.{under_way}
+use Rattle.beep_session.specs.beep_journal.specs.Broken.{is_greeting, none_tunes}
+use Rattle.beep_session.specs.beep_journal.specs.Journal.{Past, Shows}
+use Rattle.beep_session.specs.beep_journal.specs.Log.{Moment}
+use Rattle.beep_session.specs.beep_journal.specs.Life.{is_released}
+use Rattle.beep_session.specs.beep_journal.specs.Zero.{asked, zero_history}
+use Rattle.beep_session.specs.beep_mgmt.specs.Message.{message_said, message_text}
+use Rattle.beep_session.specs.beep_decide.specs.Decide.{PlainOffer}
+use Rattle.beep_session.specs.beep_answering.specs.Decided.{NoneTunes}
+use Rattle.beep_session.specs.beep_answering.specs.declared.settled.Settled.{Settled}
+use Rattle.beep_desk.specs.beep_script.specs.Desk.{asks, ends_lines, grants_own}
+use Rattle.beep_desk.specs.beep_talk.specs.AtZero.{zero_message}
+use Rattle.beep_session.specs.beep_mgmt.specs.Form.{close}
 use Rattle.beep_steps.specs.Sending.{Progress}
-use Rattle.beep_answering.specs.Sent.{greeting_of}
-use Rattle.beep_peer.specs.Waiting.{IsStuck}
+use Rattle.beep_session.specs.beep_answering.specs.Sent.{greeting_of}
+use Rattle.beep_session.specs.beep_peer.specs.Waiting.{IsStuck}
 use Rattle.beep_session.specs.Session.{Held}
-use Rattle.beep_speaking.specs.declared.emit.Emit.{Emit}
-use Rattle.beep_talk.specs.Plan.{PlainPlan}
-use Rattle.beep_script.specs.Script.{BeginsWith, script_marks}
+use Rattle.beep_session.specs.beep_speaking.specs.declared.emit.Emit.{Emit}
+use Rattle.beep_desk.specs.beep_talk.specs.Plan.{PlainPlan}
+use Rattle.beep_desk.specs.beep_script.specs.Script.{BeginsWith, script_marks}
 use Rattle.beep_desk.specs.Desks.{IsDeskOf, IsDeskWithin}
 use Rattle.beep_desk.specs.Listed.{AskInTurn}
 use Rattle.beep_steps.specs.Logs.{StandsOn, WaitsOn}
@@ -71,19 +71,19 @@ Meets journal = (is_answered Side.Sent 0 (zero_history journal) ≡ true)
 
 -- what was sent on channel zero is the beginning of what its script lists there, positions modulo
 -- 2^64
-abbrev pub ToldZero : PlainPlan → List Item → Type 0
-ToldZero plan journal = (count : ℕ)
+abbrev pub SaidZero : PlainPlan → List Item → Type 0
+SaidZero plan journal = (count : ℕ)
     → BeginsWith (map mark_modulo_2_64 (script_marks plan 0 count journal))
     (map mark_modulo_2_64 (marks Side.Sent (zero_history journal)))
 
 -- so it is in the session that a log shows
-abbrev pub ShowsToldZero : PlainPlan → List Moment → Type 0
-ShowsToldZero plan log = (past : Past) → Shows none_tunes log past → ToldZero plan past.journal
+abbrev pub ShowsSaidZero : PlainPlan → List Moment → Type 0
+ShowsSaidZero plan log = (past : Past) → Shows none_tunes log past → SaidZero plan past.journal
 
 -- it was so at each moment
-abbrev pub AllTold : PlainPlan → List Item → Type 0
-AllTold plan [] = ToldZero plan []
-AllTold plan (item ∷ journal) = ToldZero plan (item ∷ journal) × AllTold plan journal
+abbrev pub AllSaidZero : PlainPlan → List Item → Type 0
+AllSaidZero plan [] = SaidZero plan []
+AllSaidZero plan (item ∷ journal) = SaidZero plan (item ∷ journal) × AllSaidZero plan journal
 
 -- ---- a session on its log
 
@@ -99,7 +99,7 @@ pub record DesksOn (plan : PlainPlan) (session : Held) (log : List Moment) : Typ
   pub plan_is : IsPlanOf plan session
   pub on : StandsOn session log
   pub meets : Meets on.journal
-  pub listed : AllTold plan on.journal
+  pub listed : AllSaidZero plan on.journal
   pub placed : AskInTurn plan on.journal
   pub desk : IsDeskOf plan on.journal (on.given 0) session.peer.management.answers
   pub stuck : IsStuck session.peer.lives session.peer.management
@@ -109,7 +109,7 @@ pub record DesksWaiting (plan : PlainPlan) (session : Held) (log : List Moment) 
   pub plan_is : IsPlanOf plan session
   pub on : WaitsOn session log
   pub meets : Meets on.journal
-  pub listed : AllTold plan on.journal
+  pub listed : AllSaidZero plan on.journal
   pub placed : AskInTurn plan on.journal
   pub desk : IsDeskOf plan on.journal (on.given 0) session.peer.management.answers
 
@@ -127,7 +127,7 @@ pub record DesksWithin (plan : PlainPlan) (session : Held) (log : List Moment) :
   pub plan_is : IsPlanOf plan session
   pub on : StandsOn session log
   pub meets : Meets on.journal
-  pub listed : AllTold plan on.journal
+  pub listed : AllSaidZero plan on.journal
   pub item : Item
   pub before : List Item
   pub journal_is : on.journal ≡ item ∷ before

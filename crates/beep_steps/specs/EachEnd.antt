@@ -2,11 +2,11 @@
 -- the link keeps (RFC 3080, section 2; RFC 3195, section 3).
 -- The code keeps no log.
 use Rattle.std.specs.Prelude.{ℕ, List, [], ◌∷◌, Option, None, Some}
-use Rattle.beep_frame.specs.declared.rule.Rule.{Rule}
-use Rattle.beep_journal.specs.Log.{Entry as LogEntry, read as log_read, wrote as log_wrote, quiet as log_quiet, ended as log_ended}
-use Rattle.beep_script.specs.EachEnd.{EachEnd}
-use Rattle.beep_talk.specs.Plan.{PlainPlan}
-use Rattle.beep_wires.specs.Log.{Entry, read, wrote, quiet, ended}
+use Rattle.beep_session.specs.beep_frame.specs.declared.rule.Rule.{Rule}
+use Rattle.beep_session.specs.beep_journal.specs.Log.{Entry as LogEntry, read as log_read, wrote as log_wrote, quiet as log_quiet, ended as log_ended}
+use Rattle.beep_desk.specs.beep_script.specs.EachEnd.{EachEnd}
+use Rattle.beep_desk.specs.beep_talk.specs.Plan.{PlainPlan}
+use Rattle.beep_link.specs.beep_wires.specs.Log.{Entry, read, wrote, quiet, ended}
 use Rattle.beep_link.specs.declared.ended.Ended.{Ended}
 
 -- the log of a session that the log of a link is

@@ -1,9 +1,9 @@
 -- What an end takes of its settings.
 use Rattle.std.specs.Prelude.{◌≡◌, true}
-use Rattle.beep_settings.specs.declared.settings.Settings.{Settings}
+use Rattle.beep_session.specs.beep_settings.specs.declared.settings.Settings.{Settings}
 use Rattle.beep_session.specs.declared.limits.Limits.{Limits}
 use Rattle.beep_session.specs.Session.{AreLimits}
-use Rattle.beep_answering.specs.Sent.{is_uri}
+use Rattle.beep_session.specs.beep_answering.specs.Sent.{is_uri}
 use Rattle.beep_link.specs.declared.left.Reads.{Reads}
 
 -- what is read of a link at most

@@ -12,3 +12,36 @@ pub mod Resting
 pub mod EachEnd
 -- What proofs alone need: what a turn of either end keeps.
 pub mod Turning
+-- Crates below, which are named through this one.
+pub use Rattle.beep_session.specs.beep_frame
+pub use Rattle.beep_session.specs.beep_seq
+pub use Rattle.beep_session.specs.beep_history
+pub use Rattle.beep_session.specs.beep_exchange
+pub use Rattle.beep_session.specs.beep_inbox
+pub use Rattle.beep_session.specs.beep_outbox
+pub use Rattle.beep_session.specs.beep_channel
+pub use Rattle.beep_session.specs.beep_lives
+pub use Rattle.beep_session.specs.beep_chars
+pub use Rattle.beep_session.specs.beep_settings
+pub use Rattle.beep_session.specs.beep_mime
+pub use Rattle.beep_session.specs.beep_text
+pub use Rattle.beep_session.specs.beep_mgmt
+pub use Rattle.beep_session.specs.beep_journal
+pub use Rattle.beep_session.specs.beep_decide
+pub use Rattle.beep_session.specs.beep_lawful
+pub use Rattle.beep_session.specs.beep_standing
+pub use Rattle.beep_session.specs.beep_speaking
+pub use Rattle.beep_session.specs.beep_hearing
+pub use Rattle.beep_session.specs.beep_answering
+pub use Rattle.beep_session.specs.beep_peer
+pub use Rattle.beep_session.specs.beep_giving
+pub use Rattle.beep_session
+pub use Rattle.beep_logged
+pub use Rattle.beep_desk.specs.prof_raw
+pub use Rattle.beep_desk.specs.beep_talk
+pub use Rattle.beep_desk.specs.beep_script
+pub use Rattle.beep_served
+pub use Rattle.beep_replies
+pub use Rattle.beep_desk
+pub use Rattle.beep_link.specs.beep_wires
+pub use Rattle.beep_link

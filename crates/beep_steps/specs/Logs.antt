@@ -2,31 +2,30 @@
 -- it shows in the log (RFC 3080, section 2.2.1; RFC 3081, section 3.1).
 -- The code keeps neither a log nor a journal.
 use Rattle.std.specs.Prelude.{◌≡◌, ◌⊎◌, ℕ, true, false, List, [], ◌∷◌, length, Some}
-use Rattle.beep_frame.specs.declared.head.Head.{Head}
-use Rattle.beep_frame.specs.declared.rule.Rule.{Rule}
-use Rattle.beep_frame.specs.Modulo.{modulo_2_64}
-use Rattle.beep_history.specs.declared.journal.Side.{Side}
-use Rattle.beep_history.specs.Journal.{Item}
-use Rattle.beep_journal.specs.declared.role.Role.{Role}
-use Rattle.beep_journal.specs.Broken.{none_tunes}
-use Rattle.beep_journal.specs.Journal.{Past, Shows as ShowsPast}
-use Rattle.beep_journal.specs.Life.{is_released}
-use Rattle.beep_journal.specs.Log.{Moment, got_all, put_all, none, over}
-use Rattle.beep_lawful.specs.declared.terms.Terms.{Terms}
-use Rattle.beep_lawful.specs.Lawful.{IsLawful, IsLawfulLog}
-use Rattle.beep_standing.specs.Standing.{Marks}
-use Rattle.beep_upright.specs.Frames.{AreFrames}
-use Rattle.beep_upright.specs.Upright.{IsUpright}
-use Rattle.beep_peer.specs.Peering.{WaitsIn, is_over}
+use Rattle.beep_session.specs.beep_frame.specs.declared.head.Head.{Head}
+use Rattle.beep_session.specs.beep_frame.specs.declared.rule.Rule.{Rule}
+use Rattle.beep_session.specs.beep_frame.specs.Modulo.{modulo_2_64}
+use Rattle.beep_session.specs.beep_history.specs.declared.journal.Side.{Side}
+use Rattle.beep_session.specs.beep_history.specs.Journal.{Item}
+use Rattle.beep_session.specs.beep_journal.specs.declared.role.Role.{Role}
+use Rattle.beep_session.specs.beep_journal.specs.Broken.{none_tunes}
+use Rattle.beep_session.specs.beep_journal.specs.Journal.{Past, Shows as ShowsPast}
+use Rattle.beep_session.specs.beep_journal.specs.Life.{is_released}
+use Rattle.beep_session.specs.beep_journal.specs.Log.{Moment, got_all, put_all, none, over}
+use Rattle.beep_session.specs.beep_lawful.specs.declared.terms.Terms.{Terms}
+use Rattle.beep_session.specs.beep_lawful.specs.Lawful.{IsLawful, IsLawfulLog}
+use Rattle.beep_session.specs.beep_standing.specs.Standing.{Marks}
+use Rattle.beep_session.specs.beep_upright.specs.Frames.{AreFrames}
+use Rattle.beep_session.specs.beep_upright.specs.Upright.{IsUpright}
+use Rattle.beep_session.specs.beep_peer.specs.Peering.{WaitsIn, is_over}
 use Rattle.beep_session.specs.Looks.{IsTakenAt}
 use Rattle.beep_session.specs.Session.{Held}
 use Rattle.beep_session.specs.Lawfully.{terms_of, IsLawfulSession}
 use Rattle.beep_logged.specs.Logged.{IsLogged, IsLoggedWaiting, IsLoggedBroken, IsSound}
-use Rattle.beep_talk.specs.declared.plan.Command.{Command}
-use Rattle.beep_script.specs.Refused.{refusal}
-use Rattle.beep_settings.specs.declared.settings.Settings.{Settings}
-use Rattle.beep_wires.specs.Log.{Entry, read, wrote, quiet, ended}
-use Rattle.beep_link.specs.Causes.{ReadsWhere}
+use Rattle.beep_desk.specs.beep_talk.specs.declared.plan.Command.{Command}
+use Rattle.beep_desk.specs.beep_script.specs.Refused.{refusal}
+use Rattle.beep_session.specs.beep_settings.specs.declared.settings.Settings.{Settings}
+use Rattle.beep_link.specs.beep_wires.specs.Log.{Entry, read, wrote, quiet, ended}
 use Rattle.beep_link.specs.declared.ended.Ended.{Ended}
 use Rattle.beep_link.specs.declared.ended.Stop.{Stop}
 use Rattle.beep_steps.specs.declared.hearing.Came.{Came}
@@ -77,11 +76,6 @@ ShowsRefused terms code log = (past : Past) → ShowsPast none_tunes log past
 pub record ShowsGoing (terms : Terms) (log : List Moment) : Type 0 where
   pub sound : IsSound terms log
   pub unreleased : is_released sound.past.journal ≡ false
-
--- wherever the log of a link shows a read, the session that it shows up to there went on: no rule
--- was broken, and it wasn't released
-abbrev pub ReadsOnlyGoing : Terms → List Entry → Type 0
-ReadsOnlyGoing terms log = ReadsWhere (λ before. ShowsGoing terms (moments before)) log
 
 -- the same, and so many octets modulo 2^64 of a frame that isn't whole
 pub record ShowsCut (terms : Terms) (left : ℕ) (log : List Moment) : Type 0 where

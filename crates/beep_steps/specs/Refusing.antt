@@ -2,23 +2,24 @@
 -- (RFC 3080, sections 2.3.1.1 to 2.3.1.3).
 -- The code keeps neither a journal nor a refusal: it ends at the first.
 use Rattle.std.specs.Prelude.{◌≡◌, ℕ, ◌==◌, nat_le, Bool, not, ◌&&◌, ◌||◌, if◌then◌else◌, List, [], ◌∷◌, Option, None, Some}
-use Rattle.beep_frame.specs.Frame.{is_msg}
-use Rattle.beep_history.specs.Journal.{Item}
-use Rattle.beep_journal.specs.Broken.{none_tunes}
-use Rattle.beep_journal.specs.Journal.{Past, Shows as ShowsPast}
-use Rattle.beep_journal.specs.Log.{Moment}
-use Rattle.beep_lawful.specs.declared.terms.Terms.{Terms}
-use Rattle.beep_lawful.specs.Closing.{has_begun}
-use Rattle.beep_speaking.specs.declared.emit.Emit.{Emit}
-use Rattle.beep_answering.specs.declared.settled.Settled.{Settled}
+use Rattle.beep_session.specs.beep_frame.specs.Frame.{is_msg}
+use Rattle.beep_session.specs.beep_history.specs.Journal.{Item}
+use Rattle.beep_session.specs.beep_journal.specs.Broken.{none_tunes}
+use Rattle.beep_session.specs.beep_journal.specs.Journal.{Past, Shows as ShowsPast}
+use Rattle.beep_session.specs.beep_journal.specs.Log.{Moment}
+use Rattle.beep_session.specs.beep_lawful.specs.declared.terms.Terms.{Terms}
+use Rattle.beep_session.specs.beep_lawful.specs.Closing.{has_begun}
+use Rattle.beep_session.specs.beep_speaking.specs.declared.emit.Emit.{Emit}
+use Rattle.beep_session.specs.beep_answering.specs.declared.settled.Settled.{Settled}
 use Rattle.beep_session.specs.Session.{Held}
-use Rattle.beep_talk.specs.declared.plan.Command.{Command}
-use Rattle.beep_script.specs.Refused.{refusal}
-use Rattle.beep_wires.specs.Log.{Entry}
+use Rattle.beep_desk.specs.beep_talk.specs.declared.plan.Command.{Command}
+use Rattle.beep_desk.specs.beep_script.specs.Refused.{refusal}
+use Rattle.beep_link.specs.beep_wires.specs.Log.{Entry}
+use Rattle.beep_link.specs.Causes.{ReadsWhere}
 use Rattle.beep_link.specs.declared.ended.Ended.{Ended}
 use Rattle.beep_link.specs.declared.ended.Stop.{Stop}
 use Rattle.beep_steps.specs.declared.hearing.Came.{Came}
-use Rattle.beep_steps.specs.Logs.{moments, command_of, ShowsRefused, WaitsOn}
+use Rattle.beep_steps.specs.Logs.{moments, command_of, ShowsGoing, ShowsRefused, WaitsOn}
 
 -- ---- what is settled
 
@@ -107,19 +108,29 @@ abbrev pub ShowsNoRefusal : Terms → List Moment → Type 0
 ShowsNoRefusal terms log = (past : Past) → ShowsPast none_tunes log past
     → refusal (command_of terms.role) past.journal ≡ None
 
+-- a log shows a session that goes on, in which the peer refused nothing
+pub record GoesAlong (terms : Terms) (log : List Moment) : Type 0 where
+  pub going : ShowsGoing terms log
+  pub unrefused : ShowsNoRefusal terms log
+
+-- wherever the log of a link shows a read, the session that it shows up to there went on: no rule
+-- was broken, it wasn't released, and the peer had refused nothing
+abbrev pub ReadsOnlyGoing : Terms → List Entry → Type 0
+ReadsOnlyGoing terms log = ReadsWhere (λ before. GoesAlong terms (moments before)) log
+
 -- before its latest entry the log of a link shows that the peer refused nothing
 abbrev pub UnrefusedBefore : Terms → List Entry → Type 0
 UnrefusedBefore terms [] = Unit {0}
 UnrefusedBefore terms (entry ∷ log) = ShowsNoRefusal terms (moments log)
 
--- where an end was released, its link came to its end, or the settings ended it, the peer refused
--- nothing; where a rule was broken, it was refused or a write of its output failed, nothing before
--- the latest read
+-- where an end was released, its link failed or came to its end, or the settings ended it, the peer
+-- refused nothing; where a rule was broken, it was refused or a write of its output failed, nothing
+-- before the latest read
 abbrev pub GoesUnrefused : Terms → Ended → List Entry → Type 0
 GoesUnrefused terms Ended.Released log = ShowsNoRefusal terms (moments log)
 GoesUnrefused terms (Ended.Broken rule place) log = UnrefusedBefore terms log
 GoesUnrefused terms Ended.WriteFault log = UnrefusedBefore terms log
-GoesUnrefused terms Ended.WireFault log = Unit {0}
+GoesUnrefused terms Ended.WireFault log = ShowsNoRefusal terms (moments log)
 GoesUnrefused terms Ended.NoMemory log = Unit {0}
 GoesUnrefused terms (Ended.Refused code) log = UnrefusedBefore terms log
 GoesUnrefused terms (Ended.Cut left) log = ShowsNoRefusal terms (moments log)

@@ -3,17 +3,17 @@
 -- 2.6.1; RFC 3081, section 3.1).
 -- The code looks at each live channel, and keeps no list of what it owes.
 use Rattle.std.specs.Prelude.{◌≡◌, ◌≤◌, ℕ, nat_lt, Bool, true, false, not, ◌||◌, List, length, Some, slice_get}
-use Rattle.prof_raw.specs.declared.line.TheConstants.{ENTRY_MAX}
-use Rattle.beep_journal.specs.Log.{Moment}
-use Rattle.beep_channel.specs.Held.{Held as Channel, is_held_ready, is_seq_due_of}
-use Rattle.beep_lives.specs.Lives.{live_at}
-use Rattle.beep_speaking.specs.declared.emit.Emit.{Emit}
-use Rattle.beep_peer.specs.Acts.{held_of}
-use Rattle.beep_peer.specs.Peering.{is_greeted, is_over, zero_waits}
+use Rattle.beep_desk.specs.prof_raw.specs.declared.line.TheConstants.{ENTRY_MAX}
+use Rattle.beep_session.specs.beep_journal.specs.Log.{Moment}
+use Rattle.beep_session.specs.beep_channel.specs.Held.{Held as Channel, is_held_ready, is_seq_due_of}
+use Rattle.beep_session.specs.beep_lives.specs.Lives.{live_at}
+use Rattle.beep_session.specs.beep_speaking.specs.declared.emit.Emit.{Emit}
+use Rattle.beep_session.specs.beep_peer.specs.Acts.{held_of}
+use Rattle.beep_session.specs.beep_peer.specs.Peering.{is_greeted, is_over, zero_waits}
 use Rattle.beep_session.specs.Session.{Held}
-use Rattle.beep_script.specs.Prompt.{IsIdle}
-use Rattle.beep_talk.specs.Plan.{PlainPlan}
-use Rattle.beep_wires.specs.Log.{Entry}
+use Rattle.beep_desk.specs.beep_script.specs.Prompt.{IsIdle}
+use Rattle.beep_desk.specs.beep_talk.specs.Plan.{PlainPlan}
+use Rattle.beep_link.specs.beep_wires.specs.Log.{Entry}
 use Rattle.beep_link.specs.Causes.{ReadsWhere}
 use Rattle.beep_link.specs.declared.ended.Ended.{Ended}
 use Rattle.beep_steps.specs.Logs.{moments}

@@ -3,22 +3,22 @@
 -- 3195, section 3.1).
 -- The code keeps the place of the next line alone.
 use Rattle.std.specs.Prelude.{◌≡◌, ℕ, ◌+◌, ◌≤◌, ◌==◌, true, false, List, [], ◌++◌, length, flat_map, map, take}
-use Rattle.beep_history.specs.declared.journal.Side.{Side}
-use Rattle.beep_history.specs.Journal.{Item}
-use Rattle.beep_history.specs.Marks.{Mark, mark_modulo_2_64, marks}
-use Rattle.beep_journal.specs.Broken.{none_tunes}
-use Rattle.beep_journal.specs.Journal.{Past, Shows}
-use Rattle.beep_journal.specs.Life.{is_there}
-use Rattle.beep_journal.specs.Log.{Moment}
-use Rattle.beep_journal.specs.Zero.{zero_history}
+use Rattle.beep_session.specs.beep_history.specs.declared.journal.Side.{Side}
+use Rattle.beep_session.specs.beep_history.specs.Journal.{Item}
+use Rattle.beep_session.specs.beep_history.specs.Marks.{Mark, mark_modulo_2_64, marks}
+use Rattle.beep_session.specs.beep_journal.specs.Broken.{none_tunes}
+use Rattle.beep_session.specs.beep_journal.specs.Journal.{Past, Shows}
+use Rattle.beep_session.specs.beep_journal.specs.Life.{is_there}
+use Rattle.beep_session.specs.beep_journal.specs.Log.{Moment}
+use Rattle.beep_session.specs.beep_journal.specs.Zero.{zero_history}
 use Rattle.beep_session.specs.Session.{Held}
-use Rattle.beep_standing.specs.Standing.{Marks}
-use Rattle.beep_talk.specs.Plan.{PlainPlan}
-use Rattle.beep_script.specs.Requested.{requests_from, sender_texts}
-use Rattle.beep_script.specs.Script.{message_marks, KeepsScript}
-use Rattle.beep_script.specs.Sending.{answers_of}
+use Rattle.beep_session.specs.beep_standing.specs.Standing.{Marks}
+use Rattle.beep_desk.specs.beep_talk.specs.Plan.{PlainPlan}
+use Rattle.beep_desk.specs.beep_script.specs.Requested.{requests_from, sender_texts}
+use Rattle.beep_desk.specs.beep_script.specs.Script.{message_marks, KeepsScript}
+use Rattle.beep_desk.specs.beep_script.specs.Sending.{answers_of}
 use Rattle.beep_replies.specs.Replies.{KeepsAbove, replies}
-use Rattle.beep_wires.specs.Log.{Entry}
+use Rattle.beep_link.specs.beep_wires.specs.Log.{Entry}
 use Rattle.beep_link.specs.declared.ended.Ended.{Ended}
 use Rattle.beep_steps.specs.Logs.{moments}
 use Rattle.beep_steps.specs.Sending.{Progress, SendsOn, SendsWaiting, TellsSent}

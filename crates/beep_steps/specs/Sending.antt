@@ -2,29 +2,29 @@
 -- once and in order (RFC 3195, section 3.1).
 -- The code keeps the place of the next line, how far it has asked, and a flag.
 use Rattle.std.specs.Prelude.{◌≡◌, ℕ, ◌+◌, ◌≤◌, ◌==◌, Bool, true, false, ◌||◌, ◌&&◌, List, [], take, Result, Ok, Err}
-use Rattle.beep_frame.specs.Frame.{is_nul}
-use Rattle.beep_speaking.specs.declared.emit.Emit.{Emit}
-use Rattle.beep_history.specs.Journal.{Item}
-use Rattle.beep_journal.specs.declared.role.Role.{Role}
-use Rattle.beep_journal.specs.Broken.{none_tunes}
-use Rattle.beep_journal.specs.Journal.{Past, Shows as ShowsPast}
-use Rattle.beep_journal.specs.Lives.{lives}
-use Rattle.beep_journal.specs.Zero.{events}
-use Rattle.beep_journal.specs.Life.{life, is_there}
-use Rattle.beep_journal.specs.Log.{Moment}
-use Rattle.beep_standing.specs.Standing.{Marks}
+use Rattle.beep_session.specs.beep_frame.specs.Frame.{is_nul}
+use Rattle.beep_session.specs.beep_speaking.specs.declared.emit.Emit.{Emit}
+use Rattle.beep_session.specs.beep_history.specs.Journal.{Item}
+use Rattle.beep_session.specs.beep_journal.specs.declared.role.Role.{Role}
+use Rattle.beep_session.specs.beep_journal.specs.Broken.{none_tunes}
+use Rattle.beep_session.specs.beep_journal.specs.Journal.{Past, Shows as ShowsPast}
+use Rattle.beep_session.specs.beep_journal.specs.Lives.{lives}
+use Rattle.beep_session.specs.beep_journal.specs.Zero.{events}
+use Rattle.beep_session.specs.beep_journal.specs.Life.{life, is_there}
+use Rattle.beep_session.specs.beep_journal.specs.Log.{Moment}
+use Rattle.beep_session.specs.beep_standing.specs.Standing.{Marks}
 use Rattle.beep_logged.specs.Logged.{IsSound}
-use Rattle.beep_settings.specs.declared.settings.Settings.{Settings}
-use Rattle.beep_octets.specs.declared.octets.NoMemory.{NoMemory}
-use Rattle.beep_wires.specs.Log.{Entry}
+use Rattle.beep_session.specs.beep_settings.specs.declared.settings.Settings.{Settings}
+use Rattle.beep_session.specs.beep_octets.specs.declared.octets.NoMemory.{NoMemory}
+use Rattle.beep_link.specs.beep_wires.specs.Log.{Entry}
 use Rattle.beep_link.specs.declared.ended.Ended.{Ended}
 use Rattle.beep_link.specs.declared.ended.Stop.{Stop}
 use Rattle.beep_session.specs.Session.{Held}
-use Rattle.beep_talk.specs.declared.plan.Command.{Command}
-use Rattle.beep_talk.specs.Plan.{PlainPlan}
-use Rattle.beep_script.specs.EachEnd.{HasSentAll}
-use Rattle.beep_script.specs.Requested.{requests_from, sender_texts, SenderTexts}
-use Rattle.beep_script.specs.Sending.{LinesGiven, SentSome, SentWhole}
+use Rattle.beep_desk.specs.beep_talk.specs.declared.plan.Command.{Command}
+use Rattle.beep_desk.specs.beep_talk.specs.Plan.{PlainPlan}
+use Rattle.beep_desk.specs.beep_script.specs.EachEnd.{HasSentAll}
+use Rattle.beep_desk.specs.beep_script.specs.Requested.{requests_from, sender_texts, SenderTexts}
+use Rattle.beep_desk.specs.beep_script.specs.Sending.{LinesGiven, SentSome, SentWhole}
 use Rattle.beep_steps.specs.Logs.{moments, terms_by, StandsOn, WaitsOn, Shows, ShowsFault}
 use Rattle.beep_steps.specs.Refusing.{GoesUnrefused, ShowsNoRefusal}
 use Rattle.beep_steps.specs.declared.hearing.Came.{Came}

@@ -4,16 +4,16 @@
 -- The code decides by what it offers, and keeps nothing of what it said.
 use Rattle.std.specs.Prelude.{◌≡◌, ℕ, false, List, [], ◌∷◌}
 use Rattle.std.specs.List.{list_any}
-use Rattle.beep_history.specs.Marks.{Mark}
-use Rattle.beep_journal.specs.Broken.{none_tunes}
-use Rattle.beep_journal.specs.Journal.{Past, Shows}
-use Rattle.beep_journal.specs.Laws.{pieces_from}
-use Rattle.beep_journal.specs.Log.{Moment}
-use Rattle.beep_decide.specs.Decide.{PlainOffer}
-use Rattle.beep_management.specs.Managed.{Prepared}
+use Rattle.beep_session.specs.beep_history.specs.Marks.{Mark}
+use Rattle.beep_session.specs.beep_journal.specs.Broken.{none_tunes}
+use Rattle.beep_session.specs.beep_journal.specs.Journal.{Past, Shows}
+use Rattle.beep_session.specs.beep_journal.specs.Laws.{pieces_from}
+use Rattle.beep_session.specs.beep_journal.specs.Log.{Moment}
+use Rattle.beep_session.specs.beep_decide.specs.Decide.{PlainOffer}
+use Rattle.beep_session.specs.beep_management.specs.Managed.{Prepared}
 use Rattle.beep_session.specs.Session.{Held}
-use Rattle.beep_talk.specs.Plan.{PlainPlan}
-use Rattle.beep_script.specs.Requested.{requests_from}
+use Rattle.beep_desk.specs.beep_talk.specs.Plan.{PlainPlan}
+use Rattle.beep_desk.specs.beep_script.specs.Requested.{requests_from}
 use Rattle.beep_served.specs.Served.{chooses_other, IsServing}
 use Rattle.beep_steps.specs.Logs.{StandsOn, WaitsOn}
 use Rattle.beep_steps.specs.declared.hearing.Came.{Came}

@@ -2,24 +2,24 @@
 -- or what is asked first there and then refusals, in order (RFC 3195, section 3).
 -- The code keeps three lists of numbers and a test, and no journal.
 use Rattle.std.specs.Prelude.{◌≡◌, ℕ, ◌==◌, Bool, true, false, ◌||◌, List, [], ◌∷◌, ◌++◌, map, flat_map}
-use Rattle.beep_history.specs.declared.journal.Side.{Side}
-use Rattle.beep_history.specs.Journal.{Item}
-use Rattle.beep_history.specs.Marks.{Mark, marks, mark_modulo_2_64}
-use Rattle.beep_history.specs.Messages.{Message}
-use Rattle.beep_journal.specs.Broken.{none_tunes}
-use Rattle.beep_journal.specs.Journal.{Past, Shows}
-use Rattle.beep_journal.specs.Life.{is_released, is_there, life, life_now}
-use Rattle.beep_journal.specs.Log.{Moment}
-use Rattle.beep_journal.specs.Zero.{events}
-use Rattle.beep_decide.specs.Decide.{is_among}
-use Rattle.beep_standing.specs.Standing.{Marks}
-use Rattle.beep_answering.specs.declared.settled.Settled.{Settled}
+use Rattle.beep_session.specs.beep_history.specs.declared.journal.Side.{Side}
+use Rattle.beep_session.specs.beep_history.specs.Journal.{Item}
+use Rattle.beep_session.specs.beep_history.specs.Marks.{Mark, marks, mark_modulo_2_64}
+use Rattle.beep_session.specs.beep_history.specs.Messages.{Message}
+use Rattle.beep_session.specs.beep_journal.specs.Broken.{none_tunes}
+use Rattle.beep_session.specs.beep_journal.specs.Journal.{Past, Shows}
+use Rattle.beep_session.specs.beep_journal.specs.Life.{is_released, is_there, life, life_now}
+use Rattle.beep_session.specs.beep_journal.specs.Log.{Moment}
+use Rattle.beep_session.specs.beep_journal.specs.Zero.{events}
+use Rattle.beep_session.specs.beep_decide.specs.Decide.{is_among}
+use Rattle.beep_session.specs.beep_standing.specs.Standing.{Marks}
+use Rattle.beep_session.specs.beep_answering.specs.declared.settled.Settled.{Settled}
 use Rattle.beep_session.specs.Session.{Held}
-use Rattle.beep_talk.specs.declared.plan.Command.{Command}
-use Rattle.beep_talk.specs.Plan.{PlainPlan}
-use Rattle.beep_talk.specs.Talk.{has_peer_release, ready}
-use Rattle.beep_script.specs.Desk.{is_closing}
-use Rattle.beep_script.specs.Script.{script_marks, message_marks, BeginsWith}
+use Rattle.beep_desk.specs.beep_talk.specs.declared.plan.Command.{Command}
+use Rattle.beep_desk.specs.beep_talk.specs.Plan.{PlainPlan}
+use Rattle.beep_desk.specs.beep_talk.specs.Talk.{has_peer_release, ready}
+use Rattle.beep_desk.specs.beep_script.specs.Desk.{is_closing}
+use Rattle.beep_desk.specs.beep_script.specs.Script.{script_marks, message_marks, BeginsWith}
 use Rattle.beep_replies.specs.Replies.{first_said, replies}
 pub use Rattle.beep_steps.specs.Scripting.{ShowsAbove}
 use Rattle.beep_steps.specs.Logs.{StandsOn, WaitsOn}
@@ -72,8 +72,8 @@ pub record IsSaid (plan : PlainPlan) (first : List Message) (given : List Mark) 
   pub given_is : given ≡ modulo_marks (first ++ replies plan 0 count)
 
 -- what passed in each life above channel zero is the beginning of its script, positions modulo 2^64
-abbrev pub KeepsTold : PlainPlan → List Item → Type 0
-KeepsTold plan journal = (number count : ℕ) → (number == 0) ≡ false
+abbrev pub KeepsSaid : PlainPlan → List Item → Type 0
+KeepsSaid plan journal = (number count : ℕ) → (number == 0) ≡ false
     → BeginsWith (map mark_modulo_2_64 (script_marks plan number count journal))
     (map mark_modulo_2_64 (marks Side.Sent (life number count journal)))
 
@@ -89,7 +89,7 @@ pub record SpeaksSo (plan : PlainPlan) (notes : Notes) (journal : List Item) (gi
   pub silent : (n : ℕ) → (n == 0) ≡ false → is_there n journal ≡ true
       → is_among n notes.spoken ≡ false → given n ≡ []
   pub leaving : has_peer_release (events journal) ≡ notes.leaving
-  pub keeps : KeepsTold plan journal
+  pub keeps : KeepsSaid plan journal
 
 -- in each live life above zero what is asked first was given
 abbrev pub AllSpoken : Notes → List Item → Type 0
@@ -157,7 +157,7 @@ pub record SpeaksNew (plan : PlainPlan) (notes : Notes) (number : ℕ) (session 
       → (number == n) ≡ false
       → IsSaid plan (first_said plan n (life_now n on.journal) on.journal) (on.given n)
   pub leaving : has_peer_release (events on.journal) ≡ notes.leaving
-  pub keeps : KeepsTold plan on.journal
+  pub keeps : KeepsSaid plan on.journal
 
 -- a call leaves a listener one that keeps its script, with these notes, whatever the log shows
 abbrev pub KeepsSpeaking : PlainPlan → Notes → Notes → Held → Held → Type 0
@@ -173,5 +173,5 @@ ComesSpeaking plan notes Came.Zero session log = SpeaksWaiting plan notes sessio
 -- ---- what a log shows
 
 -- what passed in each life above channel zero is the beginning of its script, positions modulo 2^64
-abbrev pub ShowsTold : PlainPlan → List Moment → Type 0
-ShowsTold plan log = (past : Past) → Shows none_tunes log past → KeepsTold plan past.journal
+abbrev pub ShowsSaid : PlainPlan → List Moment → Type 0
+ShowsSaid plan log = (past : Past) → Shows none_tunes log past → KeepsSaid plan past.journal

@@ -3,22 +3,22 @@
 -- The code keeps no journal and no marks.
 use Rattle.std.specs.Prelude.{◌≡◌, ℕ, ◌==◌, Bool, false, ◌&&◌, if◌then◌else◌, List, [], ◌∷◌, ◌++◌, length, map, ◌≤◌, ◌<◌, Some}
 use Rattle.std.specs.List.{list_any}
-use Rattle.beep_frame.specs.declared.head.Head.{Head}
-use Rattle.beep_frame.specs.declared.head.TheConstants.{MAX_NUMBER}
-use Rattle.beep_history.specs.declared.journal.Side.{Side}
-use Rattle.beep_history.specs.Journal.{Item, began, passed, told, same_side}
-use Rattle.beep_history.specs.Marks.{Mark, frame_marks, mark_modulo_2_64, tag_of}
-use Rattle.beep_journal.specs.Broken.{none_tunes}
-use Rattle.beep_journal.specs.Journal.{Past, Shows}
-use Rattle.beep_journal.specs.Life.{history, is_there, life_now, life_under_way}
-use Rattle.beep_journal.specs.Log.{Moment}
-use Rattle.beep_inbox.specs.declared.part.Part.{Part}
-use Rattle.beep_inbox.specs.Laws.{part_marks}
-use Rattle.beep_inbox.specs.Runs.{marks_of as untaken_marks}
-use Rattle.beep_channel.specs.Held.{Live}
-use Rattle.beep_lives.specs.Lives.{live_at}
-use Rattle.beep_hearing.specs.Hears.{ends_zero, is_above}
-use Rattle.beep_speaking.specs.declared.emit.Emit.{Emit}
+use Rattle.beep_session.specs.beep_frame.specs.declared.head.Head.{Head}
+use Rattle.beep_session.specs.beep_frame.specs.declared.head.TheConstants.{MAX_NUMBER}
+use Rattle.beep_session.specs.beep_history.specs.declared.journal.Side.{Side}
+use Rattle.beep_session.specs.beep_history.specs.Journal.{Item, began, passed, told, same_side}
+use Rattle.beep_session.specs.beep_history.specs.Marks.{Mark, frame_marks, mark_modulo_2_64, tag_of}
+use Rattle.beep_session.specs.beep_journal.specs.Broken.{none_tunes}
+use Rattle.beep_session.specs.beep_journal.specs.Journal.{Past, Shows}
+use Rattle.beep_session.specs.beep_journal.specs.Life.{history, is_there, life_now, life_under_way}
+use Rattle.beep_session.specs.beep_journal.specs.Log.{Moment}
+use Rattle.beep_session.specs.beep_inbox.specs.declared.part.Part.{Part}
+use Rattle.beep_session.specs.beep_inbox.specs.Laws.{part_marks}
+use Rattle.beep_session.specs.beep_inbox.specs.Runs.{marks_of as untaken_marks}
+use Rattle.beep_session.specs.beep_channel.specs.Held.{Live}
+use Rattle.beep_session.specs.beep_lives.specs.Lives.{live_at}
+use Rattle.beep_session.specs.beep_hearing.specs.Hears.{ends_zero, is_above}
+use Rattle.beep_session.specs.beep_speaking.specs.declared.emit.Emit.{Emit}
 use Rattle.beep_link.specs.declared.ended.Stop.{Stop}
 use Rattle.beep_session.specs.Looks.{IsTakenAt}
 use Rattle.beep_session.specs.Session.{Held}

@@ -1,29 +1,32 @@
 -- What the turns over a link want of what an end stands for (RFC 3081, section 2).
 -- These are proofs, since the members of an impl cite nothing else of its crate.
-use Rattle.std.specs.Prelude.{◌≡◌, ℕ, Bool, true, false, ◌||◌, is_some, List, ◌∷◌, ◌++◌}
+use Rattle.std.specs.Prelude.{◌≡◌, ℕ, Bool, true, false, ◌||◌, is_some, List, ◌∷◌, ◌++◌, Option, None, Some}
 use Rattle.std.proofs.Common.{refl, sym, ap, ◌∙◌, subst, inl}
-use Rattle.beep_journal.specs.declared.role.Role.{Role}
-use Rattle.beep_journal.specs.Broken.{none_tunes}
-use Rattle.beep_journal.specs.Journal.{Past, Shows as ShowsPast}
-use Rattle.beep_journal.specs.Life.{is_released}
-use Rattle.beep_journal.specs.Log.{Moment, put_all, none}
-use Rattle.beep_peer.specs.Peering.{is_over}
+use Rattle.beep_session.specs.beep_history.specs.Journal.{Item}
+use Rattle.beep_session.specs.beep_journal.specs.declared.role.Role.{Role}
+use Rattle.beep_session.specs.beep_journal.specs.Broken.{none_tunes}
+use Rattle.beep_session.specs.beep_journal.specs.Journal.{Past, Shows as ShowsPast}
+use Rattle.beep_session.specs.beep_journal.specs.Life.{is_released}
+use Rattle.beep_session.specs.beep_journal.specs.Log.{Moment, put_all, none}
+use Rattle.beep_session.specs.beep_peer.specs.Peering.{is_over}
 use Rattle.beep_session.specs.Session.{Held}
 use Rattle.beep_session.specs.Lawfully.{terms_of}
 use Rattle.beep_logged.proofs.EndLemmas.{put-append, sound-of, sound-puts}
 use Rattle.beep_logged.proofs.ReadLemmas.{quiet-logged, over-logged}
 use Rattle.beep_logged.specs.Logged.{IsLogged, IsSound}
-use Rattle.beep_wires.specs.Log.{Entry, wrote, quiet, ended}
+use Rattle.beep_link.specs.beep_wires.specs.Log.{Entry, wrote, quiet, ended}
 use Rattle.beep_link.specs.Causes.{IsOfFaults, IsOfReads, ended_by}
 use Rattle.beep_link.specs.declared.ended.Ended.{Ended}
 use Rattle.beep_link.specs.declared.ended.Stop.{Stop}
-use Rattle.beep_lawful.specs.declared.terms.Terms.{Terms}
-use Rattle.beep_talk.specs.declared.plan.Command.{Command}
-use Rattle.beep_talk.specs.Plan.{PlainPlan}
+use Rattle.beep_session.specs.beep_lawful.specs.declared.terms.Terms.{Terms}
+use Rattle.beep_desk.specs.beep_talk.specs.declared.plan.Command.{Command}
+use Rattle.beep_desk.specs.beep_talk.specs.Plan.{PlainPlan}
 use Rattle.beep_steps.specs.Logs.{moments, command_of, StandsOn, Shows, ShowsGoing}
-use Rattle.beep_script.specs.Prompt.{IsIdle}
+use Rattle.beep_desk.specs.beep_script.specs.Prompt.{IsIdle}
+use Rattle.beep_desk.specs.beep_script.specs.Refused.{first_code, refusal, refused_at}
+use Rattle.beep_replies.proofs.LogLemmas.{goes-so}
 use Rattle.beep_steps.specs.Resting.{TellsIdle}
-use Rattle.beep_steps.specs.Refusing.{GoesUnrefused, IsUnrefused, Unrefused}
+use Rattle.beep_steps.specs.Refusing.{GoesUnrefused, IsUnrefused, ShowsNoRefusal, Unrefused}
 use Rattle.beep_steps.specs.Sending.{Progress, SendsOn, TellsSent}
 use Rattle.beep_steps.specs.Serving.{ServesOn}
 
@@ -142,25 +145,43 @@ pub none_refused : (terms : Terms) (closing : Bool) (cause : Ended) (log : List 
 none_refused terms closing Ended.Released log calm u = λ past shows. (u past shows).none
 none_refused terms closing (Ended.Broken rule place) log calm u = absurd calm
 none_refused terms closing Ended.WriteFault log calm u = absurd calm
-none_refused terms closing Ended.WireFault log calm u = tt
+none_refused terms closing Ended.WireFault log calm u = λ past shows. (u past shows).none
 none_refused terms closing Ended.NoMemory log calm u = tt
 none_refused terms closing (Ended.Refused code) log calm u = absurd calm
 none_refused terms closing (Ended.Cut left) log calm u = λ past shows. (u past shows).none
 none_refused terms closing (Ended.Idle count) log calm u = λ past shows. (u past shows).none
 none_refused terms closing (Ended.Spent count) log calm u = λ past shows. (u past shows).none
 
--- a fault of the link says nothing of it
+-- the same where the link fails; a lack of memory says nothing of it
 pub faults_refused : (terms : Terms) (cause : Ended) (log : List Entry) → IsOfFaults cause
-    → GoesUnrefused terms cause log
-faults_refused terms Ended.Released log is = absurd is
-faults_refused terms (Ended.Broken rule place) log is = absurd is
-faults_refused terms Ended.WriteFault log is = absurd is
-faults_refused terms Ended.WireFault log is = tt
-faults_refused terms Ended.NoMemory log is = tt
-faults_refused terms (Ended.Refused code) log is = absurd is
-faults_refused terms (Ended.Cut left) log is = absurd is
-faults_refused terms (Ended.Idle count) log is = absurd is
-faults_refused terms (Ended.Spent count) log is = absurd is
+    → ShowsNoRefusal terms (moments log) → GoesUnrefused terms cause log
+faults_refused terms Ended.Released log is u = absurd is
+faults_refused terms (Ended.Broken rule place) log is u = absurd is
+faults_refused terms Ended.WriteFault log is u = absurd is
+faults_refused terms Ended.WireFault log is u = u
+faults_refused terms Ended.NoMemory log is u = tt
+faults_refused terms (Ended.Refused code) log is u = absurd is
+faults_refused terms (Ended.Cut left) log is u = absurd is
+faults_refused terms (Ended.Idle count) log is u = absurd is
+faults_refused terms (Ended.Spent count) log is u = absurd is
+
+none_first : (first second : Option ℕ) → first_code first second ≡ None → first ≡ None
+none_first None second same = refl
+none_first (Some code) second same = absurd (let other : Some code ≡ None = same in cc)
+
+-- the log without octets that are still to be written shows no refusal, where it shows none with
+-- them
+pub none_on : (closing : Bool) (session : Held) (log : List Entry) (octets : List ℕ)
+    → StandsOn session (put_all octets (moments log))
+    → IsUnrefused (command_of session.role) closing (put_all octets (moments log))
+    → ShowsNoRefusal (terms_of session) (moments log)
+none_on closing session log octets s u past shows =
+    let command = command_of session.role in
+    let shown = s.logged.shown in
+    goes-so (λ (journal : List Item). refusal command journal ≡ None)
+    (λ item journal is later. none_first (refusal command journal)
+    (refused_at command item journal) later) octets (moments log) past shown.past shows
+    shown.shows (u shown.past shown.shows).none
 
 -- ---- a sender
 
@@ -196,14 +217,17 @@ module _ (plan : PlainPlan) (progress : Progress) (session : Held) where
 
   pub stops_sending : terms_of session ≡ plan.terms → (log : List Entry) (octets : List ℕ)
       (cause : Ended) → IsOfFaults cause
-      → SendsOn plan progress session (put_all octets (moments log))
+      → SendsOn plan progress session (put_all octets (moments log)) → (closing : Bool)
+      → IsUnrefused Command.Send closing (put_all octets (moments log))
       → TellsSent plan cause log
-  stops_sending same log octets cause is s = record {
+  stops_sending same log octets cause is s closing u = record {
     shows = subst (λ (t : Terms). Shows t cause log) same
         (stops_on session log octets cause is s.on);
     sent = λ released. absurd (subst IsOfFaults released is);
     unrefused = subst (λ (t : Terms). GoesUnrefused t cause log) same
-        (faults_refused (terms_of session) cause log is);
+        (faults_refused (terms_of session) cause log is
+        (none_on closing session log octets s.on
+        (as_shown s.sender.role closing (put_all octets (moments log)) u)));
   }
 
   pub spends_sending : terms_of session ≡ plan.terms → (log : List Entry) (cause : Ended)

@@ -3,9 +3,9 @@ ghost use Rattle.std.specs.Prelude.{◌≡◌, ◌↔◌, true};
 ghost use Rattle.beep_steps.specs.Ends.{AreFit, reads_of, limits_of};
 
 use beep_link::Reads;
-use beep_seq::{MAX_WINDOW, MIN_WINDOW};
+use beep_session::beep_seq::{MAX_WINDOW, MIN_WINDOW};
+use beep_session::beep_settings::Settings;
 use beep_session::{Limits, MAX_PIECE, is_uri};
-use beep_settings::Settings;
 
 /// Whether a session can be held with these settings.
 pub fn are_fit(settings: &Settings) -> bool

@@ -1,10 +1,10 @@
 //! What both ends do with a session. What each call wants is looked at beside it.
 ghost use Rattle.std.specs.Prelude.{Bool, ◌≡◌, ◌<◌, ◌≤◌, ◌==◌, List, length, take, ℕ, false, true, is_some, IfOk, IfErr, IfNone, IfSome, OnOk};
-ghost use Rattle.beep_octets.specs.Numbers.{numbers_32};
-ghost use Rattle.beep_history.specs.Marks.{Mark};
-ghost use Rattle.beep_journal.specs.Log.{Moment, got_all, put_all};
-ghost use Rattle.beep_lives.specs.Lives.{live_at};
-ghost use Rattle.beep_peer.specs.Peering.{zero_waits};
+ghost use Rattle.beep_session.specs.beep_octets.specs.Numbers.{numbers_32};
+ghost use Rattle.beep_session.specs.beep_history.specs.Marks.{Mark};
+ghost use Rattle.beep_session.specs.beep_journal.specs.Log.{Moment, got_all, put_all};
+ghost use Rattle.beep_session.specs.beep_lives.specs.Lives.{live_at};
+ghost use Rattle.beep_session.specs.beep_peer.specs.Peering.{zero_waits};
 ghost use Rattle.beep_session.specs.Channels.{IsOpen};
 ghost use Rattle.beep_session.specs.Lawfully.{terms_of};
 ghost use Rattle.beep_link.specs.declared.end.TheConstants.{FRAME_ROOM};
@@ -14,20 +14,20 @@ ghost use Rattle.beep_steps.specs.Logs.{command_of, AreTaken, ComesOn, StandsOn,
 ghost use Rattle.beep_steps.specs.Scripting.{ComesScripting, KeepsScripting, ScriptedOn, ScriptedWaiting};
 ghost use Rattle.beep_steps.specs.Sending.{went_by, ComesSending, KeepsSending, Progress, SendsOn, SendsWaiting, StopsSending};
 ghost use Rattle.beep_steps.specs.Serving.{ComesServing, KeepsServing, ServesOn, ServesWaiting};
-ghost use Rattle.beep_history.specs.declared.journal.Side.{Side};
-ghost use Rattle.beep_history.specs.Journal.{passed};
+ghost use Rattle.beep_session.specs.beep_history.specs.declared.journal.Side.{Side};
+ghost use Rattle.beep_session.specs.beep_history.specs.Journal.{passed};
 ghost use Rattle.beep_steps.specs.Desking.{AsksSo, EndsLinesSo, ComesDesk, DesksOn, DesksWaiting, DesksWithin, SaidDesk};
 ghost use Rattle.beep_steps.specs.Resting.{IsAwake, RestsAfter};
 ghost use Rattle.beep_steps.specs.Speaking.{noted_by, ComesSpeaking, KeepsSpeaking, Notes, SpeaksGone, SpeaksOn, SpeaksWaiting};
 ghost use Rattle.beep_steps.specs.Refusing.{closing_by, ComesUnrefused, IsOtherStop, IsUnrefused, RefusesOn, SettlesSo, Unrefused};
-ghost use Rattle.beep_talk.specs.declared.plan.Command.{Command};
-ghost use Rattle.beep_talk.specs.Plan.{PlainPlan};
+ghost use Rattle.beep_desk.specs.beep_talk.specs.declared.plan.Command.{Command};
+ghost use Rattle.beep_desk.specs.beep_talk.specs.Plan.{PlainPlan};
 
-use beep_inbox::Part;
 use beep_link::{FRAME_ROOM, Stop};
-use beep_octets::Octets;
+use beep_session::beep_inbox::Part;
+use beep_session::beep_octets::Octets;
+use beep_session::beep_speaking::Emit;
 use beep_session::{Event, MAX_PIECE, Session, SettleError, Settled};
-use beep_speaking::Emit;
 
 /// What came of some octets.
 #[derive(Clone, Copy, Debug)]

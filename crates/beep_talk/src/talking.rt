@@ -20,7 +20,7 @@ use beep_frame::{Head, Kind};
 use beep_history::{JournalItem, Side};
 use beep_journal::{LifeEvent, completed, events, life, life_now, lives, zero_history};
 use beep_lawful::MESSAGE_NUMBERS;
-use beep_mgmt::Mgmt;
+use beep_mgmt::{Mgmt, NOT_TAKEN};
 use beep_octets::{NoMemory, Octets};
 use prof_raw::{Entries, entry_body};
 use std::alloc::Global;
@@ -185,7 +185,7 @@ fn put_refusal(alloc: Global, position: usize, said: &mut Vec<Message>) -> Resul
     ensures { OnOk result (plain_messages said.new.items
         ≡ plain_messages said.old.items ++ refusal position ∷ []) }
 {
-    let words = Words::refusal(alloc, 550)?;
+    let words = Words::refusal(alloc, NOT_TAKEN)?;
     put_words(alloc, Kind::Err, position, &words, said)
 }
 

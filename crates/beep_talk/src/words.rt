@@ -12,7 +12,7 @@ ghost use Rattle.beep_talk.specs.AtZero.{profile_of};
 
 use beep_chars::Text;
 use beep_decide::Offer;
-use beep_mgmt::{Encoding, Mgmt, Profile, Profiles, write_mgmt};
+use beep_mgmt::{Encoding, Mgmt, Profile, Profiles, SUCCESS, write_mgmt};
 use beep_octets::{NoMemory, Octets};
 use std::alloc::Global;
 use std::marker::Model;
@@ -101,7 +101,7 @@ impl Words {
             alloc,
             Mgmt::Close {
                 number,
-                code: 200,
+                code: SUCCESS,
                 note,
             },
         )

@@ -2,27 +2,27 @@
 use Rattle.std.proofs.Common.{◌≡◌, ◌⊎◌, inl, inr, ℕ, ◌<◌, ◌≤◌, ◌==◌, Bool, true, false, ◌&&◌, ◌||◌, List, [], ◌∷◌, ◌++◌, map, Option, Some, None, is_some, refl, sym, ap, ◌∙◌, subst, append_assoc, arith}
 use Rattle.std.specs.List.{list_any}
 use Rattle.std.proofs.lemmas.List.{map-append}
-use Rattle.beep_frame.specs.declared.head.Head.{Head}
-use Rattle.beep_frame.specs.declared.seq.Seq.{Seq}
-use Rattle.beep_frame.specs.Frame.{Frame, framed, seq_frame}
-use Rattle.beep_history.specs.declared.journal.Side.{Side}
-use Rattle.beep_history.specs.Journal.{Item, began, passed, told}
-use Rattle.beep_history.specs.Marks.{Mark, marks, mark_modulo_2_64}
-use Rattle.beep_journal.specs.Lives.{Event as Moment, lives, is_live, live_life}
-use Rattle.beep_journal.specs.Zero.{events}
-use Rattle.beep_journal.specs.Life.{life, life_now, is_there, history}
-use Rattle.beep_journal.proofs.JournalLemmas.{told-there}
-use Rattle.beep_journal.proofs.MomentLemmas.{same-number, equal-number}
-use Rattle.beep_inbox.specs.Laws.{part_marks}
-use Rattle.beep_inbox.specs.Runs.{marks_of as untaken_marks}
-use Rattle.beep_outbox.specs.Queue.{message_marks, marks_of as unsent_marks}
-use Rattle.beep_channel.specs.Held.{Live}
-use Rattle.beep_lives.specs.Lives.{live_at}
-use Rattle.beep_standing.specs.Standing.{Marks, with_marks, AreLiveBy}
-use Rattle.beep_hearing.specs.Hears.{SameAbove, Join, ends_zero}
-use Rattle.beep_peer.specs.Peering.{Carries}
-use Rattle.beep_peer.proofs.SpeakLemmas.{carries-same, carries-above}
-use Rattle.beep_peer.proofs.GainLemmas.{gained-events}
+use Rattle.beep_session.specs.beep_frame.specs.declared.head.Head.{Head}
+use Rattle.beep_session.specs.beep_frame.specs.declared.seq.Seq.{Seq}
+use Rattle.beep_session.specs.beep_frame.specs.Frame.{Frame, framed, seq_frame}
+use Rattle.beep_session.specs.beep_history.specs.declared.journal.Side.{Side}
+use Rattle.beep_session.specs.beep_history.specs.Journal.{Item, began, passed, told}
+use Rattle.beep_session.specs.beep_history.specs.Marks.{Mark, marks, mark_modulo_2_64}
+use Rattle.beep_session.specs.beep_journal.specs.Lives.{Event as Moment, lives, is_live, live_life}
+use Rattle.beep_session.specs.beep_journal.specs.Zero.{events}
+use Rattle.beep_session.specs.beep_journal.specs.Life.{life, life_now, is_there, history}
+use Rattle.beep_session.specs.beep_journal.proofs.JournalLemmas.{told-there}
+use Rattle.beep_session.specs.beep_journal.proofs.MomentLemmas.{same-number, equal-number}
+use Rattle.beep_session.specs.beep_inbox.specs.Laws.{part_marks}
+use Rattle.beep_session.specs.beep_inbox.specs.Runs.{marks_of as untaken_marks}
+use Rattle.beep_session.specs.beep_outbox.specs.Queue.{message_marks, marks_of as unsent_marks}
+use Rattle.beep_session.specs.beep_channel.specs.Held.{Live}
+use Rattle.beep_session.specs.beep_lives.specs.Lives.{live_at}
+use Rattle.beep_session.specs.beep_standing.specs.Standing.{Marks, with_marks, AreLiveBy}
+use Rattle.beep_session.specs.beep_hearing.specs.Hears.{SameAbove, Join, ends_zero}
+use Rattle.beep_session.specs.beep_peer.specs.Peering.{Carries}
+use Rattle.beep_session.specs.beep_peer.proofs.SpeakLemmas.{carries-same, carries-above}
+use Rattle.beep_session.specs.beep_peer.proofs.GainLemmas.{gained-events}
 use Rattle.beep_session.specs.declared.event.Event.{Event}
 use Rattle.beep_two_sessions.specs.End.{End, Doing, Book, with_more, Awaits, StandsSo, StandsUnbroken, Begins as Starts}
 use Rattle.beep_two_sessions.specs.Acts.{Act, gives, asks, takes, settles, stops, sends, pauses, gets, rests, given_marks, HasSent, HasTold, SendsAs, HasGained, GetsAs, UsesNone, Does}

@@ -1,20 +1,20 @@
 -- Nothing that arrives from a lawful end breaks a rule.
 use Rattle.std.proofs.Common.{◌≡◌, inl, inr, ℕ, ◌==◌, Bool, true, false, not, ◌&&◌, if◌then◌else◌, List, [], ◌∷◌, ◌++◌, length, Option, Some, None, refl, sym, ap, ◌∙◌, subst, append_assoc, append-nil, arith}
-use Rattle.beep_frame.specs.declared.head.Head.{Head}
-use Rattle.beep_frame.specs.declared.rule.Rule.{Rule}
-use Rattle.beep_frame.specs.Frame.{framed, seq_frame, is_msg, is_reply, IsFrame}
-use Rattle.beep_frame.specs.Spelling.{spelling, header}
-use Rattle.beep_frame.specs.Stream.{IsHeadOf}
-use Rattle.beep_history.specs.declared.journal.Side.{Side}
-use Rattle.beep_history.specs.Journal.{Item, began, passed, told}
-use Rattle.beep_history.specs.Broken.{under_way}
-use Rattle.beep_journal.specs.Zero.{zero_history, completes_form}
-use Rattle.beep_journal.specs.Broken.{none_tunes, broken_seq, broken_content}
-use Rattle.beep_journal.specs.Journal.{Past, spelled, fault_at, begins, seq_ends, GoesOn, EndsHeader, EndsFrame, EndsSeq, Dies, TakesOctet}
-use Rattle.beep_journal.proofs.ShownLemmas.{frames_of, spelled-frames}
-use Rattle.beep_lawful.specs.declared.terms.Terms.{Terms}
-use Rattle.beep_hearing.specs.Hears.{BreaksAt}
-use Rattle.beep_two_ends.proofs.OctetsLemmas.{always_alive}
+use Rattle.beep_session.specs.beep_frame.specs.declared.head.Head.{Head}
+use Rattle.beep_session.specs.beep_frame.specs.declared.rule.Rule.{Rule}
+use Rattle.beep_session.specs.beep_frame.specs.Frame.{framed, seq_frame, is_msg, is_reply, IsFrame}
+use Rattle.beep_session.specs.beep_frame.specs.Spelling.{spelling, header}
+use Rattle.beep_session.specs.beep_frame.specs.Stream.{IsHeadOf}
+use Rattle.beep_session.specs.beep_history.specs.declared.journal.Side.{Side}
+use Rattle.beep_session.specs.beep_history.specs.Journal.{Item, began, passed, told}
+use Rattle.beep_session.specs.beep_history.specs.Broken.{under_way}
+use Rattle.beep_session.specs.beep_journal.specs.Zero.{zero_history, completes_form}
+use Rattle.beep_session.specs.beep_journal.specs.Broken.{none_tunes, broken_seq, broken_content}
+use Rattle.beep_session.specs.beep_journal.specs.Journal.{Past, spelled, fault_at, begins, seq_ends, GoesOn, EndsHeader, EndsFrame, EndsSeq, Dies, TakesOctet}
+use Rattle.beep_session.specs.beep_journal.proofs.ShownLemmas.{frames_of, spelled-frames}
+use Rattle.beep_session.specs.beep_lawful.specs.declared.terms.Terms.{Terms}
+use Rattle.beep_session.specs.beep_hearing.specs.Hears.{BreaksAt}
+use Rattle.beep_two_journals.specs.beep_two_ends.proofs.OctetsLemmas.{always_alive}
 use Rattle.beep_two_journals.specs.Session.{BreaksNothing, IsRun}
 use Rattle.beep_two_journals.proofs.NeverBreakLemmas.{next_to_a}
 use Rattle.beep_two_journals.proofs.ReadingLemmas.{InRest, head_ends, seq_ends_in}

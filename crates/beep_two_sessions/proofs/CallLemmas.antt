@@ -1,34 +1,34 @@
 -- What each call of a session does is a step.
 use Rattle.std.proofs.Common.{◌≡◌, ◌≢◌, ◌||◌, inl, inr, ℕ, true, false, List, [], ◌∷◌, ◌++◌, refl, sym, ap, ◌∙◌, subst}
 use Rattle.std.proofs.lemmas.List.{append_cancel_left, append_cancel_right}
-use Rattle.beep_frame.specs.declared.head.Head.{Head}
-use Rattle.beep_frame.specs.declared.kind.Kind.{Kind}
-use Rattle.beep_frame.specs.declared.rule.Rule.{Rule}
-use Rattle.beep_frame.specs.declared.seq.Seq.{Seq}
-use Rattle.beep_frame.specs.Frame.{framed, seq_frame, is_msg, IsHead, IsSeq}
-use Rattle.beep_frame.specs.Spelling.{spelling, header, trailer}
-use Rattle.beep_frame.specs.Stream.{IsHeadOf}
-use Rattle.beep_history.specs.declared.journal.Side.{Side}
-use Rattle.beep_history.specs.Journal.{Item, began, passed, told}
-use Rattle.beep_history.specs.Broken.{under_way}
-use Rattle.beep_journal.specs.Zero.{zero_history, completes_form}
-use Rattle.beep_journal.specs.Broken.{none_tunes}
-use Rattle.beep_decide.specs.Numbers.{other_role}
-use Rattle.beep_inbox.specs.declared.part.Part.{Part}
-use Rattle.beep_outbox.specs.Queue.{marks_of}
-use Rattle.beep_standing.specs.Standing.{Marks, no_marks}
-use Rattle.beep_hearing.specs.Hears.{Breaks, Hears}
-use Rattle.beep_hearing.specs.declared.ear.Ear.{Ear}
-use Rattle.beep_lawful.specs.declared.terms.Terms.{Terms}
-use Rattle.beep_lawful.specs.Lawful.{IsLawful}
-use Rattle.beep_speaking.specs.declared.emit.Emit.{Emit}
-use Rattle.beep_upright.specs.Upright.{IsUpright}
+use Rattle.beep_session.specs.beep_frame.specs.declared.head.Head.{Head}
+use Rattle.beep_session.specs.beep_frame.specs.declared.kind.Kind.{Kind}
+use Rattle.beep_session.specs.beep_frame.specs.declared.rule.Rule.{Rule}
+use Rattle.beep_session.specs.beep_frame.specs.declared.seq.Seq.{Seq}
+use Rattle.beep_session.specs.beep_frame.specs.Frame.{framed, seq_frame, is_msg, IsHead, IsSeq}
+use Rattle.beep_session.specs.beep_frame.specs.Spelling.{spelling, header, trailer}
+use Rattle.beep_session.specs.beep_frame.specs.Stream.{IsHeadOf}
+use Rattle.beep_session.specs.beep_history.specs.declared.journal.Side.{Side}
+use Rattle.beep_session.specs.beep_history.specs.Journal.{Item, began, passed, told}
+use Rattle.beep_session.specs.beep_history.specs.Broken.{under_way}
+use Rattle.beep_session.specs.beep_journal.specs.Zero.{zero_history, completes_form}
+use Rattle.beep_session.specs.beep_journal.specs.Broken.{none_tunes}
+use Rattle.beep_session.specs.beep_decide.specs.Numbers.{other_role}
+use Rattle.beep_session.specs.beep_inbox.specs.declared.part.Part.{Part}
+use Rattle.beep_session.specs.beep_outbox.specs.Queue.{marks_of}
+use Rattle.beep_session.specs.beep_standing.specs.Standing.{Marks, no_marks}
+use Rattle.beep_session.specs.beep_hearing.specs.Hears.{Breaks, Hears}
+use Rattle.beep_session.specs.beep_hearing.specs.declared.ear.Ear.{Ear}
+use Rattle.beep_session.specs.beep_lawful.specs.declared.terms.Terms.{Terms}
+use Rattle.beep_session.specs.beep_lawful.specs.Lawful.{IsLawful}
+use Rattle.beep_session.specs.beep_speaking.specs.declared.emit.Emit.{Emit}
+use Rattle.beep_session.specs.beep_upright.specs.Upright.{IsUpright}
 use Rattle.beep_two_journals.proofs.KeptLemmas.{frame_keeps, behind}
-use Rattle.beep_peer.specs.declared.peer.Peer.{Peer}
-use Rattle.beep_peer.specs.Acts.{IsUnchanged}
-use Rattle.beep_peer.specs.Calls.{Begins as BeginsPeer, Settles, Speaks, IsLawfulNext}
-use Rattle.beep_peer.specs.Peering.{IsPeer, WaitsIn, is_over, zero_waits}
-use Rattle.beep_peer.specs.Lawfully.{IsLawfulPeer, SpeaksLawfully}
+use Rattle.beep_session.specs.beep_peer.specs.declared.peer.Peer.{Peer}
+use Rattle.beep_session.specs.beep_peer.specs.Acts.{IsUnchanged}
+use Rattle.beep_session.specs.beep_peer.specs.Calls.{Begins as BeginsPeer, Settles, Speaks, IsLawfulNext}
+use Rattle.beep_session.specs.beep_peer.specs.Peering.{IsPeer, WaitsIn, is_over, zero_waits}
+use Rattle.beep_session.specs.beep_peer.specs.Lawfully.{IsLawfulPeer, SpeaksLawfully}
 use Rattle.beep_session.specs.declared.event.Event.{Event}
 use Rattle.beep_session.specs.Acts.{AsksZero}
 use Rattle.beep_session.specs.Channels.{IsOfPeer, Gives, Takes}

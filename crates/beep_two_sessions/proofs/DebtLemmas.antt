@@ -2,37 +2,37 @@
 use Rattle.std.proofs.Common.{◌≡◌, ◌⊎◌, inl, inr, ℕ, ◌+◌, ◌<◌, ◌≤◌, ◌==◌, nat_lt, Bool, true, false, not, ◌&&◌, ◌||◌, if◌then◌else◌, List, [], ◌∷◌, ◌++◌, map, reverse, is_some, refl, sym, ap, ◌∙◌, subst, append_assoc, arith}
 use Rattle.std.specs.List.{list_any}
 use Rattle.std.proofs.lemmas.List.{reverse-append, append_cancel_left}
-use Rattle.beep_frame.specs.declared.head.Head.{Head}
-use Rattle.beep_frame.specs.declared.kind.Kind.{Kind}
-use Rattle.beep_frame.specs.Frame.{Frame, framed, seq_frame, is_msg, same_kind}
-use Rattle.beep_history.specs.declared.journal.Side.{Side}
-use Rattle.beep_history.specs.Journal.{Item, began, passed, told}
-use Rattle.beep_history.specs.Marks.{Mark, octet, end, marks, tag_of}
-use Rattle.beep_history.specs.Broken.{KeepsExchangeRules}
-use Rattle.beep_journal.specs.Lives.{lives, has_ended, is_live, has_release}
-use Rattle.beep_journal.specs.Zero.{zero_history, zero_events, events, asked}
-use Rattle.beep_journal.specs.Life.{life_now, is_there, history}
-use Rattle.beep_journal.proofs.MomentLemmas.{equal-number}
-use Rattle.beep_journal.proofs.JournalLemmas.{told-events}
-use Rattle.beep_exchange.specs.Given.{ends_reply}
-use Rattle.beep_outbox.specs.Queue.{marks_of as unsent_marks}
-use Rattle.beep_channel.specs.Held.{Live}
-use Rattle.beep_channel.specs.Fits.{as_number}
-use Rattle.beep_channel.specs.Stands.{ends_of, is_closed}
-use Rattle.beep_lives.proofs.ListLemmas.{live-number}
-use Rattle.beep_standing.specs.Standing.{Marks, with_marks, AreLiveBy}
-use Rattle.beep_inbox.specs.Laws.{part_marks}
-use Rattle.beep_hearing.specs.Hears.{ends_zero}
-use Rattle.beep_spoken.specs.Spoken.{kinds_of}
-use Rattle.beep_asked.specs.Kept.{Kept, closes_one, closes, is_leaving}
-use Rattle.beep_decide.specs.Asks.{is_close_of}
-use Rattle.beep_asked.proofs.LawsLemmas.{header-leaves}
-use Rattle.beep_upright.specs.Turns.{kinds_at, reply_kinds}
-use Rattle.beep_upright.specs.Upright.{asked_at, AreAnswered, all_asked, place_of, is_of_close}
-use Rattle.beep_peer.specs.Calls.{IsLawfulNext}
-use Rattle.beep_peer.proofs.KindsLemmas.{kinds-append, kinds-modulo, kinds-first, kinds-by, asked-by}
-use Rattle.beep_peer.proofs.GainLemmas.{gained-events}
-use Rattle.beep_peer.specs.Peering.{is_over}
+use Rattle.beep_session.specs.beep_frame.specs.declared.head.Head.{Head}
+use Rattle.beep_session.specs.beep_frame.specs.declared.kind.Kind.{Kind}
+use Rattle.beep_session.specs.beep_frame.specs.Frame.{Frame, framed, seq_frame, is_msg, same_kind}
+use Rattle.beep_session.specs.beep_history.specs.declared.journal.Side.{Side}
+use Rattle.beep_session.specs.beep_history.specs.Journal.{Item, began, passed, told}
+use Rattle.beep_session.specs.beep_history.specs.Marks.{Mark, octet, end, marks, tag_of}
+use Rattle.beep_session.specs.beep_history.specs.Broken.{KeepsExchangeRules}
+use Rattle.beep_session.specs.beep_journal.specs.Lives.{lives, has_ended, is_live, has_release}
+use Rattle.beep_session.specs.beep_journal.specs.Zero.{zero_history, zero_events, events, asked}
+use Rattle.beep_session.specs.beep_journal.specs.Life.{life_now, is_there, history}
+use Rattle.beep_session.specs.beep_journal.proofs.MomentLemmas.{equal-number}
+use Rattle.beep_session.specs.beep_journal.proofs.JournalLemmas.{told-events}
+use Rattle.beep_session.specs.beep_exchange.specs.Given.{ends_reply}
+use Rattle.beep_session.specs.beep_outbox.specs.Queue.{marks_of as unsent_marks}
+use Rattle.beep_session.specs.beep_channel.specs.Held.{Live}
+use Rattle.beep_session.specs.beep_channel.specs.Fits.{as_number}
+use Rattle.beep_session.specs.beep_channel.specs.Stands.{ends_of, is_closed}
+use Rattle.beep_session.specs.beep_lives.proofs.ListLemmas.{live-number}
+use Rattle.beep_session.specs.beep_standing.specs.Standing.{Marks, with_marks, AreLiveBy}
+use Rattle.beep_session.specs.beep_inbox.specs.Laws.{part_marks}
+use Rattle.beep_session.specs.beep_hearing.specs.Hears.{ends_zero}
+use Rattle.beep_session.specs.beep_spoken.specs.Spoken.{kinds_of}
+use Rattle.beep_session.specs.beep_asked.specs.Kept.{Kept, closes_one, closes, is_leaving}
+use Rattle.beep_session.specs.beep_decide.specs.Asks.{is_close_of}
+use Rattle.beep_session.specs.beep_asked.proofs.LawsLemmas.{header-leaves}
+use Rattle.beep_session.specs.beep_upright.specs.Turns.{kinds_at, reply_kinds}
+use Rattle.beep_session.specs.beep_upright.specs.Upright.{asked_at, AreAnswered, all_asked, place_of, is_of_close}
+use Rattle.beep_session.specs.beep_peer.specs.Calls.{IsLawfulNext}
+use Rattle.beep_session.specs.beep_peer.proofs.KindsLemmas.{kinds-append, kinds-modulo, kinds-first, kinds-by, asked-by}
+use Rattle.beep_session.specs.beep_peer.proofs.GainLemmas.{gained-events}
+use Rattle.beep_session.specs.beep_peer.specs.Peering.{is_over}
 use Rattle.beep_session.specs.declared.event.Event.{Event}
 use Rattle.beep_session.specs.Lawfully.{IsLawfulSession}
 use Rattle.beep_two_sessions.specs.End.{End, Doing, goes, Book, with_more, Awaits, StandsSo, StandsUnbroken, Begins as Starts}
@@ -42,7 +42,7 @@ use Rattle.beep_two_sessions.proofs.FollowLemmas.{stage, passed-ends, sent-ends}
 use Rattle.beep_two_sessions.proofs.EndLemmas.{leave-waits, oldest-leaves, release-last, release-rpy, is-last, is-rpy, oldest-closes, one-closes, close-waits}
 use Rattle.beep_two_sessions.proofs.BookLemmas.{modulo_marks, Booked, BookedEnd, more-beside, now-there, books}
 use Rattle.beep_two_sessions.proofs.MoveLemmas.{Joined, reached, stands-a, stands-b}
-use Rattle.beep_two_ends.proofs.WindowLemmas.{unbroken}
+use Rattle.beep_two_journals.specs.beep_two_ends.proofs.WindowLemmas.{unbroken}
 use Rattle.beep_two_journals.proofs.NeverBreakLemmas.{run_all}
 use Rattle.beep_two_sessions.proofs.StillLemmas.{at-end}
 

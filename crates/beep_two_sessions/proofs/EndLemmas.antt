@@ -1,22 +1,22 @@
 -- Which request a life ends by: the oldest that waits, a close that names it.
 use Rattle.std.proofs.Common.{◌≡◌, ℕ, ◌<◌, ◌==◌, nat_lt, Bool, true, false, not, ◌&&◌, ◌||◌, List, [], ◌∷◌, ◌++◌, length, Option, Some, None, refl, sym, ap, ◌∙◌, subst, arith}
 use Rattle.std.specs.List.{list_any}
-use Rattle.beep_frame.specs.declared.head.Head.{Head}
-use Rattle.beep_frame.specs.declared.kind.Kind.{Kind}
-use Rattle.beep_frame.specs.Frame.{is_msg, is_ans, is_reply, same_kind}
-use Rattle.beep_mgmt.specs.Form.{Form, greeting, start, chosen, close, okay, fault}
-use Rattle.beep_mgmt.specs.Message.{message_said}
-use Rattle.beep_history.specs.declared.journal.Side.{Side}
-use Rattle.beep_history.specs.Journal.{Item, passed, other}
-use Rattle.beep_history.specs.Broken.{KeepsExchangeRules}
-use Rattle.beep_journal.specs.Lives.{Event, has_ended, is_live, has_release}
-use Rattle.beep_journal.specs.Zero.{zero_events, gathered}
-use Rattle.beep_standing.specs.Moving.{BeginsWhere, EndsWhere}
-use Rattle.beep_decide.specs.Asks.{is_close_of}
-use Rattle.beep_asked.specs.Kept.{Kept, grants, closes_one, closes, is_leaving}
-use Rattle.beep_asked.specs.Asked.{AreWaiting, EndsReply}
-use Rattle.beep_asked.specs.Granting.{IsGrantedAs}
-use Rattle.beep_asked.proofs.LawsLemmas.{part-events, request-moves, request-releases, reply-waits, refusal-moves, refusal-releases, grant-moves, grant-releases}
+use Rattle.beep_session.specs.beep_frame.specs.declared.head.Head.{Head}
+use Rattle.beep_session.specs.beep_frame.specs.declared.kind.Kind.{Kind}
+use Rattle.beep_session.specs.beep_frame.specs.Frame.{is_msg, is_ans, is_reply, same_kind}
+use Rattle.beep_session.specs.beep_mgmt.specs.Form.{Form, greeting, start, chosen, close, okay, fault}
+use Rattle.beep_session.specs.beep_mgmt.specs.Message.{message_said}
+use Rattle.beep_session.specs.beep_history.specs.declared.journal.Side.{Side}
+use Rattle.beep_session.specs.beep_history.specs.Journal.{Item, passed, other}
+use Rattle.beep_session.specs.beep_history.specs.Broken.{KeepsExchangeRules}
+use Rattle.beep_session.specs.beep_journal.specs.Lives.{Event, has_ended, is_live, has_release}
+use Rattle.beep_session.specs.beep_journal.specs.Zero.{zero_events, gathered}
+use Rattle.beep_session.specs.beep_standing.specs.Moving.{BeginsWhere, EndsWhere}
+use Rattle.beep_session.specs.beep_decide.specs.Asks.{is_close_of}
+use Rattle.beep_session.specs.beep_asked.specs.Kept.{Kept, grants, closes_one, closes, is_leaving}
+use Rattle.beep_session.specs.beep_asked.specs.Asked.{AreWaiting, EndsReply}
+use Rattle.beep_session.specs.beep_asked.specs.Granting.{IsGrantedAs}
+use Rattle.beep_session.specs.beep_asked.proofs.LawsLemmas.{part-events, request-moves, request-releases, reply-waits, refusal-moves, refusal-releases, grant-moves, grant-releases}
 
 -- ---- by the moment
 

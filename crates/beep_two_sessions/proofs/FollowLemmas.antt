@@ -1,26 +1,26 @@
 -- What items that join a journal leave of the marks of each life, and of which lives are live.
 use Rattle.std.proofs.Common.{◌≡◌, ◌⊎◌, inl, inr, ℕ, ◌<◌, ◌≤◌, ◌+◌, ◌==◌, nat_lt, Bool, true, false, not, ◌&&◌, ◌||◌, if◌then◌else◌, List, [], ◌∷◌, ◌++◌, length, Option, Some, None, refl, sym, ap, ◌∙◌, subst, append_assoc, append-nil, arith}
 use Rattle.std.specs.List.{list_any}
-use Rattle.beep_frame.specs.declared.head.Head.{Head}
-use Rattle.beep_frame.specs.declared.kind.Kind.{Kind}
-use Rattle.beep_frame.specs.declared.seq.Seq.{Seq}
-use Rattle.beep_frame.specs.Frame.{is_msg, same_kind}
-use Rattle.beep_mgmt.specs.Form.{Form, greeting, start, chosen, close, okay, fault}
-use Rattle.beep_mgmt.specs.Message.{message_said}
-use Rattle.beep_history.specs.declared.journal.Side.{Side}
-use Rattle.beep_history.specs.Journal.{Item, began, passed, told, other}
-use Rattle.beep_history.specs.Marks.{Mark, marks, position_of}
-use Rattle.beep_journal.specs.Lives.{Event, close_came, start_granted, close_granted, lives, has_ended, life_named, is_live, live_life, has_release}
-use Rattle.beep_journal.specs.Zero.{zero_history, zero_events, events, effect, coming, granting, completes_form, gathered, asked, said_to}
-use Rattle.beep_journal.specs.Life.{life, life_now, is_of_life, is_there}
-use Rattle.beep_journal.proofs.JournalLemmas.{began-events, told-events}
-use Rattle.beep_journal.proofs.MomentLemmas.{equal-number, apart-zero, named-within, ended-later, and-false}
-use Rattle.beep_journal.proofs.LivesLemmas.{ended-before}
+use Rattle.beep_session.specs.beep_frame.specs.declared.head.Head.{Head}
+use Rattle.beep_session.specs.beep_frame.specs.declared.kind.Kind.{Kind}
+use Rattle.beep_session.specs.beep_frame.specs.declared.seq.Seq.{Seq}
+use Rattle.beep_session.specs.beep_frame.specs.Frame.{is_msg, same_kind}
+use Rattle.beep_session.specs.beep_mgmt.specs.Form.{Form, greeting, start, chosen, close, okay, fault}
+use Rattle.beep_session.specs.beep_mgmt.specs.Message.{message_said}
+use Rattle.beep_session.specs.beep_history.specs.declared.journal.Side.{Side}
+use Rattle.beep_session.specs.beep_history.specs.Journal.{Item, began, passed, told, other}
+use Rattle.beep_session.specs.beep_history.specs.Marks.{Mark, marks, position_of}
+use Rattle.beep_session.specs.beep_journal.specs.Lives.{Event, close_came, start_granted, close_granted, lives, has_ended, life_named, is_live, live_life, has_release}
+use Rattle.beep_session.specs.beep_journal.specs.Zero.{zero_history, zero_events, events, effect, coming, granting, completes_form, gathered, asked, said_to}
+use Rattle.beep_session.specs.beep_journal.specs.Life.{life, life_now, is_of_life, is_there}
+use Rattle.beep_session.specs.beep_journal.proofs.JournalLemmas.{began-events, told-events}
+use Rattle.beep_session.specs.beep_journal.proofs.MomentLemmas.{equal-number, apart-zero, named-within, ended-later, and-false}
+use Rattle.beep_session.specs.beep_journal.proofs.LivesLemmas.{ended-before}
 use Rattle.std.proofs.lemmas.Bool.{lt-ltb}
 use Rattle.std.proofs.lemmas.Bool.Decides.{nat_tests}
-use Rattle.beep_asked.proofs.MovesLemmas.{none-of-zero}
-use Rattle.beep_peer.proofs.GainLemmas.{gained-events}
-use Rattle.beep_hearing.specs.Hears.{ends_zero}
+use Rattle.beep_session.specs.beep_asked.proofs.MovesLemmas.{none-of-zero}
+use Rattle.beep_session.specs.beep_peer.proofs.GainLemmas.{gained-events}
+use Rattle.beep_session.specs.beep_hearing.specs.Hears.{ends_zero}
 use Rattle.beep_two_sessions.proofs.ReadLemmas.{Comes, AllCome}
 
 -- ---- the first part of a list

@@ -1,13 +1,13 @@
 -- Each item of the journals of a world came or went in a frame or a SEQ.
 use Rattle.std.proofs.Common.{◌≡◌, ℕ, inl, inr, true, false, List, [], ◌∷◌, ◌++◌, refl, sym, ap, ◌∙◌, subst}
-use Rattle.beep_frame.specs.declared.head.Head.{Head}
-use Rattle.beep_frame.specs.declared.rule.Rule.{Rule}
-use Rattle.beep_frame.specs.Frame.{framed, seq_frame, IsFrame}
-use Rattle.beep_history.specs.declared.journal.Side.{Side}
-use Rattle.beep_history.specs.Journal.{Item, began, passed, told}
-use Rattle.beep_hearing.specs.Hears.{Join}
+use Rattle.beep_session.specs.beep_frame.specs.declared.head.Head.{Head}
+use Rattle.beep_session.specs.beep_frame.specs.declared.rule.Rule.{Rule}
+use Rattle.beep_session.specs.beep_frame.specs.Frame.{framed, seq_frame, IsFrame}
+use Rattle.beep_session.specs.beep_history.specs.declared.journal.Side.{Side}
+use Rattle.beep_session.specs.beep_history.specs.Journal.{Item, began, passed, told}
+use Rattle.beep_session.specs.beep_hearing.specs.Hears.{Join}
 use Rattle.beep_session.specs.declared.event.Event.{Event}
-use Rattle.beep_upright.specs.Frames.{AreFrames}
+use Rattle.beep_session.specs.beep_upright.specs.Frames.{AreFrames}
 use Rattle.beep_two_sessions.specs.End.{End, Doing, goes, waits, stopped, Begins}
 use Rattle.beep_two_sessions.specs.Acts.{Act, gives, asks, takes, settles, stops, sends, pauses, gets, rests, Does, HasGained}
 use Rattle.beep_two_sessions.specs.World.{World, Move, a_does, b_does, IsReached}

@@ -3,39 +3,39 @@ use Rattle.std.proofs.Common.{◌≡◌, ◌⊎◌, inl, inr, ℕ, suc, ◌+◌,
 use Rattle.std.specs.Prelude.{max, slice_get}
 use Rattle.std.proofs.lemmas.Bool.{lt-ltb}
 use Rattle.std.proofs.lemmas.Bool.Decides.{nat_tests}
-use Rattle.beep_seq.specs.declared.limits.TheConstants.{INITIAL_WINDOW}
-use Rattle.beep_frame.specs.declared.tag.Tag.{Tag}
-use Rattle.beep_mgmt.specs.Form.{Form}
-use Rattle.beep_frame.specs.Frame.{Frame, framed, seq_frame}
-use Rattle.beep_history.specs.declared.journal.Side.{Side}
-use Rattle.beep_history.specs.Journal.{Item, began, passed, told, opening, same_side}
-use Rattle.beep_history.specs.Marks.{Mark, octet, end, marks, frames, octets_of, passed_octets, is_answered, mark_modulo_2_64}
-use Rattle.beep_history.specs.Moments.{replies_ended}
-use Rattle.beep_history.specs.Broken.{KeepsExchangeRules}
-use Rattle.beep_history.specs.Windows.{acked_octets, last_window, open_now, greatest_edge}
-use Rattle.beep_history.proofs.RepliesLemmas.{answered}
-use Rattle.beep_journal.specs.Lives.{Event as Moment}
-use Rattle.beep_journal.specs.Zero.{zero_history, zero_events, asked}
-use Rattle.beep_journal.specs.Life.{is_there}
-use Rattle.beep_journal.proofs.MomentLemmas.{same-number}
-use Rattle.beep_exchange.specs.Given.{ends_reply}
-use Rattle.beep_decide.specs.Numbers.{may_start}
-use Rattle.beep_lawful.specs.declared.terms.Terms.{Terms}
-use Rattle.beep_outbox.specs.Queue.{message_marks, marks_of as unsent_marks}
-use Rattle.beep_channel.specs.Held.{Live}
-use Rattle.beep_channel.specs.Stands.{Stands, ends_of}
-use Rattle.beep_channel.proofs.CountedLemmas.{ends-append}
-use Rattle.beep_lives.specs.Lives.{live_at}
-use Rattle.beep_standing.specs.Standing.{Marks, with_marks, AreLiveBy}
-use Rattle.beep_standing.specs.Due.{may_go, has_ready, octets_among}
-use Rattle.beep_asked.specs.Kept.{Kept, oldest}
-use Rattle.beep_asked.specs.Asked.{AreAsked, AreWaiting}
-use Rattle.beep_peer.specs.Peering.{is_met, is_greeted}
+use Rattle.beep_session.specs.beep_seq.specs.declared.limits.TheConstants.{INITIAL_WINDOW}
+use Rattle.beep_session.specs.beep_frame.specs.declared.tag.Tag.{Tag}
+use Rattle.beep_session.specs.beep_mgmt.specs.Form.{Form}
+use Rattle.beep_session.specs.beep_frame.specs.Frame.{Frame, framed, seq_frame}
+use Rattle.beep_session.specs.beep_history.specs.declared.journal.Side.{Side}
+use Rattle.beep_session.specs.beep_history.specs.Journal.{Item, began, passed, told, opening, same_side}
+use Rattle.beep_session.specs.beep_history.specs.Marks.{Mark, octet, end, marks, frames, octets_of, passed_octets, is_answered, mark_modulo_2_64}
+use Rattle.beep_session.specs.beep_history.specs.Moments.{replies_ended}
+use Rattle.beep_session.specs.beep_history.specs.Broken.{KeepsExchangeRules}
+use Rattle.beep_session.specs.beep_history.specs.Windows.{acked_octets, last_window, open_now, greatest_edge}
+use Rattle.beep_session.specs.beep_history.proofs.RepliesLemmas.{answered}
+use Rattle.beep_session.specs.beep_journal.specs.Lives.{Event as Moment}
+use Rattle.beep_session.specs.beep_journal.specs.Zero.{zero_history, zero_events, asked}
+use Rattle.beep_session.specs.beep_journal.specs.Life.{is_there}
+use Rattle.beep_session.specs.beep_journal.proofs.MomentLemmas.{same-number}
+use Rattle.beep_session.specs.beep_exchange.specs.Given.{ends_reply}
+use Rattle.beep_session.specs.beep_decide.specs.Numbers.{may_start}
+use Rattle.beep_session.specs.beep_lawful.specs.declared.terms.Terms.{Terms}
+use Rattle.beep_session.specs.beep_outbox.specs.Queue.{message_marks, marks_of as unsent_marks}
+use Rattle.beep_session.specs.beep_channel.specs.Held.{Live}
+use Rattle.beep_session.specs.beep_channel.specs.Stands.{Stands, ends_of}
+use Rattle.beep_session.specs.beep_channel.proofs.CountedLemmas.{ends-append}
+use Rattle.beep_session.specs.beep_lives.specs.Lives.{live_at}
+use Rattle.beep_session.specs.beep_standing.specs.Standing.{Marks, with_marks, AreLiveBy}
+use Rattle.beep_session.specs.beep_standing.specs.Due.{may_go, has_ready, octets_among}
+use Rattle.beep_session.specs.beep_asked.specs.Kept.{Kept, oldest}
+use Rattle.beep_session.specs.beep_asked.specs.Asked.{AreAsked, AreWaiting}
+use Rattle.beep_session.specs.beep_peer.specs.Peering.{is_met, is_greeted}
 use Rattle.beep_session.specs.declared.event.Event.{Event}
-use Rattle.beep_two_ends.specs.Seen.{arrived, sent}
-use Rattle.beep_two_ends.specs.OneLife as one
-use Rattle.beep_two_ends.proofs.WaysLemmas.{frames-arrived, frames-sent}
-use Rattle.beep_two_ends.proofs.WindowLemmas.{unbroken, acknowledged, window_advertised, windows, acked-arrived, window-arrived, window-sent, acked-sent}
+use Rattle.beep_two_journals.specs.beep_two_ends.specs.Seen.{arrived, sent}
+use Rattle.beep_two_journals.specs.beep_two_ends.specs.OneLife as one
+use Rattle.beep_two_journals.specs.beep_two_ends.proofs.WaysLemmas.{frames-arrived, frames-sent}
+use Rattle.beep_two_journals.specs.beep_two_ends.proofs.WindowLemmas.{unbroken, acknowledged, window_advertised, windows, acked-arrived, window-arrived, window-sent, acked-sent}
 use Rattle.beep_two_journals.proofs.NeverBreakLemmas.{All, run_all}
 use Rattle.beep_two_journals.proofs.ZeroLemmas.{zeros, zero-arrived, zero-sent}
 use Rattle.beep_two_sessions.specs.End.{End, Doing, goes, StandsAs, StandsSo, NothingIsDue}

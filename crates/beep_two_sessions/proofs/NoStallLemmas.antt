@@ -1,29 +1,29 @@
 -- Where nothing can move, all that was given was taken; and of a life that has ended, and of a session that is released.
 use Rattle.std.proofs.Common.{◌≡◌, ◌⊎◌, inl, inr, ◌||◌, Option, None, Some, is_some, ℕ, ◌+◌, ◌<◌, ◌≤◌, ◌==◌, Bool, true, false, not, ◌&&◌, if◌then◌else◌, List, [], ◌∷◌, ◌++◌, refl, sym, ap, ◌∙◌, subst, append-nil, arith}
-use Rattle.beep_frame.specs.Frame.{is_msg, is_ans}
-use Rattle.beep_history.specs.declared.journal.Side.{Side}
-use Rattle.beep_history.specs.Marks.{Mark, octet, end}
-use Rattle.beep_history.specs.Broken.{KeepsExchangeRules}
-use Rattle.beep_journal.specs.Lives.{lives, has_ended, is_live, has_release}
-use Rattle.beep_journal.specs.Zero.{zero_history, events}
-use Rattle.beep_journal.proofs.MomentLemmas.{positive, named-within}
-use Rattle.beep_decide.specs.Numbers.{may_start}
-use Rattle.beep_exchange.specs.Given.{ends_reply}
-use Rattle.beep_channel.specs.Stands.{ends_of, is_closed}
-use Rattle.beep_channel.proofs.CountedLemmas.{ends-append}
-use Rattle.beep_standing.specs.Standing.{AreLiveBy}
-use Rattle.beep_asked.specs.Kept.{closes, is_leaving}
-use Rattle.beep_asked.specs.Asked.{AreWaiting}
-use Rattle.beep_hearing.specs.declared.stopped.Stopped.{Stopped}
-use Rattle.beep_lawful.specs.declared.terms.Terms.{Terms}
-use Rattle.beep_upright.specs.Upright.{IsUpright}
-use Rattle.beep_two_ends.proofs.WindowLemmas.{unbroken}
+use Rattle.beep_session.specs.beep_frame.specs.Frame.{is_msg, is_ans}
+use Rattle.beep_session.specs.beep_history.specs.declared.journal.Side.{Side}
+use Rattle.beep_session.specs.beep_history.specs.Marks.{Mark, octet, end}
+use Rattle.beep_session.specs.beep_history.specs.Broken.{KeepsExchangeRules}
+use Rattle.beep_session.specs.beep_journal.specs.Lives.{lives, has_ended, is_live, has_release}
+use Rattle.beep_session.specs.beep_journal.specs.Zero.{zero_history, events}
+use Rattle.beep_session.specs.beep_journal.proofs.MomentLemmas.{positive, named-within}
+use Rattle.beep_session.specs.beep_decide.specs.Numbers.{may_start}
+use Rattle.beep_session.specs.beep_exchange.specs.Given.{ends_reply}
+use Rattle.beep_session.specs.beep_channel.specs.Stands.{ends_of, is_closed}
+use Rattle.beep_session.specs.beep_channel.proofs.CountedLemmas.{ends-append}
+use Rattle.beep_session.specs.beep_standing.specs.Standing.{AreLiveBy}
+use Rattle.beep_session.specs.beep_asked.specs.Kept.{closes, is_leaving}
+use Rattle.beep_session.specs.beep_asked.specs.Asked.{AreWaiting}
+use Rattle.beep_session.specs.beep_hearing.specs.declared.stopped.Stopped.{Stopped}
+use Rattle.beep_session.specs.beep_lawful.specs.declared.terms.Terms.{Terms}
+use Rattle.beep_session.specs.beep_upright.specs.Upright.{IsUpright}
+use Rattle.beep_two_journals.specs.beep_two_ends.proofs.WindowLemmas.{unbroken}
 use Rattle.beep_two_journals.proofs.Entries.{entries}
 use Rattle.beep_two_journals.proofs.PassingLemmas.{Bridged}
 use Rattle.beep_two_journals.proofs.BridgeLemmas.{bridged}
 use Rattle.beep_two_journals.proofs.SessionLemmas.{wire_entries}
 use Rattle.beep_two_journals.proofs.NeverBreakLemmas.{All, run_all}
-use Rattle.beep_peer.specs.Peering.{is_greeted, is_over}
+use Rattle.beep_session.specs.beep_peer.specs.Peering.{is_greeted, is_over}
 use Rattle.beep_session.specs.Lawfully.{terms_of}
 use Rattle.beep_two_sessions.specs.End.{End, Doing, goes, waits, stopped, StandsSo, StandsUnbroken, NothingIsDue}
 use Rattle.beep_two_sessions.specs.World.{World, Move, IsReached}

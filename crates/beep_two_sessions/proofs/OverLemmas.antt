@@ -1,8 +1,8 @@
 -- A life that has ended at one end has ended at the other, or its close waits there.
 use Rattle.std.proofs.Common.{◌≡◌, ◌⊎◌, inl, inr, ℕ, ◌<◌, ◌≤◌, ◌==◌, Bool, true, not, List, [], ◌∷◌, ◌++◌, length, refl, sym, ap, ◌∙◌, arith, subst, length-append, append_assoc}
 use Rattle.std.proofs.lemmas.Bool.{cases_lt}
-use Rattle.beep_history.specs.declared.journal.Side.{Side}
-use Rattle.beep_history.specs.Journal.{other}
+use Rattle.beep_session.specs.beep_history.specs.declared.journal.Side.{Side}
+use Rattle.beep_session.specs.beep_history.specs.Journal.{other}
 use Rattle.beep_two_journals.proofs.Entries.{Says, Entry, replies, is_close, asked, replied, said, answers_to, ended, names, IsLawfulEnd, came, went, SeesAll, Causal}
 use Rattle.beep_two_journals.proofs.LivesLemmas.{said-stable}
 use Rattle.beep_two_journals.proofs.CountLemmas.{asked-came, replied-came, asked-went, replied-went, asked-before, replied-before, zero_agrees}

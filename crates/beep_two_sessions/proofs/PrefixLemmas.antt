@@ -1,10 +1,10 @@
 -- What is taken of a life is the first part of what was given in it.
 use Rattle.std.proofs.Common.{◌≡◌, ℕ, ◌<◌, ◌==◌, false, List}
-use Rattle.beep_history.specs.declared.journal.Side.{Side}
-use Rattle.beep_history.specs.Marks.{marks}
-use Rattle.beep_journal.specs.Life.{life}
-use Rattle.beep_journal.proofs.MomentLemmas.{positive, above-zero}
-use Rattle.beep_lawful.specs.declared.terms.Terms.{Terms}
+use Rattle.beep_session.specs.beep_history.specs.declared.journal.Side.{Side}
+use Rattle.beep_session.specs.beep_history.specs.Marks.{marks}
+use Rattle.beep_session.specs.beep_journal.specs.Life.{life}
+use Rattle.beep_session.specs.beep_journal.proofs.MomentLemmas.{positive, above-zero}
+use Rattle.beep_session.specs.beep_lawful.specs.declared.terms.Terms.{Terms}
 use Rattle.beep_two_journals.proofs.LifeLawLemmas.{prefix_at_b, order_at_b}
 use Rattle.beep_two_sessions.specs.End.{End}
 use Rattle.beep_two_sessions.specs.World.{World, Move, IsReached}

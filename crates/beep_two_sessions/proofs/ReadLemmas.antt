@@ -1,22 +1,22 @@
 -- The items of one side, as the octets of that side spell them.
 use Rattle.std.proofs.Common.{◌≡◌, ℕ, List, [], ◌∷◌, ◌++◌, Some, None, refl, sym, ap, ◌∙◌, subst, append_assoc, arith}
 use Rattle.std.specs.List.{flat_map, AllByRecursion}
-use Rattle.beep_frame.specs.declared.head.Head.{Head}
-use Rattle.beep_frame.specs.declared.seq.Seq.{Seq}
-use Rattle.beep_frame.specs.Frame.{Frame, framed, seq_frame, IsFrame, IsSeq}
-use Rattle.beep_frame.specs.Spelling.{spelling, header, trailer}
-use Rattle.beep_frame.specs.Stream.{IsHeadOf}
-use Rattle.beep_frame.specs.Decoding.{DecoderState}
-use Rattle.beep_frame.proofs.LawLemmas.{means}
-use Rattle.beep_history.specs.declared.journal.Side.{Side}
-use Rattle.beep_history.specs.Journal.{Item, began, passed, told}
-use Rattle.beep_history.specs.Broken.{under_way}
-use Rattle.beep_journal.specs.Journal.{spelled}
-use Rattle.beep_journal.proofs.ShownLemmas.{frames_of, spelled-frames}
-use Rattle.beep_hearing.specs.Hears.{MayJoin, Join, IsFed}
-use Rattle.beep_two_ends.specs.Seen.{arrived, sent}
-use Rattle.beep_two_ends.specs.Octets.{items_of, read_items}
-use Rattle.beep_two_ends.proofs.OctetsLemmas.{in_order, no_header}
+use Rattle.beep_session.specs.beep_frame.specs.declared.head.Head.{Head}
+use Rattle.beep_session.specs.beep_frame.specs.declared.seq.Seq.{Seq}
+use Rattle.beep_session.specs.beep_frame.specs.Frame.{Frame, framed, seq_frame, IsFrame, IsSeq}
+use Rattle.beep_session.specs.beep_frame.specs.Spelling.{spelling, header, trailer}
+use Rattle.beep_session.specs.beep_frame.specs.Stream.{IsHeadOf}
+use Rattle.beep_session.specs.beep_frame.specs.Decoding.{DecoderState}
+use Rattle.beep_session.specs.beep_frame.proofs.LawLemmas.{means}
+use Rattle.beep_session.specs.beep_history.specs.declared.journal.Side.{Side}
+use Rattle.beep_session.specs.beep_history.specs.Journal.{Item, began, passed, told}
+use Rattle.beep_session.specs.beep_history.specs.Broken.{under_way}
+use Rattle.beep_session.specs.beep_journal.specs.Journal.{spelled}
+use Rattle.beep_session.specs.beep_journal.proofs.ShownLemmas.{frames_of, spelled-frames}
+use Rattle.beep_session.specs.beep_hearing.specs.Hears.{MayJoin, Join, IsFed}
+use Rattle.beep_two_journals.specs.beep_two_ends.specs.Seen.{arrived, sent}
+use Rattle.beep_two_journals.specs.beep_two_ends.specs.Octets.{items_of, read_items}
+use Rattle.beep_two_journals.specs.beep_two_ends.proofs.OctetsLemmas.{in_order, no_header}
 use Rattle.beep_two_journals.proofs.ReadingLemmas.{items-last, all-last}
 
 -- ---- items that come

@@ -1,23 +1,23 @@
 -- Each reply that was given answers a request that its giver had wholly taken, and each request has one.
 use Rattle.std.proofs.Common.{◌≡◌, ◌⊎◌, inl, inr, ℕ, zero, suc, ◌+◌, ◌<◌, ◌≤◌, ◌==◌, nat_lt, Bool, true, false, ◌&&◌, if◌then◌else◌, List, [], ◌∷◌, ◌++◌, map, is_some, Option, Some, None, refl, sym, ap, ◌∙◌, subst, arith}
 use Rattle.std.proofs.lemmas.Bool.Decides.{nat_tests}
-use Rattle.beep_frame.specs.declared.kind.Kind.{Kind}
-use Rattle.beep_frame.specs.Frame.{Frame, framed, seq_frame, is_msg, is_ans}
-use Rattle.beep_frame.specs.Modulo.{modulo_2_64}
-use Rattle.beep_history.specs.Marks.{Mark, octet, end}
-use Rattle.beep_history.specs.Journal.{Item}
-use Rattle.beep_journal.specs.Life.{life_now, is_there}
-use Rattle.beep_journal.proofs.MomentLemmas.{equal-number, same-number}
-use Rattle.beep_exchange.specs.declared.given.Given.{Given}
-use Rattle.beep_exchange.specs.Given.{ends_reply}
-use Rattle.beep_inbox.specs.Laws.{part_marks}
-use Rattle.beep_outbox.specs.Queue.{Message, message_marks}
-use Rattle.beep_channel.specs.Fits.{as_number}
-use Rattle.beep_channel.specs.Stands.{ends_of, answers_with, answers_after, answer_number, IsCounted}
-use Rattle.beep_channel.proofs.CountedLemmas.{ends-append}
-use Rattle.beep_lives.proofs.ListLemmas.{live-number}
-use Rattle.beep_standing.specs.Standing.{Marks, with_marks}
-use Rattle.beep_giving.specs.Giving.{next_message}
+use Rattle.beep_session.specs.beep_frame.specs.declared.kind.Kind.{Kind}
+use Rattle.beep_session.specs.beep_frame.specs.Frame.{Frame, framed, seq_frame, is_msg, is_ans}
+use Rattle.beep_session.specs.beep_frame.specs.Modulo.{modulo_2_64}
+use Rattle.beep_session.specs.beep_history.specs.Marks.{Mark, octet, end}
+use Rattle.beep_session.specs.beep_history.specs.Journal.{Item}
+use Rattle.beep_session.specs.beep_journal.specs.Life.{life_now, is_there}
+use Rattle.beep_session.specs.beep_journal.proofs.MomentLemmas.{equal-number, same-number}
+use Rattle.beep_session.specs.beep_exchange.specs.declared.given.Given.{Given}
+use Rattle.beep_session.specs.beep_exchange.specs.Given.{ends_reply}
+use Rattle.beep_session.specs.beep_inbox.specs.Laws.{part_marks}
+use Rattle.beep_session.specs.beep_outbox.specs.Queue.{Message, message_marks}
+use Rattle.beep_session.specs.beep_channel.specs.Fits.{as_number}
+use Rattle.beep_session.specs.beep_channel.specs.Stands.{ends_of, answers_with, answers_after, answer_number, IsCounted}
+use Rattle.beep_session.specs.beep_channel.proofs.CountedLemmas.{ends-append}
+use Rattle.beep_session.specs.beep_lives.proofs.ListLemmas.{live-number}
+use Rattle.beep_session.specs.beep_standing.specs.Standing.{Marks, with_marks}
+use Rattle.beep_session.specs.beep_giving.specs.Giving.{next_message}
 use Rattle.beep_session.specs.declared.event.Event.{Event}
 use Rattle.beep_two_sessions.specs.End.{End, Book, with_more, Begins as Starts}
 use Rattle.beep_two_sessions.specs.Acts.{Act, gives, asks, takes, settles, stops, sends, pauses, gets, rests, given_marks, HasGiven, HasTaken, SendsAs, GetsAs, UsesNone, Does}

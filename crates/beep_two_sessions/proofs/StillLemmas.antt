@@ -4,34 +4,34 @@ use Rattle.std.specs.List.{flat_map}
 use Rattle.std.proofs.lemmas.Bool.{lt-ltb}
 use Rattle.std.proofs.lemmas.Bool.Decides.{nat_tests}
 use Rattle.std.proofs.lemmas.List.{length-map}
-use Rattle.beep_frame.specs.Spelling.{spelling}
-use Rattle.beep_frame.proofs.LawLemmas.{means}
-use Rattle.beep_seq.specs.Due.{is_seq_due}
-use Rattle.beep_history.specs.declared.journal.Side.{Side}
-use Rattle.beep_history.specs.Journal.{Item}
-use Rattle.beep_history.specs.Marks.{Mark, octet, end, marks, frames, octets_of, passed_octets, mark_modulo_2_64}
-use Rattle.beep_history.specs.Broken.{under_way}
-use Rattle.beep_history.specs.Windows.{acked_octets, last_window, open_now, greatest_edge}
-use Rattle.beep_journal.specs.Lives.{lives, has_ended, is_live}
-use Rattle.beep_journal.specs.Zero.{zero_history, events}
-use Rattle.beep_journal.specs.Life as of_journal
-use Rattle.beep_journal.specs.Life.{life_now, is_there, history}
-use Rattle.beep_journal.proofs.MomentLemmas.{positive, above-zero}
-use Rattle.beep_journal.proofs.ShownLemmas.{frames_of, spelled-frames}
-use Rattle.beep_decide.specs.Numbers.{may_start}
-use Rattle.beep_lawful.specs.declared.terms.Terms.{Terms}
-use Rattle.beep_inbox.specs.Runs.{Run, marks_of as untaken_marks}
-use Rattle.beep_outbox.specs.Queue.{marks_of as unsent_marks}
-use Rattle.beep_channel.specs.Held.{Live}
-use Rattle.beep_channel.specs.Stands.{Stands}
-use Rattle.beep_lives.specs.Lives.{live_at}
-use Rattle.beep_standing.specs.Standing.{Marks, AreLiveBy}
-use Rattle.beep_standing.specs.Due.{has_ready, may_go, octets_among, octets_taken}
-use Rattle.beep_giving.specs.Looks.{inbox_of}
-use Rattle.beep_two_ends.specs.Seen.{arrived, sent}
-use Rattle.beep_two_ends.specs.OneLife as one
-use Rattle.beep_two_ends.proofs.WaysLemmas.{frames-arrived, frames-sent}
-use Rattle.beep_two_ends.proofs.WindowLemmas.{unbroken, acknowledged, window_advertised, windows, acked-arrived, window-arrived, window-sent, acked-sent}
+use Rattle.beep_session.specs.beep_frame.specs.Spelling.{spelling}
+use Rattle.beep_session.specs.beep_frame.proofs.LawLemmas.{means}
+use Rattle.beep_session.specs.beep_seq.specs.Due.{is_seq_due}
+use Rattle.beep_session.specs.beep_history.specs.declared.journal.Side.{Side}
+use Rattle.beep_session.specs.beep_history.specs.Journal.{Item}
+use Rattle.beep_session.specs.beep_history.specs.Marks.{Mark, octet, end, marks, frames, octets_of, passed_octets, mark_modulo_2_64}
+use Rattle.beep_session.specs.beep_history.specs.Broken.{under_way}
+use Rattle.beep_session.specs.beep_history.specs.Windows.{acked_octets, last_window, open_now, greatest_edge}
+use Rattle.beep_session.specs.beep_journal.specs.Lives.{lives, has_ended, is_live}
+use Rattle.beep_session.specs.beep_journal.specs.Zero.{zero_history, events}
+use Rattle.beep_session.specs.beep_journal.specs.Life as of_journal
+use Rattle.beep_session.specs.beep_journal.specs.Life.{life_now, is_there, history}
+use Rattle.beep_session.specs.beep_journal.proofs.MomentLemmas.{positive, above-zero}
+use Rattle.beep_session.specs.beep_journal.proofs.ShownLemmas.{frames_of, spelled-frames}
+use Rattle.beep_session.specs.beep_decide.specs.Numbers.{may_start}
+use Rattle.beep_session.specs.beep_lawful.specs.declared.terms.Terms.{Terms}
+use Rattle.beep_session.specs.beep_inbox.specs.Runs.{Run, marks_of as untaken_marks}
+use Rattle.beep_session.specs.beep_outbox.specs.Queue.{marks_of as unsent_marks}
+use Rattle.beep_session.specs.beep_channel.specs.Held.{Live}
+use Rattle.beep_session.specs.beep_channel.specs.Stands.{Stands}
+use Rattle.beep_session.specs.beep_lives.specs.Lives.{live_at}
+use Rattle.beep_session.specs.beep_standing.specs.Standing.{Marks, AreLiveBy}
+use Rattle.beep_session.specs.beep_standing.specs.Due.{has_ready, may_go, octets_among, octets_taken}
+use Rattle.beep_session.specs.beep_giving.specs.Looks.{inbox_of}
+use Rattle.beep_two_journals.specs.beep_two_ends.specs.Seen.{arrived, sent}
+use Rattle.beep_two_journals.specs.beep_two_ends.specs.OneLife as one
+use Rattle.beep_two_journals.specs.beep_two_ends.proofs.WaysLemmas.{frames-arrived, frames-sent}
+use Rattle.beep_two_journals.specs.beep_two_ends.proofs.WindowLemmas.{unbroken, acknowledged, window_advertised, windows, acked-arrived, window-arrived, window-sent, acked-sent}
 use Rattle.beep_two_journals.specs.Session.{IsRun}
 use Rattle.beep_two_journals.proofs.Entries.{entries, came, went, life, ended}
 use Rattle.beep_two_journals.proofs.WalkLemmas.{same_life}
@@ -41,7 +41,7 @@ use Rattle.beep_two_journals.proofs.LifeLemmas.{life-same}
 use Rattle.beep_two_journals.proofs.NeverBreakLemmas.{All, run_all, swap}
 use Rattle.beep_two_journals.proofs.LifeLawLemmas.{lawful_at_a, lawful_at_b, whole_at_a, whole_at_b, count_at_a, count_at_b, none_lost_at_b}
 use Rattle.beep_two_journals.proofs.ReadingLemmas.{in_none, in_order}
-use Rattle.beep_peer.specs.Peering.{is_greeted}
+use Rattle.beep_session.specs.beep_peer.specs.Peering.{is_greeted}
 use Rattle.beep_two_sessions.specs.End.{End, Doing, goes, StandsAs, StandsSo, NothingIsDue}
 use Rattle.beep_two_sessions.specs.Still.{IsStillEnd}
 use Rattle.beep_two_sessions.proofs.WireLemmas.{Wired, wired-flips}

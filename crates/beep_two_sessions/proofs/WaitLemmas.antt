@@ -2,19 +2,19 @@
 use Rattle.std.proofs.Common.{◌≡◌, ◌⊎◌, inl, inr, ℕ, ◌+◌, ◌-◌, ◌<◌, ◌≤◌, ◌==◌, nat_lt, Bool, true, false, ◌&&◌, ◌||◌, if◌then◌else◌, List, [], ◌∷◌, length, Option, Some, None, refl, sym, ap, ◌∙◌, subst, arith}
 use Rattle.std.specs.List.{list_any}
 use Rattle.std.proofs.lemmas.Bool.Decides.{nat_tests}
-use Rattle.beep_mgmt.specs.Form.{Form, greeting, start, chosen, close, okay, fault}
-use Rattle.beep_history.specs.declared.journal.Side.{Side}
-use Rattle.beep_history.specs.Journal.{Item}
-use Rattle.beep_history.specs.Marks.{frames, is_answered}
-use Rattle.beep_history.specs.Moments.{replies_ended}
-use Rattle.beep_history.specs.Broken.{KeepsExchangeRules}
-use Rattle.beep_history.proofs.RepliesLemmas.{answered}
-use Rattle.beep_journal.specs.Lives.{Event, lives, life_named, is_live}
-use Rattle.beep_journal.specs.Zero.{zero_history, zero_events, asked as asked_of, said_at}
-use Rattle.beep_journal.proofs.MomentLemmas.{equal-number}
-use Rattle.beep_decide.specs.Asks.{is_close_of}
-use Rattle.beep_asked.specs.Kept.{Kept, closes_one, closes, is_leaving}
-use Rattle.beep_asked.specs.Asked.{names_live, names_life, IsAsked, AreAsked, AreWaiting}
+use Rattle.beep_session.specs.beep_mgmt.specs.Form.{Form, greeting, start, chosen, close, okay, fault}
+use Rattle.beep_session.specs.beep_history.specs.declared.journal.Side.{Side}
+use Rattle.beep_session.specs.beep_history.specs.Journal.{Item}
+use Rattle.beep_session.specs.beep_history.specs.Marks.{frames, is_answered}
+use Rattle.beep_session.specs.beep_history.specs.Moments.{replies_ended}
+use Rattle.beep_session.specs.beep_history.specs.Broken.{KeepsExchangeRules}
+use Rattle.beep_session.specs.beep_history.proofs.RepliesLemmas.{answered}
+use Rattle.beep_session.specs.beep_journal.specs.Lives.{Event, lives, life_named, is_live}
+use Rattle.beep_session.specs.beep_journal.specs.Zero.{zero_history, zero_events, asked as asked_of, said_at}
+use Rattle.beep_session.specs.beep_journal.proofs.MomentLemmas.{equal-number}
+use Rattle.beep_session.specs.beep_decide.specs.Asks.{is_close_of}
+use Rattle.beep_session.specs.beep_asked.specs.Kept.{Kept, closes_one, closes, is_leaving}
+use Rattle.beep_session.specs.beep_asked.specs.Asked.{names_live, names_life, IsAsked, AreAsked, AreWaiting}
 use Rattle.beep_two_journals.proofs.Entries.{Says, entries, is_close, says_of, said, asked, replied, names}
 use Rattle.beep_two_journals.proofs.PassingLemmas.{Bridged}
 use Rattle.beep_two_sessions.proofs.OverLemmas.{OwnCloseWaits}

@@ -1,20 +1,20 @@
 -- What two ends used and sent of one another's octets, and what lies between, as a run of items.
 use Rattle.std.proofs.Common.{◌≡◌, ℕ, List, [], ◌∷◌, ◌++◌, refl, sym, ap, ◌∙◌, subst, append_assoc, append-nil}
 use Rattle.std.proofs.lemmas.List.{append_cancel_right}
-use Rattle.beep_frame.specs.declared.head.Head.{Head}
-use Rattle.beep_frame.specs.declared.seq.Seq.{Seq}
-use Rattle.beep_frame.specs.Frame.{framed, seq_frame, IsFrame, IsSeq}
-use Rattle.beep_frame.specs.Spelling.{spelling}
-use Rattle.beep_frame.specs.Stream.{IsHeadOf}
-use Rattle.beep_history.specs.declared.journal.Side.{Side}
-use Rattle.beep_history.specs.Journal.{Item, began, passed, told}
-use Rattle.beep_history.specs.Broken.{under_way}
-use Rattle.beep_journal.specs.Broken.{none_tunes}
-use Rattle.beep_journal.specs.Journal.{spelled}
-use Rattle.beep_lawful.specs.declared.terms.Terms.{Terms}
-use Rattle.beep_lawful.specs.Lawful.{IsLawful}
-use Rattle.beep_two_ends.specs.Seen.{arrived}
-use Rattle.beep_two_ends.specs.Run.{Step, a_sends, a_gets}
+use Rattle.beep_session.specs.beep_frame.specs.declared.head.Head.{Head}
+use Rattle.beep_session.specs.beep_frame.specs.declared.seq.Seq.{Seq}
+use Rattle.beep_session.specs.beep_frame.specs.Frame.{framed, seq_frame, IsFrame, IsSeq}
+use Rattle.beep_session.specs.beep_frame.specs.Spelling.{spelling}
+use Rattle.beep_session.specs.beep_frame.specs.Stream.{IsHeadOf}
+use Rattle.beep_session.specs.beep_history.specs.declared.journal.Side.{Side}
+use Rattle.beep_session.specs.beep_history.specs.Journal.{Item, began, passed, told}
+use Rattle.beep_session.specs.beep_history.specs.Broken.{under_way}
+use Rattle.beep_session.specs.beep_journal.specs.Broken.{none_tunes}
+use Rattle.beep_session.specs.beep_journal.specs.Journal.{spelled}
+use Rattle.beep_session.specs.beep_lawful.specs.declared.terms.Terms.{Terms}
+use Rattle.beep_session.specs.beep_lawful.specs.Lawful.{IsLawful}
+use Rattle.beep_two_journals.specs.beep_two_ends.specs.Seen.{arrived}
+use Rattle.beep_two_journals.specs.beep_two_ends.specs.Run.{Step, a_sends, a_gets}
 use Rattle.beep_two_journals.specs.Session.{AreEnds, IsRun}
 use Rattle.beep_two_journals.proofs.KeptLemmas.{lawful-tail}
 use Rattle.beep_two_journals.proofs.NeverBreakLemmas.{run_all}

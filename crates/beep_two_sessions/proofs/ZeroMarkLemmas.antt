@@ -2,20 +2,20 @@
 use Rattle.std.proofs.Common.{◌≡◌, ℕ, ◌+◌, ◌-◌, ◌<◌, ◌==◌, Bool, true, false, not, ◌&&◌, if◌then◌else◌, List, [], ◌∷◌, ◌++◌, length, map, Option, Some, None, refl, sym, ap, ◌∙◌, append-nil, arith}
 use Rattle.std.specs.Option.{option_map_or}
 use Rattle.std.proofs.lemmas.Bool.Decides.{nat_tests}
-use Rattle.beep_frame.specs.declared.head.Head.{Head}
-use Rattle.beep_frame.specs.declared.kind.Kind.{Kind}
-use Rattle.beep_frame.specs.declared.tag.Tag.{Tag}
-use Rattle.beep_frame.specs.Frame.{is_msg, is_ans}
-use Rattle.beep_history.specs.declared.journal.Side.{Side}
-use Rattle.beep_history.specs.Journal.{Item, began, passed, told, opening}
-use Rattle.beep_history.specs.Marks.{Mark, octet, end, goes_on, begins_request, requests, previous, frames, passed_octets, is_implied, carries, tag_of, frame_marks, marks}
-use Rattle.beep_history.specs.Moments.{is_last, replies_ended}
-use Rattle.beep_history.specs.Broken.{under_way, KeepsExchangeRules}
-use Rattle.beep_journal.specs.Zero.{channel_of, zero_history}
-use Rattle.beep_exchange.specs.Given.{ends_reply}
-use Rattle.beep_channel.specs.Stands.{ends_of}
-use Rattle.beep_channel.proofs.CountedLemmas.{ends-append}
-use Rattle.beep_standing.specs.Due.{octets_among}
+use Rattle.beep_session.specs.beep_frame.specs.declared.head.Head.{Head}
+use Rattle.beep_session.specs.beep_frame.specs.declared.kind.Kind.{Kind}
+use Rattle.beep_session.specs.beep_frame.specs.declared.tag.Tag.{Tag}
+use Rattle.beep_session.specs.beep_frame.specs.Frame.{is_msg, is_ans}
+use Rattle.beep_session.specs.beep_history.specs.declared.journal.Side.{Side}
+use Rattle.beep_session.specs.beep_history.specs.Journal.{Item, began, passed, told, opening}
+use Rattle.beep_session.specs.beep_history.specs.Marks.{Mark, octet, end, goes_on, begins_request, requests, previous, frames, passed_octets, is_implied, carries, tag_of, frame_marks, marks}
+use Rattle.beep_session.specs.beep_history.specs.Moments.{is_last, replies_ended}
+use Rattle.beep_session.specs.beep_history.specs.Broken.{under_way, KeepsExchangeRules}
+use Rattle.beep_session.specs.beep_journal.specs.Zero.{channel_of, zero_history}
+use Rattle.beep_session.specs.beep_exchange.specs.Given.{ends_reply}
+use Rattle.beep_session.specs.beep_channel.specs.Stands.{ends_of}
+use Rattle.beep_session.specs.beep_channel.proofs.CountedLemmas.{ends-append}
+use Rattle.beep_session.specs.beep_standing.specs.Due.{octets_among}
 
 -- ---- octets and ends among marks
 

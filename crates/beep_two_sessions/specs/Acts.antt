@@ -2,25 +2,25 @@
 -- sections 2.1 to 2.3; RFC 3081, section 3.1).
 -- A call that is told so may do it or be refused: which one it is, its own clauses say.
 use Rattle.std.specs.Prelude.{◌≡◌, ℕ, ◌||◌, true, false, ◌⊎◌, List, [], ◌∷◌, ◌++◌}
-use Rattle.beep_frame.specs.declared.head.Head.{Head}
-use Rattle.beep_frame.specs.declared.kind.Kind.{Kind}
-use Rattle.beep_frame.specs.declared.rule.Rule.{Rule}
-use Rattle.beep_frame.specs.declared.seq.Seq.{Seq}
-use Rattle.beep_frame.specs.Frame.{Frame, framed, seq_frame, is_msg, IsFrame}
-use Rattle.beep_frame.specs.Spelling.{spelling}
-use Rattle.beep_history.specs.declared.journal.Side.{Side}
-use Rattle.beep_history.specs.Journal.{Item, began, passed, told}
-use Rattle.beep_history.specs.Marks.{Mark}
-use Rattle.beep_journal.specs.Zero.{zero_history, completes_form}
-use Rattle.beep_journal.specs.Life.{life_now}
-use Rattle.beep_inbox.specs.declared.part.Part.{Part}
-use Rattle.beep_inbox.specs.Laws.{part_marks}
-use Rattle.beep_outbox.specs.Queue.{Message, message_marks}
-use Rattle.beep_standing.specs.Standing.{Marks, with_marks}
-use Rattle.beep_hearing.specs.Hears.{SameAbove, Breaks}
-use Rattle.beep_giving.specs.Giving.{next_message}
-use Rattle.beep_peer.specs.Calls.{IsLawfulNext}
-use Rattle.beep_peer.specs.Peering.{Carries, is_over, zero_waits}
+use Rattle.beep_session.specs.beep_frame.specs.declared.head.Head.{Head}
+use Rattle.beep_session.specs.beep_frame.specs.declared.kind.Kind.{Kind}
+use Rattle.beep_session.specs.beep_frame.specs.declared.rule.Rule.{Rule}
+use Rattle.beep_session.specs.beep_frame.specs.declared.seq.Seq.{Seq}
+use Rattle.beep_session.specs.beep_frame.specs.Frame.{Frame, framed, seq_frame, is_msg, IsFrame}
+use Rattle.beep_session.specs.beep_frame.specs.Spelling.{spelling}
+use Rattle.beep_session.specs.beep_history.specs.declared.journal.Side.{Side}
+use Rattle.beep_session.specs.beep_history.specs.Journal.{Item, began, passed, told}
+use Rattle.beep_session.specs.beep_history.specs.Marks.{Mark}
+use Rattle.beep_session.specs.beep_journal.specs.Zero.{zero_history, completes_form}
+use Rattle.beep_session.specs.beep_journal.specs.Life.{life_now}
+use Rattle.beep_session.specs.beep_inbox.specs.declared.part.Part.{Part}
+use Rattle.beep_session.specs.beep_inbox.specs.Laws.{part_marks}
+use Rattle.beep_session.specs.beep_outbox.specs.Queue.{Message, message_marks}
+use Rattle.beep_session.specs.beep_standing.specs.Standing.{Marks, with_marks}
+use Rattle.beep_session.specs.beep_hearing.specs.Hears.{SameAbove, Breaks}
+use Rattle.beep_session.specs.beep_giving.specs.Giving.{next_message}
+use Rattle.beep_session.specs.beep_peer.specs.Calls.{IsLawfulNext}
+use Rattle.beep_session.specs.beep_peer.specs.Peering.{Carries, is_over, zero_waits}
 use Rattle.beep_session.specs.declared.event.Event.{Event}
 use Rattle.beep_session.specs.Channels.{IsOfPeer}
 use Rattle.beep_session.specs.Feeds.{Gains, ZeroWaits}

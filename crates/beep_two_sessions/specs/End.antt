@@ -2,18 +2,18 @@
 -- what was given and taken in each of its lives (RFC 3080, sections 2.1 to 2.3).
 -- The code keeps the session alone; here is beside it what its calls speak of.
 use Rattle.std.specs.Prelude.{◌≡◌, ℕ, ◌==◌, ◌&&◌, ◌⊎◌, true, false, if◌then◌else◌, List, [], ◌++◌}
-use Rattle.beep_frame.specs.declared.head.Head.{Head}
-use Rattle.beep_frame.specs.declared.rule.Rule.{Rule}
-use Rattle.beep_history.specs.Journal.{Item}
-use Rattle.beep_history.specs.Marks.{Mark}
-use Rattle.beep_journal.specs.Broken.{none_tunes}
-use Rattle.beep_journal.specs.Life.{history, is_there}
-use Rattle.beep_lawful.specs.Lawful.{IsLawful}
-use Rattle.beep_standing.specs.Standing.{Marks, no_marks}
-use Rattle.beep_hearing.specs.Hears.{SameAbove}
-use Rattle.beep_upright.specs.Upright.{IsUpright}
-use Rattle.beep_standing.specs.Due.{has_due, has_ready}
-use Rattle.beep_peer.specs.Peering.{WaitsIn, is_over, is_greeted}
+use Rattle.beep_session.specs.beep_frame.specs.declared.head.Head.{Head}
+use Rattle.beep_session.specs.beep_frame.specs.declared.rule.Rule.{Rule}
+use Rattle.beep_session.specs.beep_history.specs.Journal.{Item}
+use Rattle.beep_session.specs.beep_history.specs.Marks.{Mark}
+use Rattle.beep_session.specs.beep_journal.specs.Broken.{none_tunes}
+use Rattle.beep_session.specs.beep_journal.specs.Life.{history, is_there}
+use Rattle.beep_session.specs.beep_lawful.specs.Lawful.{IsLawful}
+use Rattle.beep_session.specs.beep_standing.specs.Standing.{Marks, no_marks}
+use Rattle.beep_session.specs.beep_hearing.specs.Hears.{SameAbove}
+use Rattle.beep_session.specs.beep_upright.specs.Upright.{IsUpright}
+use Rattle.beep_session.specs.beep_standing.specs.Due.{has_due, has_ready}
+use Rattle.beep_session.specs.beep_peer.specs.Peering.{WaitsIn, is_over, is_greeted}
 use Rattle.beep_session.specs.Session.{Held, AreLimits}
 use Rattle.beep_session.specs.Lawfully.{terms_of, IsLawfulSession}
 

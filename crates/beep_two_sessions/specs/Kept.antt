@@ -1,14 +1,14 @@
 -- What was given at one end and taken at the other (RFC 3080, section 2.1).
 -- The code keeps neither: each end knows what is unsent and untaken.
 use Rattle.std.specs.Prelude.{◌≡◌, ℕ, ◌+◌, ◌<◌, false, if◌then◌else◌, List, [], ◌∷◌, ◌++◌, map}
-use Rattle.beep_frame.specs.declared.tag.Tag.{Tag}
-use Rattle.beep_frame.specs.Frame.{is_msg}
-use Rattle.beep_frame.specs.Modulo.{modulo_2_64}
-use Rattle.beep_history.specs.declared.journal.Side.{Side}
-use Rattle.beep_history.specs.Marks.{Mark, octet, end, marks, mark_modulo_2_64}
-use Rattle.beep_history.specs.Moments.{IsRising, reply_positions}
-use Rattle.beep_journal.specs.Life.{life}
-use Rattle.beep_exchange.specs.Given.{ends_reply}
+use Rattle.beep_session.specs.beep_frame.specs.declared.tag.Tag.{Tag}
+use Rattle.beep_session.specs.beep_frame.specs.Frame.{is_msg}
+use Rattle.beep_session.specs.beep_frame.specs.Modulo.{modulo_2_64}
+use Rattle.beep_session.specs.beep_history.specs.declared.journal.Side.{Side}
+use Rattle.beep_session.specs.beep_history.specs.Marks.{Mark, octet, end, marks, mark_modulo_2_64}
+use Rattle.beep_session.specs.beep_history.specs.Moments.{IsRising, reply_positions}
+use Rattle.beep_session.specs.beep_journal.specs.Life.{life}
+use Rattle.beep_session.specs.beep_exchange.specs.Given.{ends_reply}
 use Rattle.beep_two_sessions.specs.End.{End}
 
 -- the first marks are those that the whole begins with

@@ -4,3 +4,26 @@ pub mod Acts
 pub mod World
 pub mod Kept
 pub mod Still
+-- Crates below, which are named through this one.
+pub use Rattle.beep_session.specs.beep_octets
+pub use Rattle.beep_session.specs.beep_frame
+pub use Rattle.beep_session.specs.beep_seq
+pub use Rattle.beep_session.specs.beep_history
+pub use Rattle.beep_session.specs.beep_exchange
+pub use Rattle.beep_session.specs.beep_inbox
+pub use Rattle.beep_session.specs.beep_outbox
+pub use Rattle.beep_session.specs.beep_channel
+pub use Rattle.beep_session.specs.beep_lives
+pub use Rattle.beep_session.specs.beep_settings
+pub use Rattle.beep_session.specs.beep_text
+pub use Rattle.beep_session.specs.beep_mgmt
+pub use Rattle.beep_session.specs.beep_journal
+pub use Rattle.beep_session.specs.beep_decide
+pub use Rattle.beep_session.specs.beep_standing
+pub use Rattle.beep_session.specs.beep_speaking
+pub use Rattle.beep_session.specs.beep_hearing
+pub use Rattle.beep_session.specs.beep_upright
+pub use Rattle.beep_session.specs.beep_answering
+pub use Rattle.beep_session.specs.beep_peer
+pub use Rattle.beep_session.specs.beep_giving
+pub use Rattle.beep_session

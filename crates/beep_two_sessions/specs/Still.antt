@@ -1,13 +1,13 @@
 -- When nothing can move between two sessions (RFC 3081, section 3.1.4).
 -- A schedule that goes on until no call of a session does anything ends so.
 use Rattle.std.specs.Prelude.{◌≡◌, ◌⊎◌, ℕ, ◌+◌, ◌<◌, ◌≤◌, ◌==◌, true, false, []}
-use Rattle.beep_seq.specs.declared.limits.TheConstants.{INITIAL_WINDOW}
-use Rattle.beep_exchange.specs.Given.{ends_reply}
-use Rattle.beep_channel.specs.Stands.{ends_of}
-use Rattle.beep_standing.specs.Due.{octets_among}
-use Rattle.beep_lives.specs.Lives.{live_at}
-use Rattle.beep_giving.specs.Looks.{inbox_of}
-use Rattle.beep_peer.specs.Peering.{is_greeted, is_over}
+use Rattle.beep_session.specs.beep_seq.specs.declared.limits.TheConstants.{INITIAL_WINDOW}
+use Rattle.beep_session.specs.beep_exchange.specs.Given.{ends_reply}
+use Rattle.beep_session.specs.beep_channel.specs.Stands.{ends_of}
+use Rattle.beep_session.specs.beep_standing.specs.Due.{octets_among}
+use Rattle.beep_session.specs.beep_lives.specs.Lives.{live_at}
+use Rattle.beep_session.specs.beep_giving.specs.Looks.{inbox_of}
+use Rattle.beep_session.specs.beep_peer.specs.Peering.{is_greeted, is_over}
 use Rattle.beep_two_sessions.specs.End.{End, goes, NothingIsDue}
 use Rattle.beep_two_sessions.specs.World.{World}
 

@@ -2,7 +2,7 @@
 -- 2.1 to 2.3; RFC 3081, section 2).
 -- No code keeps both sessions in one place, but for a pair in memory.
 use Rattle.std.specs.Prelude.{◌≡◌, ℕ, List, [], ◌∷◌, ◌++◌}
-use Rattle.beep_decide.specs.Numbers.{other_role}
+use Rattle.beep_session.specs.beep_decide.specs.Numbers.{other_role}
 use Rattle.beep_two_sessions.specs.End.{End, Begins}
 use Rattle.beep_two_sessions.specs.Acts.{Act, sent_by, used_by, Does}
 

@@ -1,29 +1,29 @@
 //! What holds of two sessions and the octets between them, as facts: each function does nothing,
 //! and its contract is the fact.
 ghost use Rattle.std.specs.Prelude.{◌≡◌, ◌≢◌, ◌⊎◌, ◌<◌, ◌||◌, true, false, ℕ, List, [], ◌∷◌, ◌++◌};
-ghost use Rattle.beep_frame.specs.declared.head.Head.{Head};
-ghost use Rattle.beep_frame.specs.declared.kind.Kind.{Kind};
-ghost use Rattle.beep_frame.specs.declared.rule.Rule.{Rule};
-ghost use Rattle.beep_frame.specs.declared.seq.Seq.{Seq};
-ghost use Rattle.beep_frame.specs.Frame.{framed, seq_frame, is_msg, IsHead, IsSeq};
-ghost use Rattle.beep_frame.specs.Spelling.{spelling};
-ghost use Rattle.beep_history.specs.declared.journal.Side.{Side};
-ghost use Rattle.beep_history.specs.Journal.{Item, passed};
-ghost use Rattle.beep_journal.specs.Lives.{has_ended};
-ghost use Rattle.beep_journal.specs.Life.{is_released};
-ghost use Rattle.beep_journal.specs.Zero.{zero_history, completes_form, events};
-ghost use Rattle.beep_decide.specs.Numbers.{other_role};
-ghost use Rattle.beep_inbox.specs.declared.part.Part.{Part};
-ghost use Rattle.beep_channel.specs.Stands.{ends_of};
-ghost use Rattle.beep_standing.specs.Standing.{Marks, no_marks};
-ghost use Rattle.beep_hearing.specs.Hears.{Breaks};
-ghost use Rattle.beep_speaking.specs.declared.emit.Emit.{Emit};
-ghost use Rattle.beep_upright.specs.Upright.{IsUpright};
-ghost use Rattle.beep_upright.specs.Frames.{AreFrames};
-ghost use Rattle.beep_peer.specs.Acts.{IsUnchanged};
-ghost use Rattle.beep_peer.specs.Calls.{Begins as BeginsPeer, Settles, Speaks};
-ghost use Rattle.beep_peer.specs.Peering.{IsPeer, WaitsIn, is_over, is_greeted, zero_waits};
-ghost use Rattle.beep_peer.specs.Lawfully.{SpeaksLawfully};
+ghost use Rattle.beep_session.specs.beep_frame.specs.declared.head.Head.{Head};
+ghost use Rattle.beep_session.specs.beep_frame.specs.declared.kind.Kind.{Kind};
+ghost use Rattle.beep_session.specs.beep_frame.specs.declared.rule.Rule.{Rule};
+ghost use Rattle.beep_session.specs.beep_frame.specs.declared.seq.Seq.{Seq};
+ghost use Rattle.beep_session.specs.beep_frame.specs.Frame.{framed, seq_frame, is_msg, IsHead, IsSeq};
+ghost use Rattle.beep_session.specs.beep_frame.specs.Spelling.{spelling};
+ghost use Rattle.beep_session.specs.beep_history.specs.declared.journal.Side.{Side};
+ghost use Rattle.beep_session.specs.beep_history.specs.Journal.{Item, passed};
+ghost use Rattle.beep_session.specs.beep_journal.specs.Lives.{has_ended};
+ghost use Rattle.beep_session.specs.beep_journal.specs.Life.{is_released};
+ghost use Rattle.beep_session.specs.beep_journal.specs.Zero.{zero_history, completes_form, events};
+ghost use Rattle.beep_session.specs.beep_decide.specs.Numbers.{other_role};
+ghost use Rattle.beep_session.specs.beep_inbox.specs.declared.part.Part.{Part};
+ghost use Rattle.beep_session.specs.beep_channel.specs.Stands.{ends_of};
+ghost use Rattle.beep_session.specs.beep_standing.specs.Standing.{Marks, no_marks};
+ghost use Rattle.beep_session.specs.beep_hearing.specs.Hears.{Breaks};
+ghost use Rattle.beep_session.specs.beep_speaking.specs.declared.emit.Emit.{Emit};
+ghost use Rattle.beep_session.specs.beep_upright.specs.Upright.{IsUpright};
+ghost use Rattle.beep_session.specs.beep_upright.specs.Frames.{AreFrames};
+ghost use Rattle.beep_session.specs.beep_peer.specs.Acts.{IsUnchanged};
+ghost use Rattle.beep_session.specs.beep_peer.specs.Calls.{Begins as BeginsPeer, Settles, Speaks};
+ghost use Rattle.beep_session.specs.beep_peer.specs.Peering.{IsPeer, WaitsIn, is_over, is_greeted, zero_waits};
+ghost use Rattle.beep_session.specs.beep_peer.specs.Lawfully.{SpeaksLawfully};
 ghost use Rattle.beep_session.specs.declared.event.Event.{Event};
 ghost use Rattle.beep_session.specs.Acts.{AsksZero};
 ghost use Rattle.beep_session.specs.Channels.{IsOfPeer, Gives, Takes};
@@ -304,6 +304,3 @@ pub fn nothing_stalls()
         → (world.b.took number count ≡ world.a.gave number count)
         × (world.a.took number count ≡ world.b.gave number count) }
 {}
-
-#[cfg(test)]
-mod tests;

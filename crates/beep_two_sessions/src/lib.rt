@@ -6,3 +6,10 @@
 #![tactic(auto)]
 
 pub mod laws;
+
+// Crates below, which are named through this one.
+pub use beep_session;
+pub use beep_session::{
+    beep_answering, beep_channel, beep_chars, beep_decide, beep_frame, beep_inbox, beep_journal,
+    beep_octets, beep_outbox, beep_speaking,
+};

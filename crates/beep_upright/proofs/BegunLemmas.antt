@@ -3,26 +3,26 @@ use Rattle.std.proofs.Common.{◌≡◌, ℕ, suc, ◌+◌, ◌-◌, ◌<◌, �
 use Rattle.std.specs.List.{list_any, list_all}
 use Rattle.std.proofs.lemmas.Bool.Decides.{nat_tests}
 use Rattle.std.proofs.lemmas.List.{reverse-reverse, length-reverse, map-append}
-use Rattle.beep_frame.specs.declared.head.Head.{Head}
-use Rattle.beep_frame.specs.declared.kind.Kind.{Kind}
-use Rattle.beep_frame.specs.Frame.{is_msg, same_kind}
-use Rattle.beep_mgmt.specs.Form.{Form, greeting, start, chosen, close, okay, fault}
-use Rattle.beep_history.specs.declared.journal.Side.{Side}
-use Rattle.beep_history.specs.Journal.{Item, began}
-use Rattle.beep_history.specs.Marks.{begins_request, requests, is_whole, previous}
-use Rattle.beep_history.specs.Broken.{under_way, KeepsExchangeRules}
-use Rattle.beep_history.proofs.SoundLemmas.{Sound, is_open}
-use Rattle.beep_history.proofs.PassedLemmas.{sound}
-use Rattle.beep_journal.specs.Lives.{Event, is_live, lives, life_named}
-use Rattle.beep_journal.specs.Zero.{zero_history, asked, said_at, events}
-use Rattle.beep_journal.specs.Life.{life_now, is_of_life, life, is_there, history}
-use Rattle.beep_journal.proofs.JournalLemmas.{began-events}
-use Rattle.beep_journal.proofs.MomentLemmas.{apart-zero}
-use Rattle.beep_decide.specs.Asks.{is_close_of}
+use Rattle.beep_management.specs.beep_frame.specs.declared.head.Head.{Head}
+use Rattle.beep_management.specs.beep_frame.specs.declared.kind.Kind.{Kind}
+use Rattle.beep_management.specs.beep_frame.specs.Frame.{is_msg, same_kind}
+use Rattle.beep_management.specs.beep_mgmt.specs.Form.{Form, greeting, start, chosen, close, okay, fault}
+use Rattle.beep_management.specs.beep_history.specs.declared.journal.Side.{Side}
+use Rattle.beep_management.specs.beep_history.specs.Journal.{Item, began}
+use Rattle.beep_management.specs.beep_history.specs.Marks.{begins_request, requests, is_whole, previous}
+use Rattle.beep_management.specs.beep_history.specs.Broken.{under_way, KeepsExchangeRules}
+use Rattle.beep_management.specs.beep_history.proofs.SoundLemmas.{Sound, is_open}
+use Rattle.beep_management.specs.beep_history.proofs.PassedLemmas.{sound}
+use Rattle.beep_management.specs.beep_journal.specs.Lives.{Event, is_live, lives, life_named}
+use Rattle.beep_management.specs.beep_journal.specs.Zero.{zero_history, asked, said_at, events}
+use Rattle.beep_management.specs.beep_journal.specs.Life.{life_now, is_of_life, life, is_there, history}
+use Rattle.beep_management.specs.beep_journal.proofs.JournalLemmas.{began-events}
+use Rattle.beep_management.specs.beep_journal.proofs.MomentLemmas.{apart-zero}
+use Rattle.beep_management.specs.beep_decide.specs.Asks.{is_close_of}
 use Rattle.beep_lawful.specs.Closing.{is_idle, was_idle_since, asks_again, was_quiet_since}
 use Rattle.beep_lawful.specs.declared.terms.Terms.{Terms}
-use Rattle.beep_asked.specs.Kept.{Kept, names_one, closes, closes_one, is_leaving}
-use Rattle.beep_asked.specs.Asked.{names_life, AreWaiting}
+use Rattle.beep_management.specs.beep_asked.specs.Kept.{Kept, names_one, closes, closes_one, is_leaving}
+use Rattle.beep_management.specs.beep_asked.specs.Asked.{names_life, AreWaiting}
 use Rattle.beep_management.specs.Managed.{Managed}
 use Rattle.beep_upright.specs.Turns.{asks as asks_turn, answers as answers_turn, reply_kinds, first_said, after_first, turns, may_precede, AreInTurn}
 use Rattle.beep_upright.specs.Upright.{WasIdle, all_asked, WasQuiet, is_of_close, IsLetGo, AreReady}

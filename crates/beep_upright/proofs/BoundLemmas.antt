@@ -3,29 +3,29 @@ use Rattle.std.proofs.Common.{◌≡◌, ℕ, ◌≤◌, ◌==◌, Bool, true, f
 use Rattle.std.specs.Prelude.{is_some}
 use Rattle.std.specs.Option.{is_none, option_map_or}
 use Rattle.std.proofs.lemmas.Bool.Decides.{nat_tests}
-use Rattle.beep_frame.specs.declared.head.Head.{Head}
-use Rattle.beep_frame.specs.declared.head.TheConstants.{MAX_NUMBER}
-use Rattle.beep_frame.specs.declared.seq.Seq.{Seq}
-use Rattle.beep_frame.specs.declared.kind.Kind.{Kind}
-use Rattle.beep_frame.specs.declared.rule.Rule.{Rule}
-use Rattle.beep_frame.specs.declared.tag.Tag.{Tag}
-use Rattle.beep_frame.specs.Frame.{IsHead, IsSeq, is_msg, is_ans, is_reply, max_ansno_of}
-use Rattle.beep_history.specs.declared.journal.Side.{Side}
-use Rattle.beep_history.specs.Journal.{Item, began, passed, told, same_side, other, opening}
-use Rattle.beep_history.specs.Marks.{Mark, octet, end, Request, first, frames, previous, goes_on, begins_request, requests}
-use Rattle.beep_history.specs.Broken.{breaks_never_asked, broken_within, broken_rule}
-use Rattle.beep_exchange.specs.Given.{message_number}
-use Rattle.beep_outbox.specs.Queue.{Message, marks_of}
-use Rattle.beep_journal.specs.Zero.{channel_of, zero_history}
-use Rattle.beep_journal.specs.Life.{is_of_life, life, life_now, history}
-use Rattle.beep_journal.specs.Broken.{none_tunes}
-use Rattle.beep_channel.specs.Held.{Held, Live, is_held_ready, next_head}
-use Rattle.beep_channel.specs.Stands.{AreNumbered, answers_with, Stands, IsNext, IsTold}
-use Rattle.beep_lives.specs.Edits.{Edits, Sends, Tells}
+use Rattle.beep_management.specs.beep_frame.specs.declared.head.Head.{Head}
+use Rattle.beep_management.specs.beep_frame.specs.declared.head.TheConstants.{MAX_NUMBER}
+use Rattle.beep_management.specs.beep_frame.specs.declared.seq.Seq.{Seq}
+use Rattle.beep_management.specs.beep_frame.specs.declared.kind.Kind.{Kind}
+use Rattle.beep_management.specs.beep_frame.specs.declared.rule.Rule.{Rule}
+use Rattle.beep_management.specs.beep_frame.specs.declared.tag.Tag.{Tag}
+use Rattle.beep_management.specs.beep_frame.specs.Frame.{IsHead, IsSeq, is_msg, is_ans, is_reply, max_ansno_of}
+use Rattle.beep_management.specs.beep_history.specs.declared.journal.Side.{Side}
+use Rattle.beep_management.specs.beep_history.specs.Journal.{Item, began, passed, told, same_side, other, opening}
+use Rattle.beep_management.specs.beep_history.specs.Marks.{Mark, octet, end, Request, first, frames, previous, goes_on, begins_request, requests}
+use Rattle.beep_management.specs.beep_history.specs.Broken.{breaks_never_asked, broken_within, broken_rule}
+use Rattle.beep_management.specs.beep_exchange.specs.Given.{message_number}
+use Rattle.beep_management.specs.beep_outbox.specs.Queue.{Message, marks_of}
+use Rattle.beep_management.specs.beep_journal.specs.Zero.{channel_of, zero_history}
+use Rattle.beep_management.specs.beep_journal.specs.Life.{is_of_life, life, life_now, history}
+use Rattle.beep_management.specs.beep_journal.specs.Broken.{none_tunes}
+use Rattle.beep_management.specs.beep_channel.specs.Held.{Held, Live, is_held_ready, next_head}
+use Rattle.beep_management.specs.beep_channel.specs.Stands.{AreNumbered, answers_with, Stands, IsNext, IsTold}
+use Rattle.beep_management.specs.beep_lives.specs.Edits.{Edits, Sends, Tells}
 use Rattle.beep_lawful.specs.declared.terms.Terms.{Terms}
 use Rattle.beep_lawful.specs.Lawful.{IsLawful}
-use Rattle.beep_standing.specs.Standing.{Marks, AreLiveBy}
-use Rattle.beep_standing.proofs.DueLemmas.{sent-there, sent-next}
+use Rattle.beep_management.specs.beep_standing.specs.Standing.{Marks, AreLiveBy}
+use Rattle.beep_management.specs.beep_standing.proofs.DueLemmas.{sent-there, sent-next}
 use Rattle.beep_upright.specs.Frames.{AreFrames}
 use Rattle.beep_upright.proofs.SeqLemmas.{stands-by}
 use Rattle.beep_upright.proofs.NamedLemmas.{there-named}

@@ -1,21 +1,21 @@
 -- The last frame of a request of the peer, as it comes.
 use Rattle.std.proofs.Common.{◌≡◌, ℕ, suc, ◌+◌, ◌<◌, ◌==◌, Bool, true, false, not, ◌&&◌, ◌||◌, if◌then◌else◌, List, [], ◌∷◌, ◌++◌, length, Option, None, Some, refl, sym, ap, ◌∙◌, subst}
-use Rattle.beep_frame.specs.declared.head.Head.{Head}
-use Rattle.beep_frame.specs.declared.kind.Kind.{Kind}
-use Rattle.beep_frame.specs.Frame.{is_msg}
-use Rattle.beep_mgmt.specs.Form.{Form, greeting, start, chosen, close, okay, fault}
-use Rattle.beep_mgmt.specs.Message.{message_said}
-use Rattle.beep_history.specs.declared.journal.Side.{Side}
-use Rattle.beep_history.specs.Journal.{Item, passed}
-use Rattle.beep_journal.specs.Lives.{Event, life_named}
-use Rattle.beep_journal.specs.Zero.{zero_history, zero_events, gathered, asked, coming, events}
-use Rattle.beep_journal.proofs.MomentLemmas.{apart-more}
-use Rattle.beep_decide.specs.Numbers.{other_role}
+use Rattle.beep_management.specs.beep_frame.specs.declared.head.Head.{Head}
+use Rattle.beep_management.specs.beep_frame.specs.declared.kind.Kind.{Kind}
+use Rattle.beep_management.specs.beep_frame.specs.Frame.{is_msg}
+use Rattle.beep_management.specs.beep_mgmt.specs.Form.{Form, greeting, start, chosen, close, okay, fault}
+use Rattle.beep_management.specs.beep_mgmt.specs.Message.{message_said}
+use Rattle.beep_management.specs.beep_history.specs.declared.journal.Side.{Side}
+use Rattle.beep_management.specs.beep_history.specs.Journal.{Item, passed}
+use Rattle.beep_management.specs.beep_journal.specs.Lives.{Event, life_named}
+use Rattle.beep_management.specs.beep_journal.specs.Zero.{zero_history, zero_events, gathered, asked, coming, events}
+use Rattle.beep_management.specs.beep_journal.proofs.MomentLemmas.{apart-more}
+use Rattle.beep_management.specs.beep_decide.specs.Numbers.{other_role}
 use Rattle.beep_lawful.specs.declared.terms.Terms.{Terms}
-use Rattle.beep_standing.specs.Moving.{MovesNone}
-use Rattle.beep_standing.proofs.ZeroLemmas.{coming-none}
-use Rattle.beep_asked.specs.Kept.{Kept, is_leaving}
-use Rattle.beep_asked.specs.Asked.{AreWaiting}
+use Rattle.beep_management.specs.beep_standing.specs.Moving.{MovesNone}
+use Rattle.beep_management.specs.beep_standing.proofs.ZeroLemmas.{coming-none}
+use Rattle.beep_management.specs.beep_asked.specs.Kept.{Kept, is_leaving}
+use Rattle.beep_management.specs.beep_asked.specs.Asked.{AreWaiting}
 use Rattle.beep_management.specs.Managed.{Prepared, Managed}
 use Rattle.beep_upright.specs.Turns.{reply_kinds}
 use Rattle.beep_upright.specs.Upright.{MayBegin, said_before, IsHeldBack, AreReady}

@@ -2,19 +2,19 @@
 use Rattle.std.proofs.Common.{◌≡◌, ℕ, suc, ◌+◌, ◌<◌, ◌≤◌, ◌==◌, Bool, true, ◌||◌, List, [], ◌∷◌, ◌++◌, length, reverse, Option, None, sym, ap, ◌∙◌, arith, subst}
 use Rattle.std.specs.List.{list_any}
 use Rattle.std.proofs.lemmas.List.{length-reverse}
-use Rattle.beep_frame.specs.declared.kind.Kind.{Kind}
-use Rattle.beep_mgmt.specs.Form.{Form}
-use Rattle.beep_history.specs.declared.journal.Side.{Side}
-use Rattle.beep_history.specs.Journal.{Item}
-use Rattle.beep_history.specs.Marks.{previous}
-use Rattle.beep_history.specs.Broken.{under_way}
-use Rattle.beep_journal.specs.Lives.{is_live}
-use Rattle.beep_journal.specs.Zero.{zero_history, asked, events}
-use Rattle.beep_channel.specs.Held.{Live}
-use Rattle.beep_decide.specs.Asks.{is_close_of}
-use Rattle.beep_decide.specs.Numbers.{other_role}
+use Rattle.beep_management.specs.beep_frame.specs.declared.kind.Kind.{Kind}
+use Rattle.beep_management.specs.beep_mgmt.specs.Form.{Form}
+use Rattle.beep_management.specs.beep_history.specs.declared.journal.Side.{Side}
+use Rattle.beep_management.specs.beep_history.specs.Journal.{Item}
+use Rattle.beep_management.specs.beep_history.specs.Marks.{previous}
+use Rattle.beep_management.specs.beep_history.specs.Broken.{under_way}
+use Rattle.beep_management.specs.beep_journal.specs.Lives.{is_live}
+use Rattle.beep_management.specs.beep_journal.specs.Zero.{zero_history, asked, events}
+use Rattle.beep_management.specs.beep_channel.specs.Held.{Live}
+use Rattle.beep_management.specs.beep_decide.specs.Asks.{is_close_of}
+use Rattle.beep_management.specs.beep_decide.specs.Numbers.{other_role}
 use Rattle.beep_lawful.specs.declared.terms.Terms.{Terms}
-use Rattle.beep_asked.specs.Kept.{Kept, closes, starts, is_leaving}
+use Rattle.beep_management.specs.beep_asked.specs.Kept.{Kept, closes, starts, is_leaving}
 use Rattle.beep_management.specs.Managed.{Prepared, Managed}
 use Rattle.beep_management.proofs.ListLemmas.{reverse-first}
 use Rattle.beep_upright.specs.Turns.{reply_kinds, turns, AreInTurn}

@@ -1,19 +1,19 @@
 -- When a life may end, over the items of a journal.
 use Rattle.std.proofs.Common.{◌≡◌, ℕ, suc, ◌<◌, ◌≤◌, ◌==◌, nat_lt, Bool, true, false, not, ◌&&◌, ◌||◌, if◌then◌else◌, List, [], ◌∷◌, ◌++◌, length, length-append, filter, Option, refl, sym, ap, ◌∙◌, arith}
 use Rattle.std.specs.List.{list_any}
-use Rattle.beep_frame.specs.declared.head.Head.{Head}
-use Rattle.beep_frame.specs.Frame.{is_msg}
-use Rattle.beep_history.specs.declared.journal.Side.{Side}
-use Rattle.beep_history.specs.Journal.{Item, began, passed, told, same_side}
-use Rattle.beep_history.specs.Marks.{Request, begins_request, requests, waiting, is_answered}
-use Rattle.beep_history.proofs.ListsLemmas.{IsNumbered}
-use Rattle.beep_history.proofs.SoundLemmas.{requests-numbered}
-use Rattle.beep_mgmt.specs.Form.{Form}
-use Rattle.beep_mgmt.specs.Message.{message_said}
-use Rattle.beep_journal.specs.Zero.{channel_of, zero_history, gathered, asked, said_at}
-use Rattle.beep_journal.specs.Life.{life_now, life, history}
-use Rattle.beep_journal.proofs.MomentLemmas.{apart-zero}
-use Rattle.beep_decide.specs.Asks.{is_close_of}
+use Rattle.beep_management.specs.beep_frame.specs.declared.head.Head.{Head}
+use Rattle.beep_management.specs.beep_frame.specs.Frame.{is_msg}
+use Rattle.beep_management.specs.beep_history.specs.declared.journal.Side.{Side}
+use Rattle.beep_management.specs.beep_history.specs.Journal.{Item, began, passed, told, same_side}
+use Rattle.beep_management.specs.beep_history.specs.Marks.{Request, begins_request, requests, waiting, is_answered}
+use Rattle.beep_management.specs.beep_history.proofs.ListsLemmas.{IsNumbered}
+use Rattle.beep_management.specs.beep_history.proofs.SoundLemmas.{requests-numbered}
+use Rattle.beep_management.specs.beep_mgmt.specs.Form.{Form}
+use Rattle.beep_management.specs.beep_mgmt.specs.Message.{message_said}
+use Rattle.beep_management.specs.beep_journal.specs.Zero.{channel_of, zero_history, gathered, asked, said_at}
+use Rattle.beep_management.specs.beep_journal.specs.Life.{life_now, life, history}
+use Rattle.beep_management.specs.beep_journal.proofs.MomentLemmas.{apart-zero}
+use Rattle.beep_management.specs.beep_decide.specs.Asks.{is_close_of}
 use Rattle.beep_lawful.specs.Closing.{none_waits_before, is_idle, has_begun, was_idle_since, has_other_asking, is_ready, begins_asking, asks_again, has_come, was_ready_since, was_quiet_since}
 use Rattle.beep_upright.proofs.TestLemmas.{both-one, or-true, apart-more, less-is, is-less, not-less}
 

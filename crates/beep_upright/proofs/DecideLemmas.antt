@@ -3,15 +3,15 @@
 use Rattle.std.proofs.Common.{◌≡◌, ℕ, ◌==◌, nat_le, Bool, true, false, not, ◌&&◌, ◌||◌, if◌then◌else◌, List, [], ◌∷◌, ◌++◌, refl, sym, subst}
 use Rattle.std.specs.List.{list_any, list_all}
 use Rattle.std.proofs.lemmas.List.{map-append}
-use Rattle.beep_mgmt.specs.Form.{PlainProfile}
-use Rattle.beep_history.specs.Journal.{Item}
-use Rattle.beep_journal.specs.declared.role.Role.{Role}
-use Rattle.beep_journal.specs.Lives.{is_live}
-use Rattle.beep_journal.specs.Zero.{events}
-use Rattle.beep_channel.specs.Held.{Live}
-use Rattle.beep_decide.specs.Decide.{PlainStanding, Decision, refuse, choose, grant_close, is_among, is_used, used_count, first_row, decide_profile, decide_start, decide_close, first_offered}
-use Rattle.beep_decide.specs.Numbers.{other_role, may_start}
-use Rattle.beep_turns.specs.declared.turns.TheConstants.{MAX_CHANNELS}
+use Rattle.beep_management.specs.beep_mgmt.specs.Form.{PlainProfile}
+use Rattle.beep_management.specs.beep_history.specs.Journal.{Item}
+use Rattle.beep_management.specs.beep_journal.specs.declared.role.Role.{Role}
+use Rattle.beep_management.specs.beep_journal.specs.Lives.{is_live}
+use Rattle.beep_management.specs.beep_journal.specs.Zero.{events}
+use Rattle.beep_management.specs.beep_channel.specs.Held.{Live}
+use Rattle.beep_management.specs.beep_decide.specs.Decide.{PlainStanding, Decision, refuse, choose, grant_close, is_among, is_used, used_count, first_row, decide_profile, decide_start, decide_close, first_offered}
+use Rattle.beep_management.specs.beep_decide.specs.Numbers.{other_role, may_start}
+use Rattle.beep_management.specs.beep_turns.specs.declared.turns.TheConstants.{MAX_CHANNELS}
 use Rattle.beep_management.specs.Managed.{numbers_of}
 use Rattle.beep_upright.specs.Upright.{is_free, AreApart, MayBegin}
 use Rattle.beep_upright.proofs.TestLemmas.{not-false}

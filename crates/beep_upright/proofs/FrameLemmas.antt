@@ -2,41 +2,41 @@
 use Rattle.std.proofs.Common.{◌≡◌, ℕ, suc, ◌+◌, ◌-◌, ◌≤◌, ◌==◌, nat_lt, Bool, true, false, not, ◌&&◌, ◌||◌, if◌then◌else◌, List, [], ◌∷◌, ◌++◌, length, length-append, map, drop, reverse, Option, None, Some, is_some, refl, sym, ap, ◌∙◌, arith, subst}
 use Rattle.std.specs.List.{list_any, list_all}
 use Rattle.std.proofs.lemmas.Bool.Decides.{nat_tests}
-use Rattle.beep_frame.specs.declared.head.Head.{Head}
-use Rattle.beep_frame.specs.declared.kind.Kind.{Kind}
-use Rattle.beep_frame.specs.declared.rule.Rule.{Rule}
-use Rattle.beep_frame.specs.Frame.{is_msg, is_ans, is_reply, same_kind}
-use Rattle.beep_mgmt.specs.Form.{Form, greeting, start, chosen, close, okay, fault}
-use Rattle.beep_mgmt.specs.Message.{message_said}
-use Rattle.beep_history.specs.declared.journal.Side.{Side}
-use Rattle.beep_history.specs.Journal.{Item, began, passed}
-use Rattle.beep_history.specs.Marks.{Request, requests, is_whole, position_of, previous}
-use Rattle.beep_history.specs.Broken.{under_way, KeepsExchangeRules}
-use Rattle.beep_history.proofs.SoundLemmas.{IsDue, Sound, is_open}
-use Rattle.beep_history.proofs.PassedLemmas.{sound}
-use Rattle.beep_outbox.specs.Queue.{Message, marks_of}
-use Rattle.beep_journal.specs.Lives.{Event, is_live, lives, life_named, has_release}
-use Rattle.beep_journal.specs.Zero.{zero_history, gathered, asked, said_to, completes_form, events}
-use Rattle.beep_journal.specs.Life.{is_released}
-use Rattle.beep_journal.specs.Laws.{contents}
-use Rattle.beep_journal.specs.Broken.{none_tunes, broken_content}
-use Rattle.beep_journal.proofs.JournalLemmas.{began-events}
-use Rattle.beep_channel.specs.Held.{Live, queue_ready, next_size, head_from}
-use Rattle.beep_lives.specs.Edits.{Edits, Sends}
-use Rattle.beep_decide.specs.Asks.{is_start_of, is_close_of, has_own_start, has_own_release}
-use Rattle.beep_decide.specs.Numbers.{other_role, may_start}
+use Rattle.beep_management.specs.beep_frame.specs.declared.head.Head.{Head}
+use Rattle.beep_management.specs.beep_frame.specs.declared.kind.Kind.{Kind}
+use Rattle.beep_management.specs.beep_frame.specs.declared.rule.Rule.{Rule}
+use Rattle.beep_management.specs.beep_frame.specs.Frame.{is_msg, is_ans, is_reply, same_kind}
+use Rattle.beep_management.specs.beep_mgmt.specs.Form.{Form, greeting, start, chosen, close, okay, fault}
+use Rattle.beep_management.specs.beep_mgmt.specs.Message.{message_said}
+use Rattle.beep_management.specs.beep_history.specs.declared.journal.Side.{Side}
+use Rattle.beep_management.specs.beep_history.specs.Journal.{Item, began, passed}
+use Rattle.beep_management.specs.beep_history.specs.Marks.{Request, requests, is_whole, position_of, previous}
+use Rattle.beep_management.specs.beep_history.specs.Broken.{under_way, KeepsExchangeRules}
+use Rattle.beep_management.specs.beep_history.proofs.SoundLemmas.{IsDue, Sound, is_open}
+use Rattle.beep_management.specs.beep_history.proofs.PassedLemmas.{sound}
+use Rattle.beep_management.specs.beep_outbox.specs.Queue.{Message, marks_of}
+use Rattle.beep_management.specs.beep_journal.specs.Lives.{Event, is_live, lives, life_named, has_release}
+use Rattle.beep_management.specs.beep_journal.specs.Zero.{zero_history, gathered, asked, said_to, completes_form, events}
+use Rattle.beep_management.specs.beep_journal.specs.Life.{is_released}
+use Rattle.beep_management.specs.beep_journal.specs.Laws.{contents}
+use Rattle.beep_management.specs.beep_journal.specs.Broken.{none_tunes, broken_content}
+use Rattle.beep_management.specs.beep_journal.proofs.JournalLemmas.{began-events}
+use Rattle.beep_management.specs.beep_channel.specs.Held.{Live, queue_ready, next_size, head_from}
+use Rattle.beep_management.specs.beep_lives.specs.Edits.{Edits, Sends}
+use Rattle.beep_management.specs.beep_decide.specs.Asks.{is_start_of, is_close_of, has_own_start, has_own_release}
+use Rattle.beep_management.specs.beep_decide.specs.Numbers.{other_role, may_start}
 use Rattle.beep_lawful.specs.declared.breach.Breach.{Breach}
 use Rattle.beep_lawful.specs.declared.terms.Terms.{Terms}
 use Rattle.beep_lawful.specs.Closing.{was_quiet_since, was_idle_since}
 use Rattle.beep_lawful.specs.Lawful.{breaks_content, request_said, granted_said, granted_position, breaks_ok_too_soon, breaks_close_unanswered, breaks_after_end, breaks_start_number, breaks_grant_number, breaks_close_starting, breaks_asked_drained, first_breach, unlawful_frame}
-use Rattle.beep_standing.specs.Standing.{Marks, AreLiveBy}
-use Rattle.beep_standing.proofs.SendLemmas.{sent-zero-joins}
-use Rattle.beep_spoken.specs.Spoken.{Spoken, IsSaid}
-use Rattle.beep_spoken.proofs.SpokenLemmas.{next-said}
-use Rattle.beep_asked.specs.Kept.{Kept, fits, starts, is_leaving}
-use Rattle.beep_asked.specs.Asked.{AreWaiting, EndsReply}
-use Rattle.beep_asked.proofs.QueueLemmas.{due-of}
-use Rattle.beep_asked.proofs.LawsLemmas.{header-leaves, reply-said, reply-form}
+use Rattle.beep_management.specs.beep_standing.specs.Standing.{Marks, AreLiveBy}
+use Rattle.beep_management.specs.beep_standing.proofs.SendLemmas.{sent-zero-joins}
+use Rattle.beep_management.specs.beep_spoken.specs.Spoken.{Spoken, IsSaid}
+use Rattle.beep_management.specs.beep_spoken.proofs.SpokenLemmas.{next-said}
+use Rattle.beep_management.specs.beep_asked.specs.Kept.{Kept, fits, starts, is_leaving}
+use Rattle.beep_management.specs.beep_asked.specs.Asked.{AreWaiting, EndsReply}
+use Rattle.beep_management.specs.beep_asked.proofs.QueueLemmas.{due-of}
+use Rattle.beep_management.specs.beep_asked.proofs.LawsLemmas.{header-leaves, reply-said, reply-form}
 use Rattle.beep_management.specs.Managed.{Managed, number_started, numbers_started, numbers_granted, numbers_of, requests_among, replies_among}
 use Rattle.beep_management.specs.Manages.{unsent, AreActs, AllFit, AreFresh, IsManaged}
 use Rattle.beep_management.proofs.ListLemmas.{reverse-first, drop-at, started-append, plain-at, request-first, reply-first}

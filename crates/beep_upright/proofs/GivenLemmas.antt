@@ -3,28 +3,28 @@ use Rattle.std.proofs.Common.{◌≡◌, ℕ, ◌+◌, ◌≤◌, ◌==◌, nat_
 use Rattle.std.specs.List.{list_any, list_all}
 use Rattle.std.proofs.lemmas.Bool.Decides.{nat_tests}
 use Rattle.std.proofs.lemmas.List.{length-map, length-reverse, map-append}
-use Rattle.beep_frame.specs.declared.kind.Kind.{Kind}
-use Rattle.beep_frame.specs.Frame.{is_msg, same_kind}
-use Rattle.beep_mgmt.specs.Form.{Form, PlainProfile, greeting, start, chosen, close, okay, fault}
-use Rattle.beep_history.specs.declared.journal.Side.{Side}
-use Rattle.beep_history.specs.Journal.{Item}
-use Rattle.beep_history.specs.Marks.{Request, requests, waiting, is_answered}
-use Rattle.beep_exchange.specs.Kept.{Kept as KeptOf}
-use Rattle.beep_journal.specs.declared.role.Role.{Role}
-use Rattle.beep_journal.specs.Lives.{is_live, lives}
-use Rattle.beep_journal.specs.Zero.{zero_history, asked, events}
-use Rattle.beep_journal.specs.Life.{life, is_there, history}
-use Rattle.beep_channel.specs.Held.{Live}
-use Rattle.beep_channel.specs.Stands.{Stands}
-use Rattle.beep_lives.specs.Lives.{live_at}
-use Rattle.beep_decide.specs.Asks.{is_start_of, is_close_of}
-use Rattle.beep_decide.specs.Numbers.{other_role, may_start}
+use Rattle.beep_management.specs.beep_frame.specs.declared.kind.Kind.{Kind}
+use Rattle.beep_management.specs.beep_frame.specs.Frame.{is_msg, same_kind}
+use Rattle.beep_management.specs.beep_mgmt.specs.Form.{Form, PlainProfile, greeting, start, chosen, close, okay, fault}
+use Rattle.beep_management.specs.beep_history.specs.declared.journal.Side.{Side}
+use Rattle.beep_management.specs.beep_history.specs.Journal.{Item}
+use Rattle.beep_management.specs.beep_history.specs.Marks.{Request, requests, waiting, is_answered}
+use Rattle.beep_management.specs.beep_exchange.specs.Kept.{Kept as KeptOf}
+use Rattle.beep_management.specs.beep_journal.specs.declared.role.Role.{Role}
+use Rattle.beep_management.specs.beep_journal.specs.Lives.{is_live, lives}
+use Rattle.beep_management.specs.beep_journal.specs.Zero.{zero_history, asked, events}
+use Rattle.beep_management.specs.beep_journal.specs.Life.{life, is_there, history}
+use Rattle.beep_management.specs.beep_channel.specs.Held.{Live}
+use Rattle.beep_management.specs.beep_channel.specs.Stands.{Stands}
+use Rattle.beep_management.specs.beep_lives.specs.Lives.{live_at}
+use Rattle.beep_management.specs.beep_decide.specs.Asks.{is_start_of, is_close_of}
+use Rattle.beep_management.specs.beep_decide.specs.Numbers.{other_role, may_start}
 use Rattle.beep_lawful.specs.Closing.{is_idle, was_idle_since}
 use Rattle.beep_lawful.specs.declared.terms.Terms.{Terms}
-use Rattle.beep_standing.specs.Standing.{Marks, AreLiveBy}
-use Rattle.beep_spoken.specs.Spoken.{Spoken}
-use Rattle.beep_asked.specs.Kept.{Kept, names_one, starts, is_leaving}
-use Rattle.beep_asked.specs.Asked.{AreWaiting}
+use Rattle.beep_management.specs.beep_standing.specs.Standing.{Marks, AreLiveBy}
+use Rattle.beep_management.specs.beep_spoken.specs.Spoken.{Spoken}
+use Rattle.beep_management.specs.beep_asked.specs.Kept.{Kept, names_one, starts, is_leaving}
+use Rattle.beep_management.specs.beep_asked.specs.Asked.{AreWaiting}
 use Rattle.beep_management.specs.Managed.{Managed, number_started, numbers_started, numbers_granted, numbers_of, replies_among}
 use Rattle.beep_management.specs.Manages.{unsent, IsManaged}
 use Rattle.beep_management.proofs.ListLemmas.{started-append}

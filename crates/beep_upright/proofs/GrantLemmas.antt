@@ -3,25 +3,25 @@ use Rattle.std.proofs.Common.{◌≡◌, ℕ, ◌%◌, ◌==◌, nat_lt, nat_le,
 use Rattle.std.specs.List.{list_any, list_all}
 use Rattle.std.specs.Option.{option_to_list}
 use Rattle.std.proofs.lemmas.Bool.Decides.{nat_tests}
-use Rattle.beep_frame.specs.declared.kind.Kind.{Kind}
-use Rattle.beep_frame.specs.declared.head.TheConstants.{MAX_NUMBER}
-use Rattle.beep_mgmt.specs.Form.{Form, PlainProfile, greeting, start, chosen, close, okay, fault}
-use Rattle.beep_history.specs.declared.journal.Side.{Side}
-use Rattle.beep_history.specs.Journal.{Item}
-use Rattle.beep_history.specs.Marks.{previous}
-use Rattle.beep_history.specs.Broken.{under_way}
-use Rattle.beep_journal.specs.declared.role.Role.{Role}
-use Rattle.beep_journal.specs.Lives.{Event, close_granted, is_live, lives}
-use Rattle.beep_journal.specs.Zero.{zero_history, asked, events}
-use Rattle.beep_journal.proofs.MomentLemmas.{other-start, other-start-lives, other-close, close-live}
-use Rattle.beep_channel.specs.Held.{Live}
-use Rattle.beep_decide.specs.Asks.{is_close_of}
-use Rattle.beep_decide.specs.Numbers.{other_role, may_start}
+use Rattle.beep_management.specs.beep_frame.specs.declared.kind.Kind.{Kind}
+use Rattle.beep_management.specs.beep_frame.specs.declared.head.TheConstants.{MAX_NUMBER}
+use Rattle.beep_management.specs.beep_mgmt.specs.Form.{Form, PlainProfile, greeting, start, chosen, close, okay, fault}
+use Rattle.beep_management.specs.beep_history.specs.declared.journal.Side.{Side}
+use Rattle.beep_management.specs.beep_history.specs.Journal.{Item}
+use Rattle.beep_management.specs.beep_history.specs.Marks.{previous}
+use Rattle.beep_management.specs.beep_history.specs.Broken.{under_way}
+use Rattle.beep_management.specs.beep_journal.specs.declared.role.Role.{Role}
+use Rattle.beep_management.specs.beep_journal.specs.Lives.{Event, close_granted, is_live, lives}
+use Rattle.beep_management.specs.beep_journal.specs.Zero.{zero_history, asked, events}
+use Rattle.beep_management.specs.beep_journal.proofs.MomentLemmas.{other-start, other-start-lives, other-close, close-live}
+use Rattle.beep_management.specs.beep_channel.specs.Held.{Live}
+use Rattle.beep_management.specs.beep_decide.specs.Asks.{is_close_of}
+use Rattle.beep_management.specs.beep_decide.specs.Numbers.{other_role, may_start}
 use Rattle.beep_lawful.specs.declared.terms.Terms.{Terms}
-use Rattle.beep_standing.specs.Moving.{MovesNone, BeginsLife, EndsLife, BeginsWhere, EndsWhere}
-use Rattle.beep_asked.specs.Kept.{Kept, closes, is_leaving, clear, cleared_by, after_grant}
-use Rattle.beep_asked.specs.Asked.{SaysLive}
-use Rattle.beep_asked.specs.Granting.{IsGrantedAs, IsGranted}
+use Rattle.beep_management.specs.beep_standing.specs.Moving.{MovesNone, BeginsLife, EndsLife, BeginsWhere, EndsWhere}
+use Rattle.beep_management.specs.beep_asked.specs.Kept.{Kept, closes, is_leaving, clear, cleared_by, after_grant}
+use Rattle.beep_management.specs.beep_asked.specs.Asked.{SaysLive}
+use Rattle.beep_management.specs.beep_asked.specs.Granting.{IsGrantedAs, IsGranted}
 use Rattle.beep_management.specs.Managed.{Managed, without, numbers_of}
 use Rattle.beep_management.specs.Steps.{cleared_by as answers_cleared, answers_after}
 use Rattle.beep_management.specs.Manages.{AreFresh}

@@ -2,19 +2,19 @@
 use Rattle.std.proofs.Common.{◌≡◌, ℕ, ◌<◌, ◌==◌, nat_lt, Bool, true, false, ◌&&◌, if◌then◌else◌, List, [], ◌∷◌, length, None, Some, refl, sym, ap, ◌∙◌, arith, subst}
 use Rattle.std.specs.List.{list_any, find}
 use Rattle.std.proofs.lemmas.Bool.Decides.{nat_tests}
-use Rattle.beep_text.specs.Said.{element_said}
-use Rattle.beep_frame.specs.declared.head.Head.{Head}
-use Rattle.beep_frame.specs.declared.kind.Kind.{Kind}
-use Rattle.beep_frame.specs.Frame.{is_reply, same_kind}
-use Rattle.beep_mgmt.specs.Message.{message_said}
-use Rattle.beep_history.specs.declared.journal.Side.{Side}
-use Rattle.beep_history.specs.Journal.{Item, began, passed, told, same_side}
-use Rattle.beep_history.specs.Marks.{Request, ends_reply, previous, begins_request, requests, reply}
-use Rattle.beep_history.specs.Broken.{KeepsExchangeRules}
-use Rattle.beep_history.proofs.SoundLemmas.{IsDue, Sound}
-use Rattle.beep_history.proofs.PassedLemmas.{sound}
-use Rattle.beep_journal.specs.Zero.{zero_history, asked}
-use Rattle.beep_journal.specs.Broken.{is_greeting}
+use Rattle.beep_management.specs.beep_text.specs.Said.{element_said}
+use Rattle.beep_management.specs.beep_frame.specs.declared.head.Head.{Head}
+use Rattle.beep_management.specs.beep_frame.specs.declared.kind.Kind.{Kind}
+use Rattle.beep_management.specs.beep_frame.specs.Frame.{is_reply, same_kind}
+use Rattle.beep_management.specs.beep_mgmt.specs.Message.{message_said}
+use Rattle.beep_management.specs.beep_history.specs.declared.journal.Side.{Side}
+use Rattle.beep_management.specs.beep_history.specs.Journal.{Item, began, passed, told, same_side}
+use Rattle.beep_management.specs.beep_history.specs.Marks.{Request, ends_reply, previous, begins_request, requests, reply}
+use Rattle.beep_management.specs.beep_history.specs.Broken.{KeepsExchangeRules}
+use Rattle.beep_management.specs.beep_history.proofs.SoundLemmas.{IsDue, Sound}
+use Rattle.beep_management.specs.beep_history.proofs.PassedLemmas.{sound}
+use Rattle.beep_management.specs.beep_journal.specs.Zero.{zero_history, asked}
+use Rattle.beep_management.specs.beep_journal.specs.Broken.{is_greeting}
 use Rattle.beep_upright.proofs.ClosingLemmas.{zero-requests-grow}
 
 -- ---- requests of channel zero

@@ -2,45 +2,45 @@
 use Rattle.std.proofs.Common.{◌≡◌, ℕ, ◌<◌, ◌≤◌, ◌==◌, nat_lt, Bool, true, false, not, ◌||◌, if◌then◌else◌, List, [], ◌∷◌, ◌++◌, length, map, reverse, ◌%◌, Option, None, Some, is_some, refl, sym, ap, ◌∙◌, arith, subst}
 use Rattle.std.specs.Option.{option_map_or}
 use Rattle.std.proofs.lemmas.Bool.Decides.{nat_tests}
-use Rattle.beep_frame.specs.declared.head.Head.{Head}
-use Rattle.beep_frame.specs.declared.kind.Kind.{Kind}
-use Rattle.beep_frame.specs.declared.limits.TheConstants.{MAX_PAYLOAD}
-use Rattle.beep_frame.specs.declared.rule.Rule.{Rule}
-use Rattle.beep_frame.specs.Frame.{is_msg, is_ans, is_nul, is_reply, same_kind}
-use Rattle.beep_history.specs.declared.journal.Side.{Side}
-use Rattle.beep_history.specs.Journal.{Item, began, passed, told}
-use Rattle.beep_history.specs.Marks.{first, previous, begins_request, requests, waiting, is_answered, position_of, Mark}
-use Rattle.beep_history.specs.Broken.{KeepsExchangeRules, broken_rule, first_of}
-use Rattle.beep_history.specs.Windows.{open_now}
-use Rattle.beep_history.proofs.SoundLemmas.{Sound}
-use Rattle.beep_history.proofs.PassedLemmas.{sound}
-use Rattle.beep_mgmt.specs.Form.{Form}
-use Rattle.beep_mgmt.specs.Message.{message_said}
-use Rattle.beep_exchange.specs.Kept.{Kept as KeptOf}
-use Rattle.beep_outbox.specs.Queue.{Message}
-use Rattle.beep_journal.specs.Lives.{Event, is_live, lives}
-use Rattle.beep_journal.specs.Zero.{zero_history, said_at, said_to, events}
-use Rattle.beep_journal.specs.Life.{life_now, is_there, is_released, history}
-use Rattle.beep_journal.specs.Broken.{none_tunes, is_greeting, breaks_size, breaks_no_greeting, breaks_no_such_channel, breaks_not_alone, breaks_zero_reply, or_else, broken_head}
-use Rattle.beep_journal.proofs.JournalLemmas.{began-events, told-events}
-use Rattle.beep_channel.specs.Held.{Held, Live, queue_ready, next_size, head_from}
-use Rattle.beep_channel.specs.Stands.{Stands, IsNext}
-use Rattle.beep_channel.specs.Fits.{as_number}
-use Rattle.beep_lives.specs.Lives.{live_at}
-use Rattle.beep_lives.specs.Edits.{Edits, Sends}
-use Rattle.beep_lives.proofs.ListLemmas.{live-number}
-use Rattle.beep_decide.specs.Asks.{has_own_close}
+use Rattle.beep_management.specs.beep_frame.specs.declared.head.Head.{Head}
+use Rattle.beep_management.specs.beep_frame.specs.declared.kind.Kind.{Kind}
+use Rattle.beep_management.specs.beep_frame.specs.declared.limits.TheConstants.{MAX_PAYLOAD}
+use Rattle.beep_management.specs.beep_frame.specs.declared.rule.Rule.{Rule}
+use Rattle.beep_management.specs.beep_frame.specs.Frame.{is_msg, is_ans, is_nul, is_reply, same_kind}
+use Rattle.beep_management.specs.beep_history.specs.declared.journal.Side.{Side}
+use Rattle.beep_management.specs.beep_history.specs.Journal.{Item, began, passed, told}
+use Rattle.beep_management.specs.beep_history.specs.Marks.{first, previous, begins_request, requests, waiting, is_answered, position_of, Mark}
+use Rattle.beep_management.specs.beep_history.specs.Broken.{KeepsExchangeRules, broken_rule, first_of}
+use Rattle.beep_management.specs.beep_history.specs.Windows.{open_now}
+use Rattle.beep_management.specs.beep_history.proofs.SoundLemmas.{Sound}
+use Rattle.beep_management.specs.beep_history.proofs.PassedLemmas.{sound}
+use Rattle.beep_management.specs.beep_mgmt.specs.Form.{Form}
+use Rattle.beep_management.specs.beep_mgmt.specs.Message.{message_said}
+use Rattle.beep_management.specs.beep_exchange.specs.Kept.{Kept as KeptOf}
+use Rattle.beep_management.specs.beep_outbox.specs.Queue.{Message}
+use Rattle.beep_management.specs.beep_journal.specs.Lives.{Event, is_live, lives}
+use Rattle.beep_management.specs.beep_journal.specs.Zero.{zero_history, said_at, said_to, events}
+use Rattle.beep_management.specs.beep_journal.specs.Life.{life_now, is_there, is_released, history}
+use Rattle.beep_management.specs.beep_journal.specs.Broken.{none_tunes, is_greeting, breaks_size, breaks_no_greeting, breaks_no_such_channel, breaks_not_alone, breaks_zero_reply, or_else, broken_head}
+use Rattle.beep_management.specs.beep_journal.proofs.JournalLemmas.{began-events, told-events}
+use Rattle.beep_management.specs.beep_channel.specs.Held.{Held, Live, queue_ready, next_size, head_from}
+use Rattle.beep_management.specs.beep_channel.specs.Stands.{Stands, IsNext}
+use Rattle.beep_management.specs.beep_channel.specs.Fits.{as_number}
+use Rattle.beep_management.specs.beep_lives.specs.Lives.{live_at}
+use Rattle.beep_management.specs.beep_lives.specs.Edits.{Edits, Sends}
+use Rattle.beep_management.specs.beep_lives.proofs.ListLemmas.{live-number}
+use Rattle.beep_management.specs.beep_decide.specs.Asks.{has_own_close}
 use Rattle.beep_lawful.specs.declared.breach.Breach.{Breach}
 use Rattle.beep_lawful.specs.declared.limits.TheConstants.{MESSAGE_NUMBERS}
 use Rattle.beep_lawful.specs.declared.terms.Terms.{Terms}
 use Rattle.beep_lawful.specs.Lawful.{is_apart, breaks_rule, breaks_room, begins_own, breaks_own_number, breaks_asked_closing, breaks_beside_tuning, breaks_after_end, first_breach, unlawful_head}
-use Rattle.beep_standing.specs.Standing.{Marks, AreLiveBy}
-use Rattle.beep_standing.specs.Moving.{MovesNone, Granted, GrantedWhere, is_grant}
-use Rattle.beep_standing.proofs.DueLemmas.{sent-there, sent-next}
-use Rattle.beep_standing.proofs.MovesLemmas.{frame-moves}
-use Rattle.beep_standing.proofs.ZeroLemmas.{none-live}
-use Rattle.beep_spoken.specs.Spoken.{Spoken}
-use Rattle.beep_asked.specs.Kept.{Kept, fits, closes, is_leaving}
+use Rattle.beep_management.specs.beep_standing.specs.Standing.{Marks, AreLiveBy}
+use Rattle.beep_management.specs.beep_standing.specs.Moving.{MovesNone, Granted, GrantedWhere, is_grant}
+use Rattle.beep_management.specs.beep_standing.proofs.DueLemmas.{sent-there, sent-next}
+use Rattle.beep_management.specs.beep_standing.proofs.MovesLemmas.{frame-moves}
+use Rattle.beep_management.specs.beep_standing.proofs.ZeroLemmas.{none-live}
+use Rattle.beep_management.specs.beep_spoken.specs.Spoken.{Spoken}
+use Rattle.beep_management.specs.beep_asked.specs.Kept.{Kept, fits, closes, is_leaving}
 use Rattle.beep_management.specs.Managed.{Managed, requests_among, replies_among}
 use Rattle.beep_management.specs.Manages.{AreActs, AllFit, IsManaged}
 use Rattle.beep_management.proofs.ListLemmas.{request-first, reply-first}

@@ -2,14 +2,14 @@
 use Rattle.std.proofs.Common.{◌≡◌, ℕ, ◌==◌, nat_lt, Bool, true, false, not, ◌&&◌, ◌||◌, if◌then◌else◌, List, [], ◌∷◌, length, filter, Option, None, Some, refl, sym, ap, ◌∙◌, arith, subst}
 use Rattle.std.specs.List.{list_any}
 use Rattle.std.proofs.lemmas.Bool.Decides.{nat_tests}
-use Rattle.beep_mgmt.specs.Form.{Form, greeting, start, chosen, close, okay, fault}
-use Rattle.beep_history.specs.declared.journal.Side.{Side}
-use Rattle.beep_history.specs.Journal.{Item, began, passed, told}
-use Rattle.beep_history.specs.Marks.{Request, requests, waiting, reply, ends_reply, is_answered, answers}
-use Rattle.beep_journal.specs.Lives.{lives, life_named}
-use Rattle.beep_journal.specs.Zero.{channel_of, zero_history, events}
-use Rattle.beep_journal.specs.Life.{is_of_life, life}
-use Rattle.beep_decide.specs.Asks.{is_close_of}
+use Rattle.beep_management.specs.beep_mgmt.specs.Form.{Form, greeting, start, chosen, close, okay, fault}
+use Rattle.beep_management.specs.beep_history.specs.declared.journal.Side.{Side}
+use Rattle.beep_management.specs.beep_history.specs.Journal.{Item, began, passed, told}
+use Rattle.beep_management.specs.beep_history.specs.Marks.{Request, requests, waiting, reply, ends_reply, is_answered, answers}
+use Rattle.beep_management.specs.beep_journal.specs.Lives.{lives, life_named}
+use Rattle.beep_management.specs.beep_journal.specs.Zero.{channel_of, zero_history, events}
+use Rattle.beep_management.specs.beep_journal.specs.Life.{is_of_life, life}
+use Rattle.beep_management.specs.beep_decide.specs.Asks.{is_close_of}
 use Rattle.beep_lawful.specs.Closing.{none_waits_before, is_idle, has_begun, was_idle_since, asks_again, was_quiet_since}
 use Rattle.beep_upright.specs.Upright.{WasIdle, WasQuiet}
 use Rattle.beep_upright.proofs.TestLemmas.{or-true, not-true, same-number}

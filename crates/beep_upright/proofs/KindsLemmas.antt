@@ -3,28 +3,28 @@ use Rattle.std.proofs.Common.{◌≡◌, ℕ, suc, ◌+◌, ◌≤◌, nat_lt, B
 use Rattle.std.specs.Option.{option_map_or}
 use Rattle.std.proofs.lemmas.Bool.Decides.{nat_tests}
 use Rattle.std.proofs.lemmas.List.{length-map, length-reverse}
-use Rattle.beep_frame.specs.declared.head.Head.{Head}
-use Rattle.beep_frame.specs.declared.kind.Kind.{Kind}
-use Rattle.beep_frame.specs.Frame.{is_msg}
-use Rattle.beep_history.specs.declared.journal.Side.{Side}
-use Rattle.beep_history.specs.Journal.{Item}
-use Rattle.beep_history.specs.Marks.{marks, mark_modulo_2_64, requests, previous}
-use Rattle.beep_history.specs.Broken.{under_way}
-use Rattle.beep_history.proofs.SoundLemmas.{Sound, is_open}
-use Rattle.beep_history.proofs.PassedLemmas.{sound}
-use Rattle.beep_exchange.specs.Kept.{Kept as KeptOf}
-use Rattle.beep_outbox.specs.Queue.{Message, marks_of}
-use Rattle.beep_journal.specs.Zero.{zero_history, asked}
-use Rattle.beep_journal.specs.Laws.{contents}
-use Rattle.beep_journal.proofs.PiecesLemmas.{are-cut}
-use Rattle.beep_channel.specs.Held.{Live}
-use Rattle.beep_channel.specs.Stands.{Stands}
-use Rattle.beep_channel.specs.Fits.{as_number, asks as asks_in}
-use Rattle.beep_channel.specs.Sums.{is_partly}
-use Rattle.beep_lives.specs.Lives.{live_at}
-use Rattle.beep_spoken.specs.Spoken.{Spoken, kinds_of}
-use Rattle.beep_standing.specs.Standing.{Marks, AreLive}
-use Rattle.beep_asked.specs.Kept.{Kept}
+use Rattle.beep_management.specs.beep_frame.specs.declared.head.Head.{Head}
+use Rattle.beep_management.specs.beep_frame.specs.declared.kind.Kind.{Kind}
+use Rattle.beep_management.specs.beep_frame.specs.Frame.{is_msg}
+use Rattle.beep_management.specs.beep_history.specs.declared.journal.Side.{Side}
+use Rattle.beep_management.specs.beep_history.specs.Journal.{Item}
+use Rattle.beep_management.specs.beep_history.specs.Marks.{marks, mark_modulo_2_64, requests, previous}
+use Rattle.beep_management.specs.beep_history.specs.Broken.{under_way}
+use Rattle.beep_management.specs.beep_history.proofs.SoundLemmas.{Sound, is_open}
+use Rattle.beep_management.specs.beep_history.proofs.PassedLemmas.{sound}
+use Rattle.beep_management.specs.beep_exchange.specs.Kept.{Kept as KeptOf}
+use Rattle.beep_management.specs.beep_outbox.specs.Queue.{Message, marks_of}
+use Rattle.beep_management.specs.beep_journal.specs.Zero.{zero_history, asked}
+use Rattle.beep_management.specs.beep_journal.specs.Laws.{contents}
+use Rattle.beep_management.specs.beep_journal.proofs.PiecesLemmas.{are-cut}
+use Rattle.beep_management.specs.beep_channel.specs.Held.{Live}
+use Rattle.beep_management.specs.beep_channel.specs.Stands.{Stands}
+use Rattle.beep_management.specs.beep_channel.specs.Fits.{as_number, asks as asks_in}
+use Rattle.beep_management.specs.beep_channel.specs.Sums.{is_partly}
+use Rattle.beep_management.specs.beep_lives.specs.Lives.{live_at}
+use Rattle.beep_management.specs.beep_spoken.specs.Spoken.{Spoken, kinds_of}
+use Rattle.beep_management.specs.beep_standing.specs.Standing.{Marks, AreLive}
+use Rattle.beep_management.specs.beep_asked.specs.Kept.{Kept}
 use Rattle.beep_management.specs.Managed.{Prepared, Managed, requests_among, replies_among}
 use Rattle.beep_management.specs.Manages.{unsent, AreActs, ArePrepared, IsManaged}
 use Rattle.beep_management.proofs.ListLemmas.{fit-count}

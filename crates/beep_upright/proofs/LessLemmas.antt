@@ -3,21 +3,21 @@ use Rattle.std.proofs.Common.{◌≡◌, ℕ, ◌+◌, ◌≤◌, ◌==◌, nat_
 use Rattle.std.specs.List.{list_any, list_all}
 use Rattle.std.proofs.lemmas.Bool.Decides.{nat_tests}
 use Rattle.std.proofs.lemmas.List.{reverse-reverse}
-use Rattle.beep_frame.specs.declared.kind.Kind.{Kind}
-use Rattle.beep_frame.specs.Frame.{is_msg}
-use Rattle.beep_mgmt.specs.Form.{Form, greeting, start, chosen, close, okay, fault}
-use Rattle.beep_history.specs.declared.journal.Side.{Side}
-use Rattle.beep_history.specs.Journal.{Item}
-use Rattle.beep_history.specs.Marks.{previous}
-use Rattle.beep_history.specs.Broken.{under_way}
-use Rattle.beep_journal.specs.declared.role.Role.{Role}
-use Rattle.beep_journal.specs.Lives.{is_live}
-use Rattle.beep_journal.specs.Zero.{zero_history, asked, events}
-use Rattle.beep_channel.specs.Held.{Live}
-use Rattle.beep_decide.specs.Asks.{is_start_of, is_close_of}
-use Rattle.beep_decide.specs.Numbers.{other_role, may_start}
+use Rattle.beep_management.specs.beep_frame.specs.declared.kind.Kind.{Kind}
+use Rattle.beep_management.specs.beep_frame.specs.Frame.{is_msg}
+use Rattle.beep_management.specs.beep_mgmt.specs.Form.{Form, greeting, start, chosen, close, okay, fault}
+use Rattle.beep_management.specs.beep_history.specs.declared.journal.Side.{Side}
+use Rattle.beep_management.specs.beep_history.specs.Journal.{Item}
+use Rattle.beep_management.specs.beep_history.specs.Marks.{previous}
+use Rattle.beep_management.specs.beep_history.specs.Broken.{under_way}
+use Rattle.beep_management.specs.beep_journal.specs.declared.role.Role.{Role}
+use Rattle.beep_management.specs.beep_journal.specs.Lives.{is_live}
+use Rattle.beep_management.specs.beep_journal.specs.Zero.{zero_history, asked, events}
+use Rattle.beep_management.specs.beep_channel.specs.Held.{Live}
+use Rattle.beep_management.specs.beep_decide.specs.Asks.{is_start_of, is_close_of}
+use Rattle.beep_management.specs.beep_decide.specs.Numbers.{other_role, may_start}
 use Rattle.beep_lawful.specs.declared.terms.Terms.{Terms}
-use Rattle.beep_asked.specs.Kept.{Kept, names_one, closes, closes_one, starts, is_leaving}
+use Rattle.beep_management.specs.beep_asked.specs.Kept.{Kept, names_one, closes, closes_one, starts, is_leaving}
 use Rattle.beep_management.specs.Managed.{Prepared, Managed, numbers_of}
 use Rattle.beep_management.proofs.ListLemmas.{reverse-last}
 use Rattle.beep_upright.specs.Turns.{answers as answers_turn, reply_kinds, turns, AreInTurn}

@@ -1,11 +1,11 @@
 -- What is given or comes joins what is ready.
 use Rattle.std.proofs.Common.{◌≡◌, suc, ◌≤◌, Bool, true, false, not, ◌&&◌, if◌then◌else◌, List, [], ◌∷◌, ◌++◌, length, filter, refl, ap, arith}
 use Rattle.std.specs.List.{list_all}
-use Rattle.beep_frame.specs.declared.kind.Kind.{Kind}
-use Rattle.beep_frame.specs.Frame.{is_msg}
-use Rattle.beep_history.specs.Marks.{requests}
-use Rattle.beep_journal.specs.Zero.{asked}
-use Rattle.beep_asked.specs.Kept.{Kept}
+use Rattle.beep_management.specs.beep_frame.specs.declared.kind.Kind.{Kind}
+use Rattle.beep_management.specs.beep_frame.specs.Frame.{is_msg}
+use Rattle.beep_management.specs.beep_history.specs.Marks.{requests}
+use Rattle.beep_management.specs.beep_journal.specs.Zero.{asked}
+use Rattle.beep_management.specs.beep_asked.specs.Kept.{Kept}
 use Rattle.beep_upright.specs.Turns.{Turn, asks as asks_turn, answers as answers_turn, reply_kinds, first_said, after_first, turns, may_precede, AreInTurn}
 use Rattle.beep_upright.proofs.TestLemmas.{both-one, both-two}
 

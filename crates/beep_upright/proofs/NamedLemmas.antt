@@ -2,22 +2,22 @@
 use Rattle.std.proofs.Common.{◌≡◌, ℕ, ◌+◌, ◌<◌, ◌≤◌, ◌==◌, nat_lt, nat_le, Bool, true, false, not, ◌&&◌, ◌||◌, if◌then◌else◌, List, [], ◌∷◌, ◌++◌, length, Option, None, Some, refl, sym, ap, subst, arith}
 use Rattle.std.specs.Option.{is_none}
 use Rattle.std.proofs.lemmas.Bool.Decides.{nat_tests}
-use Rattle.beep_frame.specs.declared.head.Head.{Head}
-use Rattle.beep_frame.specs.declared.head.TheConstants.{MAX_NUMBER}
-use Rattle.beep_frame.specs.declared.kind.Kind.{Kind}
-use Rattle.beep_frame.specs.Frame.{is_msg, same_kind}
-use Rattle.beep_mgmt.specs.Form.{Form, greeting, start, chosen, close, okay, fault}
-use Rattle.beep_mgmt.specs.Message.{message_said}
-use Rattle.beep_text.specs.Said.{element_said}
-use Rattle.beep_history.specs.declared.journal.Side.{Side}
-use Rattle.beep_history.specs.Journal.{Item, began, passed, told, other}
-use Rattle.beep_history.specs.Marks.{position_of}
-use Rattle.beep_journal.specs.declared.role.Role.{Role}
-use Rattle.beep_journal.specs.Lives.{Event, close_came, start_granted, close_granted, lives, has_ended, is_live}
-use Rattle.beep_journal.specs.Zero.{zero_history, gathered, asked, said_at, said_to, completes_form, coming, granting, effect, zero_events, events}
-use Rattle.beep_journal.specs.Life.{is_there}
-use Rattle.beep_journal.specs.Broken.{none_tunes}
-use Rattle.beep_decide.specs.Numbers.{has_parity, other_role, may_start}
+use Rattle.beep_management.specs.beep_frame.specs.declared.head.Head.{Head}
+use Rattle.beep_management.specs.beep_frame.specs.declared.head.TheConstants.{MAX_NUMBER}
+use Rattle.beep_management.specs.beep_frame.specs.declared.kind.Kind.{Kind}
+use Rattle.beep_management.specs.beep_frame.specs.Frame.{is_msg, same_kind}
+use Rattle.beep_management.specs.beep_mgmt.specs.Form.{Form, greeting, start, chosen, close, okay, fault}
+use Rattle.beep_management.specs.beep_mgmt.specs.Message.{message_said}
+use Rattle.beep_management.specs.beep_text.specs.Said.{element_said}
+use Rattle.beep_management.specs.beep_history.specs.declared.journal.Side.{Side}
+use Rattle.beep_management.specs.beep_history.specs.Journal.{Item, began, passed, told, other}
+use Rattle.beep_management.specs.beep_history.specs.Marks.{position_of}
+use Rattle.beep_management.specs.beep_journal.specs.declared.role.Role.{Role}
+use Rattle.beep_management.specs.beep_journal.specs.Lives.{Event, close_came, start_granted, close_granted, lives, has_ended, is_live}
+use Rattle.beep_management.specs.beep_journal.specs.Zero.{zero_history, gathered, asked, said_at, said_to, completes_form, coming, granting, effect, zero_events, events}
+use Rattle.beep_management.specs.beep_journal.specs.Life.{is_there}
+use Rattle.beep_management.specs.beep_journal.specs.Broken.{none_tunes}
+use Rattle.beep_management.specs.beep_decide.specs.Numbers.{has_parity, other_role, may_start}
 use Rattle.beep_lawful.specs.declared.breach.Breach.{Breach}
 use Rattle.beep_lawful.specs.declared.terms.Terms.{Terms}
 use Rattle.beep_lawful.specs.Lawful.{breaks_start_number, breaks_grant_number, request_said, granted_said, unlawful_frame, unlawful_item, is_lawful, IsLawful}

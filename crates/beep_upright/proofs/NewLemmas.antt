@@ -1,11 +1,11 @@
 -- A new session is upright once its greeting is given.
 use Rattle.std.proofs.Common.{◌≡◌, ℕ, true, false, List, [], ◌∷◌, refl, ◌∙◌, subst, sym}
-use Rattle.beep_frame.specs.declared.kind.Kind.{Kind}
+use Rattle.beep_management.specs.beep_frame.specs.declared.kind.Kind.{Kind}
 use Rattle.beep_lawful.specs.declared.terms.Terms.{Terms}
-use Rattle.beep_asked.specs.Kept.{implied_request}
-use Rattle.beep_channel.specs.Held.{Live}
-use Rattle.beep_decide.specs.Numbers.{other_role}
-use Rattle.beep_journal.specs.declared.role.Role.{Role}
+use Rattle.beep_management.specs.beep_asked.specs.Kept.{implied_request}
+use Rattle.beep_management.specs.beep_channel.specs.Held.{Live}
+use Rattle.beep_management.specs.beep_decide.specs.Numbers.{other_role}
+use Rattle.beep_management.specs.beep_journal.specs.declared.role.Role.{Role}
 use Rattle.beep_management.specs.Managed.{Managed}
 use Rattle.beep_upright.specs.Upright.{MayBegin, AreReady}
 

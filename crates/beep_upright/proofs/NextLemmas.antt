@@ -1,21 +1,21 @@
 -- The message of channel zero that goes out next is the first that isn't sent.
 use Rattle.std.proofs.Common.{◌≡◌, ℕ, suc, ◌==◌, Bool, true, false, ◌||◌, if◌then◌else◌, List, [], ◌∷◌, ◌++◌, length, map, drop, reverse, Option, None, refl, sym, ap, ◌∙◌, subst}
 use Rattle.std.proofs.lemmas.List.{reverse-reverse}
-use Rattle.beep_frame.specs.declared.kind.Kind.{Kind}
-use Rattle.beep_frame.specs.declared.tag.Tag.{Tag}
-use Rattle.beep_frame.specs.Frame.{is_ans, is_nul}
-use Rattle.beep_mgmt.specs.Form.{Form}
-use Rattle.beep_history.specs.declared.journal.Side.{Side}
-use Rattle.beep_history.specs.Journal.{Item, began, passed, told}
-use Rattle.beep_history.specs.Marks.{Mark, octet, end, marks, mark_modulo_2_64, previous}
-use Rattle.beep_history.specs.Broken.{KeepsExchangeRules}
-use Rattle.beep_outbox.specs.Queue.{Message, marks_of}
-use Rattle.beep_channel.specs.Held.{Held, queue_ready, is_held_ready, next_head}
-use Rattle.beep_journal.specs.Zero.{zero_history}
-use Rattle.beep_journal.specs.Laws.{contents, pieces_from}
-use Rattle.beep_journal.proofs.PiecesLemmas.{are-cut}
-use Rattle.beep_spoken.specs.Spoken.{Spoken, kinds_of, AreSpoken}
-use Rattle.beep_asked.specs.Kept.{Kept, fits}
+use Rattle.beep_management.specs.beep_frame.specs.declared.kind.Kind.{Kind}
+use Rattle.beep_management.specs.beep_frame.specs.declared.tag.Tag.{Tag}
+use Rattle.beep_management.specs.beep_frame.specs.Frame.{is_ans, is_nul}
+use Rattle.beep_management.specs.beep_mgmt.specs.Form.{Form}
+use Rattle.beep_management.specs.beep_history.specs.declared.journal.Side.{Side}
+use Rattle.beep_management.specs.beep_history.specs.Journal.{Item, began, passed, told}
+use Rattle.beep_management.specs.beep_history.specs.Marks.{Mark, octet, end, marks, mark_modulo_2_64, previous}
+use Rattle.beep_management.specs.beep_history.specs.Broken.{KeepsExchangeRules}
+use Rattle.beep_management.specs.beep_outbox.specs.Queue.{Message, marks_of}
+use Rattle.beep_management.specs.beep_channel.specs.Held.{Held, queue_ready, is_held_ready, next_head}
+use Rattle.beep_management.specs.beep_journal.specs.Zero.{zero_history}
+use Rattle.beep_management.specs.beep_journal.specs.Laws.{contents, pieces_from}
+use Rattle.beep_management.specs.beep_journal.proofs.PiecesLemmas.{are-cut}
+use Rattle.beep_management.specs.beep_spoken.specs.Spoken.{Spoken, kinds_of, AreSpoken}
+use Rattle.beep_management.specs.beep_asked.specs.Kept.{Kept, fits}
 use Rattle.beep_management.specs.Manages.{unsent}
 use Rattle.beep_management.proofs.ListLemmas.{reverse-first}
 

@@ -3,25 +3,25 @@ use Rattle.std.proofs.Common.{◌≡◌, ℕ, suc, ◌+◌, ◌≤◌, ◌==◌,
 use Rattle.std.specs.List.{list_any, list_all}
 use Rattle.std.proofs.lemmas.Bool.Decides.{nat_tests}
 use Rattle.std.proofs.lemmas.List.{length-reverse, map-append}
-use Rattle.beep_frame.specs.declared.head.Head.{Head}
-use Rattle.beep_frame.specs.declared.kind.Kind.{Kind}
-use Rattle.beep_frame.specs.Frame.{is_msg}
-use Rattle.beep_mgmt.specs.Form.{Form, greeting, start, chosen, close, okay, fault}
-use Rattle.beep_mgmt.specs.Message.{message_said}
-use Rattle.beep_history.specs.declared.journal.Side.{Side}
-use Rattle.beep_history.specs.Journal.{Item, began, passed}
-use Rattle.beep_history.specs.Broken.{KeepsExchangeRules}
-use Rattle.beep_journal.specs.Lives.{Event, is_live, life_named}
-use Rattle.beep_journal.specs.Zero.{zero_history, zero_events, gathered, asked, coming, events}
-use Rattle.beep_journal.specs.Life.{is_there}
-use Rattle.beep_journal.proofs.JournalLemmas.{began-events}
-use Rattle.beep_channel.specs.Held.{Live}
-use Rattle.beep_decide.specs.Asks.{is_start_of, is_close_of}
-use Rattle.beep_decide.specs.Numbers.{other_role}
+use Rattle.beep_management.specs.beep_frame.specs.declared.head.Head.{Head}
+use Rattle.beep_management.specs.beep_frame.specs.declared.kind.Kind.{Kind}
+use Rattle.beep_management.specs.beep_frame.specs.Frame.{is_msg}
+use Rattle.beep_management.specs.beep_mgmt.specs.Form.{Form, greeting, start, chosen, close, okay, fault}
+use Rattle.beep_management.specs.beep_mgmt.specs.Message.{message_said}
+use Rattle.beep_management.specs.beep_history.specs.declared.journal.Side.{Side}
+use Rattle.beep_management.specs.beep_history.specs.Journal.{Item, began, passed}
+use Rattle.beep_management.specs.beep_history.specs.Broken.{KeepsExchangeRules}
+use Rattle.beep_management.specs.beep_journal.specs.Lives.{Event, is_live, life_named}
+use Rattle.beep_management.specs.beep_journal.specs.Zero.{zero_history, zero_events, gathered, asked, coming, events}
+use Rattle.beep_management.specs.beep_journal.specs.Life.{is_there}
+use Rattle.beep_management.specs.beep_journal.proofs.JournalLemmas.{began-events}
+use Rattle.beep_management.specs.beep_channel.specs.Held.{Live}
+use Rattle.beep_management.specs.beep_decide.specs.Asks.{is_start_of, is_close_of}
+use Rattle.beep_management.specs.beep_decide.specs.Numbers.{other_role}
 use Rattle.beep_lawful.specs.declared.terms.Terms.{Terms}
-use Rattle.beep_standing.specs.Moving.{MovesNone}
-use Rattle.beep_asked.specs.Kept.{Kept, names_one, new_kept, closes, closes_one, starts, is_leaving}
-use Rattle.beep_asked.specs.Asked.{AreWaiting, SaysLive}
+use Rattle.beep_management.specs.beep_standing.specs.Moving.{MovesNone}
+use Rattle.beep_management.specs.beep_asked.specs.Kept.{Kept, names_one, new_kept, closes, closes_one, starts, is_leaving}
+use Rattle.beep_management.specs.beep_asked.specs.Asked.{AreWaiting, SaysLive}
 use Rattle.beep_management.specs.Managed.{Prepared, Managed, number_started}
 use Rattle.beep_management.specs.Steps.{PassesAct}
 use Rattle.beep_management.proofs.ListLemmas.{reverse-last}

@@ -4,29 +4,29 @@ use Rattle.std.specs.List.{list_any, list_all}
 use Rattle.std.specs.Option.{option_to_list}
 use Rattle.std.proofs.lemmas.Bool.Decides.{nat_tests}
 use Rattle.std.proofs.lemmas.List.{length-map, length-reverse, map-append}
-use Rattle.beep_frame.specs.declared.head.Head.{Head}
-use Rattle.beep_frame.specs.declared.kind.Kind.{Kind}
-use Rattle.beep_frame.specs.declared.head.TheConstants.{MAX_NUMBER}
-use Rattle.beep_frame.specs.Frame.{is_msg, same_kind}
-use Rattle.beep_mgmt.specs.Form.{Form, PlainProfile, greeting, start, chosen, close, okay, fault}
-use Rattle.beep_mgmt.specs.Message.{message_said}
-use Rattle.beep_history.specs.declared.journal.Side.{Side}
-use Rattle.beep_history.specs.Journal.{Item, began, passed, other, same_side}
-use Rattle.beep_history.specs.Marks.{requests, previous, position_of}
-use Rattle.beep_history.specs.Broken.{under_way}
-use Rattle.beep_journal.specs.Lives.{Event, start_granted, is_live, lives, life_named}
-use Rattle.beep_journal.specs.Zero.{zero_history, zero_events, gathered, asked, said_to, completes_form, coming, granting, events}
-use Rattle.beep_journal.specs.Life.{life}
-use Rattle.beep_journal.proofs.JournalLemmas.{began-events}
-use Rattle.beep_channel.specs.Held.{Live}
-use Rattle.beep_decide.specs.Asks.{is_start_of, is_close_of}
-use Rattle.beep_decide.specs.Numbers.{other_role, may_start}
+use Rattle.beep_management.specs.beep_frame.specs.declared.head.Head.{Head}
+use Rattle.beep_management.specs.beep_frame.specs.declared.kind.Kind.{Kind}
+use Rattle.beep_management.specs.beep_frame.specs.declared.head.TheConstants.{MAX_NUMBER}
+use Rattle.beep_management.specs.beep_frame.specs.Frame.{is_msg, same_kind}
+use Rattle.beep_management.specs.beep_mgmt.specs.Form.{Form, PlainProfile, greeting, start, chosen, close, okay, fault}
+use Rattle.beep_management.specs.beep_mgmt.specs.Message.{message_said}
+use Rattle.beep_management.specs.beep_history.specs.declared.journal.Side.{Side}
+use Rattle.beep_management.specs.beep_history.specs.Journal.{Item, began, passed, other, same_side}
+use Rattle.beep_management.specs.beep_history.specs.Marks.{requests, previous, position_of}
+use Rattle.beep_management.specs.beep_history.specs.Broken.{under_way}
+use Rattle.beep_management.specs.beep_journal.specs.Lives.{Event, start_granted, is_live, lives, life_named}
+use Rattle.beep_management.specs.beep_journal.specs.Zero.{zero_history, zero_events, gathered, asked, said_to, completes_form, coming, granting, events}
+use Rattle.beep_management.specs.beep_journal.specs.Life.{life}
+use Rattle.beep_management.specs.beep_journal.proofs.JournalLemmas.{began-events}
+use Rattle.beep_management.specs.beep_channel.specs.Held.{Live}
+use Rattle.beep_management.specs.beep_decide.specs.Asks.{is_start_of, is_close_of}
+use Rattle.beep_management.specs.beep_decide.specs.Numbers.{other_role, may_start}
 use Rattle.beep_lawful.specs.Closing.{is_idle, was_idle_since, was_quiet_since}
 use Rattle.beep_lawful.specs.declared.terms.Terms.{Terms}
-use Rattle.beep_standing.specs.Moving.{MovesNone}
-use Rattle.beep_asked.specs.Kept.{Kept, starts, is_leaving, clear_one, cleared_by, after_grant}
-use Rattle.beep_asked.specs.Asked.{SaysLive}
-use Rattle.beep_asked.specs.Granting.{IsGranted}
+use Rattle.beep_management.specs.beep_standing.specs.Moving.{MovesNone}
+use Rattle.beep_management.specs.beep_asked.specs.Kept.{Kept, starts, is_leaving, clear_one, cleared_by, after_grant}
+use Rattle.beep_management.specs.beep_asked.specs.Asked.{SaysLive}
+use Rattle.beep_management.specs.beep_asked.specs.Granting.{IsGranted}
 use Rattle.beep_management.specs.Managed.{Managed, number_started, numbers_of}
 use Rattle.beep_management.specs.Manages.{AreFresh}
 use Rattle.beep_management.specs.Steps.{TakesMine, TakesTheirs}

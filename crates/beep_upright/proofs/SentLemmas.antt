@@ -1,19 +1,19 @@
 -- Frames that go out and end no message of channel zero leave what is ready so.
 use Rattle.std.proofs.Common.{◌≡◌, ℕ, ◌+◌, ◌<◌, ◌==◌, true, false, not, ◌&&◌, List, ◌∷◌, ◌++◌, length, reverse, None, Some, refl, ap, ◌∙◌}
-use Rattle.beep_frame.specs.declared.head.Head.{Head}
-use Rattle.beep_frame.specs.declared.kind.Kind.{Kind}
-use Rattle.beep_frame.specs.Frame.{same_kind}
-use Rattle.beep_history.specs.declared.journal.Side.{Side}
-use Rattle.beep_history.specs.Journal.{Item, began, passed}
-use Rattle.beep_history.specs.Marks.{begins_request}
-use Rattle.beep_history.specs.Broken.{KeepsExchangeRules}
-use Rattle.beep_journal.specs.Lives.{Event, is_live, lives, life_named}
-use Rattle.beep_journal.specs.Zero.{zero_history, asked, events}
-use Rattle.beep_journal.specs.Life.{is_there, history}
-use Rattle.beep_journal.proofs.JournalLemmas.{began-events}
+use Rattle.beep_management.specs.beep_frame.specs.declared.head.Head.{Head}
+use Rattle.beep_management.specs.beep_frame.specs.declared.kind.Kind.{Kind}
+use Rattle.beep_management.specs.beep_frame.specs.Frame.{same_kind}
+use Rattle.beep_management.specs.beep_history.specs.declared.journal.Side.{Side}
+use Rattle.beep_management.specs.beep_history.specs.Journal.{Item, began, passed}
+use Rattle.beep_management.specs.beep_history.specs.Marks.{begins_request}
+use Rattle.beep_management.specs.beep_history.specs.Broken.{KeepsExchangeRules}
+use Rattle.beep_management.specs.beep_journal.specs.Lives.{Event, is_live, lives, life_named}
+use Rattle.beep_management.specs.beep_journal.specs.Zero.{zero_history, asked, events}
+use Rattle.beep_management.specs.beep_journal.specs.Life.{is_there, history}
+use Rattle.beep_management.specs.beep_journal.proofs.JournalLemmas.{began-events}
 use Rattle.beep_lawful.specs.declared.terms.Terms.{Terms}
-use Rattle.beep_asked.specs.Kept.{Kept, names_one}
-use Rattle.beep_asked.specs.Asked.{names_life, AreWaiting}
+use Rattle.beep_management.specs.beep_asked.specs.Kept.{Kept, names_one}
+use Rattle.beep_management.specs.beep_asked.specs.Asked.{names_life, AreWaiting}
 use Rattle.beep_management.specs.Managed.{Managed}
 use Rattle.beep_upright.specs.Turns.{reply_kinds}
 use Rattle.beep_upright.specs.Upright.{WasIdle, all_asked, WasQuiet, IsLetGo, place_of, AreReady}

@@ -1,28 +1,28 @@
 -- A SEQ that goes out is lawful.
 use Rattle.std.proofs.Common.{◌≡◌, ℕ, ◌+◌, ◌-◌, true, false, List, Option, None, Some, is_some, refl, sym, ap, ◌∙◌, arith, subst}
-use Rattle.beep_frame.specs.declared.seq.Seq.{Seq}
-use Rattle.beep_seq.specs.Wire.{wire_number}
-use Rattle.beep_seq.specs.Due.{is_seq_due}
-use Rattle.beep_history.specs.declared.journal.Side.{Side}
-use Rattle.beep_history.specs.Journal.{Item}
-use Rattle.beep_history.specs.Marks.{passed_octets}
-use Rattle.beep_history.specs.Broken.{under_way}
-use Rattle.beep_history.specs.Windows.{greatest_edge}
-use Rattle.beep_journal.specs.Life.{is_there, is_released, history}
-use Rattle.beep_journal.specs.Broken.{none_tunes}
-use Rattle.beep_channel.specs.Held.{Held, Live}
-use Rattle.beep_channel.specs.Stands.{Stands, taken_octets}
-use Rattle.beep_channel.proofs.CallLemmas.{due-is}
-use Rattle.beep_lives.specs.Lives.{live_at}
-use Rattle.beep_lives.specs.Edits.{Edits, Tells}
-use Rattle.beep_lives.proofs.ListLemmas.{live-number}
-use Rattle.beep_decide.specs.Asks.{is_greeted}
+use Rattle.beep_management.specs.beep_frame.specs.declared.seq.Seq.{Seq}
+use Rattle.beep_management.specs.beep_seq.specs.Wire.{wire_number}
+use Rattle.beep_management.specs.beep_seq.specs.Due.{is_seq_due}
+use Rattle.beep_management.specs.beep_history.specs.declared.journal.Side.{Side}
+use Rattle.beep_management.specs.beep_history.specs.Journal.{Item}
+use Rattle.beep_management.specs.beep_history.specs.Marks.{passed_octets}
+use Rattle.beep_management.specs.beep_history.specs.Broken.{under_way}
+use Rattle.beep_management.specs.beep_history.specs.Windows.{greatest_edge}
+use Rattle.beep_management.specs.beep_journal.specs.Life.{is_there, is_released, history}
+use Rattle.beep_management.specs.beep_journal.specs.Broken.{none_tunes}
+use Rattle.beep_management.specs.beep_channel.specs.Held.{Held, Live}
+use Rattle.beep_management.specs.beep_channel.specs.Stands.{Stands, taken_octets}
+use Rattle.beep_management.specs.beep_channel.proofs.CallLemmas.{due-is}
+use Rattle.beep_management.specs.beep_lives.specs.Lives.{live_at}
+use Rattle.beep_management.specs.beep_lives.specs.Edits.{Edits, Tells}
+use Rattle.beep_management.specs.beep_lives.proofs.ListLemmas.{live-number}
+use Rattle.beep_management.specs.beep_decide.specs.Asks.{is_greeted}
 use Rattle.beep_lawful.specs.declared.terms.Terms.{Terms}
 use Rattle.beep_lawful.specs.Lawful.{unlawful_seq, IsLawful}
 use Rattle.beep_lawful.specs.Due.{due}
 use Rattle.beep_lawful.proofs.DueLemmas.{due-lawful}
-use Rattle.beep_standing.specs.Standing.{Marks, AreLiveBy}
-use Rattle.beep_standing.proofs.EachLemmas.{past-by, to-each}
+use Rattle.beep_management.specs.beep_standing.specs.Standing.{Marks, AreLiveBy}
+use Rattle.beep_management.specs.beep_standing.proofs.EachLemmas.{past-by, to-each}
 use Rattle.beep_upright.proofs.TestLemmas.{not-tuning, goes-on}
 
 -- the channel of a number stands for the history of its life

@@ -1,22 +1,22 @@
 -- Items that end no message of channel zero leave what is ready so.
 use Rattle.std.proofs.Common.{◌≡◌, ℕ, ◌+◌, ◌==◌, Bool, true, false, not, ◌&&◌, ◌||◌, if◌then◌else◌, List, ◌∷◌, ◌++◌, length, reverse, Option, None, refl, sym, ap, ◌∙◌, subst}
 use Rattle.std.specs.Option.{option_map_or}
-use Rattle.beep_frame.specs.declared.head.Head.{Head}
-use Rattle.beep_frame.specs.declared.kind.Kind.{Kind}
-use Rattle.beep_frame.specs.declared.seq.Seq.{Seq}
-use Rattle.beep_frame.specs.Frame.{is_msg, same_kind}
-use Rattle.beep_mgmt.specs.Form.{Form}
-use Rattle.beep_mgmt.specs.Message.{message_said}
-use Rattle.beep_history.specs.declared.journal.Side.{Side}
-use Rattle.beep_history.specs.Journal.{Item, began, passed, told, same_side}
-use Rattle.beep_history.specs.Marks.{previous, first}
-use Rattle.beep_history.specs.Broken.{under_way}
-use Rattle.beep_journal.specs.Lives.{Event, is_live, lives, life_named}
-use Rattle.beep_journal.specs.Zero.{zero_history, zero_events, gathered, asked, events}
-use Rattle.beep_journal.proofs.JournalLemmas.{began-events, told-events, above-events}
-use Rattle.beep_asked.specs.Kept.{Kept, names_one}
-use Rattle.beep_asked.specs.Asked.{AreWaiting}
-use Rattle.beep_asked.proofs.LawsLemmas.{part-events}
+use Rattle.beep_management.specs.beep_frame.specs.declared.head.Head.{Head}
+use Rattle.beep_management.specs.beep_frame.specs.declared.kind.Kind.{Kind}
+use Rattle.beep_management.specs.beep_frame.specs.declared.seq.Seq.{Seq}
+use Rattle.beep_management.specs.beep_frame.specs.Frame.{is_msg, same_kind}
+use Rattle.beep_management.specs.beep_mgmt.specs.Form.{Form}
+use Rattle.beep_management.specs.beep_mgmt.specs.Message.{message_said}
+use Rattle.beep_management.specs.beep_history.specs.declared.journal.Side.{Side}
+use Rattle.beep_management.specs.beep_history.specs.Journal.{Item, began, passed, told, same_side}
+use Rattle.beep_management.specs.beep_history.specs.Marks.{previous, first}
+use Rattle.beep_management.specs.beep_history.specs.Broken.{under_way}
+use Rattle.beep_management.specs.beep_journal.specs.Lives.{Event, is_live, lives, life_named}
+use Rattle.beep_management.specs.beep_journal.specs.Zero.{zero_history, zero_events, gathered, asked, events}
+use Rattle.beep_management.specs.beep_journal.proofs.JournalLemmas.{began-events, told-events, above-events}
+use Rattle.beep_management.specs.beep_asked.specs.Kept.{Kept, names_one}
+use Rattle.beep_management.specs.beep_asked.specs.Asked.{AreWaiting}
+use Rattle.beep_management.specs.beep_asked.proofs.LawsLemmas.{part-events}
 use Rattle.beep_lawful.specs.declared.terms.Terms.{Terms}
 use Rattle.beep_management.specs.Managed.{Managed}
 use Rattle.beep_upright.specs.Turns.{reply_kinds, turns, AreInTurn}

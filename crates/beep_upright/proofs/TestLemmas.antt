@@ -2,16 +2,16 @@
 use Rattle.std.proofs.Common.{◌≡◌, ℕ, ◌<◌, ◌≤◌, ◌==◌, nat_lt, Bool, true, false, not, ◌&&◌, ◌||◌, List, [], ◌∷◌, length, filter, refl, arith}
 use Rattle.std.proofs.lemmas.Bool.Decides.{nat_tests}
 use Rattle.std.specs.List.{list_any}
-use Rattle.beep_frame.specs.declared.head.Head.{Head}
-use Rattle.beep_frame.specs.declared.kind.Kind.{Kind}
-use Rattle.beep_frame.specs.Frame.{same_kind}
-use Rattle.beep_history.specs.declared.journal.Side.{Side}
-use Rattle.beep_history.specs.Journal.{Item, began, passed, told}
-use Rattle.beep_history.specs.Marks.{requests, waiting, is_answered}
-use Rattle.beep_journal.specs.Zero.{zero_history, said_to, completes_form}
-use Rattle.beep_journal.specs.Life.{is_released}
-use Rattle.beep_journal.specs.Broken.{none_tunes, breaks_not_alone}
-use Rattle.beep_decide.specs.Asks.{is_start}
+use Rattle.beep_management.specs.beep_frame.specs.declared.head.Head.{Head}
+use Rattle.beep_management.specs.beep_frame.specs.declared.kind.Kind.{Kind}
+use Rattle.beep_management.specs.beep_frame.specs.Frame.{same_kind}
+use Rattle.beep_management.specs.beep_history.specs.declared.journal.Side.{Side}
+use Rattle.beep_management.specs.beep_history.specs.Journal.{Item, began, passed, told}
+use Rattle.beep_management.specs.beep_history.specs.Marks.{requests, waiting, is_answered}
+use Rattle.beep_management.specs.beep_journal.specs.Zero.{zero_history, said_to, completes_form}
+use Rattle.beep_management.specs.beep_journal.specs.Life.{is_released}
+use Rattle.beep_management.specs.beep_journal.specs.Broken.{none_tunes, breaks_not_alone}
+use Rattle.beep_management.specs.beep_decide.specs.Asks.{is_start}
 use Rattle.beep_lawful.specs.declared.terms.Terms.{Terms}
 use Rattle.beep_lawful.specs.Tuned.{is_tuning, has_tuned}
 use Rattle.beep_lawful.specs.Lawful.{begins_own, breaks_beside_tuning, breaks_after_end, same_flag, same_head, breaks_apart}

@@ -2,15 +2,15 @@
 use Rattle.std.proofs.Common.{◌≡◌, ℕ, suc, ◌+◌, ◌<◌, ◌==◌, nat_lt, Bool, true, false, not, ◌&&◌, ◌||◌, List, [], ◌∷◌, length, Option, None, Some, refl, sym, ap, ◌∙◌, arith, subst}
 use Rattle.std.specs.List.{list_any}
 use Rattle.std.proofs.lemmas.Bool.Decides.{nat_tests}
-use Rattle.beep_mgmt.specs.Form.{Form, greeting, start, chosen, close, okay, fault}
-use Rattle.beep_history.specs.declared.journal.Side.{Side}
-use Rattle.beep_history.specs.Journal.{Item}
-use Rattle.beep_history.specs.Marks.{is_answered}
-use Rattle.beep_journal.specs.Lives.{Event, lives, is_live, life_named}
-use Rattle.beep_journal.specs.Zero.{zero_history, asked, events}
-use Rattle.beep_decide.specs.Asks.{is_start_of, is_close_of, has_waiting, has_own_start, has_own_release, has_close_among, has_own_close}
-use Rattle.beep_asked.specs.Kept.{Kept, closes_one, closes, starts, is_leaving}
-use Rattle.beep_asked.specs.Asked.{names_live, names_life, AreAsked, AreWaiting}
+use Rattle.beep_management.specs.beep_mgmt.specs.Form.{Form, greeting, start, chosen, close, okay, fault}
+use Rattle.beep_management.specs.beep_history.specs.declared.journal.Side.{Side}
+use Rattle.beep_management.specs.beep_history.specs.Journal.{Item}
+use Rattle.beep_management.specs.beep_history.specs.Marks.{is_answered}
+use Rattle.beep_management.specs.beep_journal.specs.Lives.{Event, lives, is_live, life_named}
+use Rattle.beep_management.specs.beep_journal.specs.Zero.{zero_history, asked, events}
+use Rattle.beep_management.specs.beep_decide.specs.Asks.{is_start_of, is_close_of, has_waiting, has_own_start, has_own_release, has_close_among, has_own_close}
+use Rattle.beep_management.specs.beep_asked.specs.Kept.{Kept, closes_one, closes, starts, is_leaving}
+use Rattle.beep_management.specs.beep_asked.specs.Asked.{names_live, names_life, AreAsked, AreWaiting}
 use Rattle.beep_upright.proofs.TestLemmas.{and-false, or-true, equal-number, is-less}
 
 -- the requests are the last of those that say these things and wait

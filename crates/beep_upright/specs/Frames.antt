@@ -2,8 +2,8 @@
 -- RFC 3081, section 3.1).
 -- The code keeps no journal: what arrives was read as a frame, and what goes out is one.
 use Rattle.std.specs.Prelude.{List, [], ◌∷◌}
-use Rattle.beep_frame.specs.Frame.{framed, IsHead, IsFrame, IsSeq}
-use Rattle.beep_history.specs.Journal.{Item, began, passed, told}
+use Rattle.beep_management.specs.beep_frame.specs.Frame.{framed, IsHead, IsFrame, IsSeq}
+use Rattle.beep_management.specs.beep_history.specs.Journal.{Item, began, passed, told}
 use Rattle.beep_speaking.specs.declared.emit.Emit.{Emit}
 
 -- each item is a frame, a SEQ, or the header of a frame

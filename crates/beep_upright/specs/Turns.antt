@@ -3,13 +3,13 @@
 -- The code tests none of this as it sends: each call that gives keeps it so.
 use Rattle.std.specs.Prelude.{◌≡◌, ℕ, Bool, true, not, ◌&&◌, ◌||◌, if◌then◌else◌, List, [], ◌∷◌, map, filter, Option, None, Some}
 use Rattle.std.specs.List.{list_any, list_all}
-use Rattle.beep_frame.specs.declared.kind.Kind.{Kind}
-use Rattle.beep_frame.specs.Frame.{is_msg, same_kind}
-use Rattle.beep_mgmt.specs.Form.{Form}
-use Rattle.beep_channel.specs.Held.{Live}
-use Rattle.beep_lives.specs.Lives.{live_at}
-use Rattle.beep_decide.specs.Asks.{is_close_of}
-use Rattle.beep_asked.specs.Kept.{Kept}
+use Rattle.beep_management.specs.beep_frame.specs.declared.kind.Kind.{Kind}
+use Rattle.beep_management.specs.beep_frame.specs.Frame.{is_msg, same_kind}
+use Rattle.beep_management.specs.beep_mgmt.specs.Form.{Form}
+use Rattle.beep_management.specs.beep_channel.specs.Held.{Live}
+use Rattle.beep_management.specs.beep_lives.specs.Lives.{live_at}
+use Rattle.beep_management.specs.beep_decide.specs.Asks.{is_close_of}
+use Rattle.beep_management.specs.beep_asked.specs.Kept.{Kept}
 use Rattle.beep_management.specs.Managed.{number_started}
 
 -- ---- what a channel has unsent

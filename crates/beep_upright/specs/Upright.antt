@@ -6,24 +6,24 @@
 use Rattle.std.specs.Prelude.{◌≡◌, ℕ, ◌+◌, ◌-◌, ◌==◌, Bool, true, false, not, ◌&&◌, ◌||◌, if◌then◌else◌, List, [], ◌∷◌, ◌++◌, length, map, reverse, Option, None, Some}
 use Rattle.std.specs.List.{list_any, list_all}
 use Rattle.std.specs.Option.{option_map_or}
-use Rattle.beep_frame.specs.declared.kind.Kind.{Kind}
-use Rattle.beep_frame.specs.Frame.{same_kind}
-use Rattle.beep_mgmt.specs.Form.{Form, greeting, start, chosen, close, okay, fault}
-use Rattle.beep_history.specs.declared.journal.Side.{Side}
-use Rattle.beep_history.specs.Journal.{Item}
-use Rattle.beep_history.specs.Marks.{first, previous}
-use Rattle.beep_history.specs.Broken.{under_way}
-use Rattle.beep_channel.specs.Held.{Live}
-use Rattle.beep_lives.specs.Lives.{live_at}
-use Rattle.beep_journal.specs.declared.role.Role.{Role}
-use Rattle.beep_journal.specs.Lives.{is_live, lives, life_named}
-use Rattle.beep_journal.specs.Zero.{zero_history, asked, events}
-use Rattle.beep_journal.specs.Life.{is_there}
-use Rattle.beep_decide.specs.Asks.{is_close_of}
-use Rattle.beep_decide.specs.Numbers.{other_role, may_start}
+use Rattle.beep_management.specs.beep_frame.specs.declared.kind.Kind.{Kind}
+use Rattle.beep_management.specs.beep_frame.specs.Frame.{same_kind}
+use Rattle.beep_management.specs.beep_mgmt.specs.Form.{Form, greeting, start, chosen, close, okay, fault}
+use Rattle.beep_management.specs.beep_history.specs.declared.journal.Side.{Side}
+use Rattle.beep_management.specs.beep_history.specs.Journal.{Item}
+use Rattle.beep_management.specs.beep_history.specs.Marks.{first, previous}
+use Rattle.beep_management.specs.beep_history.specs.Broken.{under_way}
+use Rattle.beep_management.specs.beep_channel.specs.Held.{Live}
+use Rattle.beep_management.specs.beep_lives.specs.Lives.{live_at}
+use Rattle.beep_management.specs.beep_journal.specs.declared.role.Role.{Role}
+use Rattle.beep_management.specs.beep_journal.specs.Lives.{is_live, lives, life_named}
+use Rattle.beep_management.specs.beep_journal.specs.Zero.{zero_history, asked, events}
+use Rattle.beep_management.specs.beep_journal.specs.Life.{is_there}
+use Rattle.beep_management.specs.beep_decide.specs.Asks.{is_close_of}
+use Rattle.beep_management.specs.beep_decide.specs.Numbers.{other_role, may_start}
 use Rattle.beep_lawful.specs.declared.terms.Terms.{Terms}
 use Rattle.beep_lawful.specs.Closing.{is_idle, was_idle_since, was_quiet_since}
-use Rattle.beep_asked.specs.Kept.{Kept, names_one, closes, closes_one, starts, is_leaving}
+use Rattle.beep_management.specs.beep_asked.specs.Kept.{Kept, names_one, closes, closes_one, starts, is_leaving}
 use Rattle.beep_management.specs.declared.wait.Wait.{Wait}
 use Rattle.beep_management.specs.Managed.{Prepared, Managed, numbers_of}
 use Rattle.beep_upright.specs.Turns.{kinds_at, reply_kinds, turns, AreInTurn}

@@ -1,22 +1,22 @@
 //! What goes out of an end that is upright is lawful over its whole journal: each function does
 //! nothing, and its contract is the fact.
 ghost use Rattle.std.specs.Prelude.{◌≡◌, ◌≤◌, ℕ, ◌∷◌, List, true, false, None};
-ghost use Rattle.beep_frame.specs.declared.head.Head.{Head};
-ghost use Rattle.beep_frame.specs.declared.head.TheConstants.{MAX_NUMBER};
-ghost use Rattle.beep_frame.specs.declared.seq.Seq.{Seq};
-ghost use Rattle.beep_frame.specs.declared.limits.TheConstants.{MAX_PAYLOAD};
-ghost use Rattle.beep_frame.specs.Frame.{IsHead, IsSeq};
-ghost use Rattle.beep_history.specs.declared.journal.Side.{Side};
-ghost use Rattle.beep_history.specs.Journal.{Item, began, passed, told};
-ghost use Rattle.beep_history.specs.Broken.{under_way};
-ghost use Rattle.beep_journal.specs.Life.{is_released};
-ghost use Rattle.beep_journal.specs.Broken.{none_tunes};
-ghost use Rattle.beep_channel.specs.Held.{Live};
-ghost use Rattle.beep_lives.specs.Edits.{Edits, Sends, Tells};
-ghost use Rattle.beep_decide.specs.Asks.{is_greeted};
+ghost use Rattle.beep_management.specs.beep_frame.specs.declared.head.Head.{Head};
+ghost use Rattle.beep_management.specs.beep_frame.specs.declared.head.TheConstants.{MAX_NUMBER};
+ghost use Rattle.beep_management.specs.beep_frame.specs.declared.seq.Seq.{Seq};
+ghost use Rattle.beep_management.specs.beep_frame.specs.declared.limits.TheConstants.{MAX_PAYLOAD};
+ghost use Rattle.beep_management.specs.beep_frame.specs.Frame.{IsHead, IsSeq};
+ghost use Rattle.beep_management.specs.beep_history.specs.declared.journal.Side.{Side};
+ghost use Rattle.beep_management.specs.beep_history.specs.Journal.{Item, began, passed, told};
+ghost use Rattle.beep_management.specs.beep_history.specs.Broken.{under_way};
+ghost use Rattle.beep_management.specs.beep_journal.specs.Life.{is_released};
+ghost use Rattle.beep_management.specs.beep_journal.specs.Broken.{none_tunes};
+ghost use Rattle.beep_management.specs.beep_channel.specs.Held.{Live};
+ghost use Rattle.beep_management.specs.beep_lives.specs.Edits.{Edits, Sends, Tells};
+ghost use Rattle.beep_management.specs.beep_decide.specs.Asks.{is_greeted};
 ghost use Rattle.beep_lawful.specs.declared.terms.Terms.{Terms};
 ghost use Rattle.beep_lawful.specs.Lawful.{unlawful_head, unlawful_frame, unlawful_seq, IsLawful};
-ghost use Rattle.beep_standing.specs.Standing.{Marks, AreLiveBy};
+ghost use Rattle.beep_management.specs.beep_standing.specs.Standing.{Marks, AreLiveBy};
 ghost use Rattle.beep_management.specs.Managed.{Managed};
 ghost use Rattle.beep_management.specs.Manages.{Manages};
 ghost use Rattle.beep_upright.specs.Upright.{IsUpright};

@@ -5,3 +5,12 @@
 #![tactic(auto)]
 
 pub mod laws;
+
+// Crates below, which are named through this one.
+pub use beep_lawful;
+pub use beep_management;
+pub use beep_management::{
+    beep_asked, beep_channel, beep_chars, beep_decide, beep_frame, beep_history, beep_inbox,
+    beep_journal, beep_lives, beep_mgmt, beep_octets, beep_outbox, beep_seq, beep_text, beep_turns,
+};
+pub use beep_speaking;

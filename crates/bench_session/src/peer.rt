@@ -1,10 +1,10 @@
 //! Sessions that are made for a run.
 
 use crate::stop::Stop;
-use beep_chars::Text;
-use beep_decide::Offer;
-use beep_journal::Role;
-use beep_seq::{MAX_WINDOW, MIN_WINDOW};
+use beep_session::beep_chars::Text;
+use beep_session::beep_decide::Offer;
+use beep_session::beep_journal::Role;
+use beep_session::beep_seq::{MAX_WINDOW, MIN_WINDOW};
 use beep_session::{Limits, MAX_PIECE, Offers, Session, is_uri, one_profile};
 use std::alloc::Global;
 

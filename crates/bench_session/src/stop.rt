@@ -1,5 +1,5 @@
 //! Why a run stops early.
-use beep_octets::NoMemory;
+use beep_session::beep_octets::NoMemory;
 
 /// Why a run stops early.
 #[derive(Clone, Copy, Debug)]

@@ -2,11 +2,11 @@
 
 use crate::peer::{a_peer, start};
 use crate::stop::Stop;
-use beep_frame::Kind;
-use beep_journal::Role;
-use beep_octets::Octets;
+use beep_session::beep_frame::Kind;
+use beep_session::beep_journal::Role;
+use beep_session::beep_octets::Octets;
+use beep_session::beep_speaking::Emit;
 use beep_session::{Duty, Event, Limits, MAX_PIECE, Session};
-use beep_speaking::Emit;
 use std::alloc::Global;
 
 /// The octets that go over a wire at once, and room for one frame more.

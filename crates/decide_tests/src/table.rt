@@ -95,7 +95,7 @@ fn standing_of(alloc: Global, text: &str) -> Result<Standing, Fail> {
 }
 
 /// The answer in a word and a number: a code, or the place of an offer.
-fn told(answer: &Answer) -> (&'static str, usize) {
+fn spelled(answer: &Answer) -> (&'static str, usize) {
     match answer {
         Answer::Refuse(code) => ("ERR", *code as usize),
         Answer::Choose(place) => ("choose", *place),
@@ -108,7 +108,7 @@ fn told(answer: &Answer) -> (&'static str, usize) {
 fn answer_to(alloc: Global, text: &str, word: &'static str) -> Result<(&'static str, usize), Fail> {
     let request = request_of(alloc, word, 0)?;
     let answer = decide(alloc, &standing_of(alloc, text)?, request.as_ref())?;
-    Ok(told(&answer))
+    Ok(spelled(&answer))
 }
 
 /// The first row whose answer is another one.
@@ -190,7 +190,7 @@ fn a_request_that_is_too_large_is_answered_500(rt: HostRuntime) -> Result<(), Fa
     for (size, wanted) in [(65536, ("choose", 0)), (65537, ("ERR", 500))] {
         let request = request_of(rt.alloc(), "start1", size)?;
         let answer = decide(rt.alloc(), &standing(rt.alloc())?, request.as_ref())?;
-        assert_eq!(rt; told(&answer), wanted, "at {size}");
+        assert_eq!(rt; spelled(&answer), wanted, "at {size}");
     }
     Ok(())
 }

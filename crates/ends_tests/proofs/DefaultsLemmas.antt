@@ -1,12 +1,12 @@
 -- A session can be held with what holds where no option is set.
 use Rattle.std.proofs.Common.{◌≡◌, ℕ, ◌≤◌, ◌<◌, true, refl, sym, ap, subst, arith}
-use Rattle.beep_seq.specs.declared.limits.TheConstants.{MIN_WINDOW, MAX_WINDOW}
-use Rattle.beep_settings.specs.declared.limits.TheConstants.{MAX_PIECE}
-use Rattle.beep_answering.specs.Sent.{is_uri}
-use Rattle.beep_settings.specs.declared.settings.Settings.{Settings}
-use Rattle.beep_settings.specs.declared.settings.TheConstants.{RAW_URI}
-use Rattle.beep_settings.specs.Defaults.{default_settings}
-use Rattle.beep_steps.specs.Ends.{AreFit}
+use Rattle.beep_listener.specs.beep_seq.specs.declared.limits.TheConstants.{MIN_WINDOW, MAX_WINDOW}
+use Rattle.beep_listener.specs.beep_settings.specs.declared.limits.TheConstants.{MAX_PIECE}
+use Rattle.beep_listener.specs.beep_answering.specs.Sent.{is_uri}
+use Rattle.beep_listener.specs.beep_settings.specs.declared.settings.Settings.{Settings}
+use Rattle.beep_listener.specs.beep_settings.specs.declared.settings.TheConstants.{RAW_URI}
+use Rattle.beep_listener.specs.beep_settings.specs.Defaults.{default_settings}
+use Rattle.beep_listener.specs.beep_steps.specs.Ends.{AreFit}
 use Rattle.beep_listener.proofs.NoteLemmas.{plain}
 
 pub fit-defaults : (s : Settings) → s ≡ default_settings → (idle octets : ℕ) → AreFit (record s { idle = idle; octets = octets })

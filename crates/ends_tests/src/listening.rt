@@ -2,10 +2,10 @@
 ghost use Rattle.std.specs.Prelude.{◌≡◌, true};
 
 use crate::samples::{LINES, LISTENER, SENDER, add, octets_of};
+use beep_listener::beep_memory::MemWires;
+use beep_listener::beep_settings::{OCTETS, Settings};
+use beep_listener::beep_wires::{Fails, MemSink, Wires};
 use beep_listener::{Ended, listen_end};
-use beep_memory::MemWires;
-use beep_settings::{OCTETS, Settings};
-use beep_wires::{Fails, MemSink, Wires};
 use std::alloc::Global;
 use std::process::Abort;
 use std::test::Fail;

@@ -2,8 +2,8 @@
 //! 3164, section 5.4.
 ghost use Rattle.std.specs.Prelude.{◌≡◌, true};
 
-use beep_memory::{Give, Gives, MemWires};
-use beep_octets::{NoMemory, Octets};
+use beep_listener::beep_memory::{Give, Gives, MemWires};
+use beep_listener::beep_octets::{NoMemory, Octets};
 use std::alloc::Global;
 
 /// What a listener says. `|` parts the pieces.

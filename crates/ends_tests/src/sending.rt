@@ -2,13 +2,13 @@
 ghost use Rattle.std.specs.Prelude.{◌≡◌, true};
 
 use crate::samples::{LINES, LISTENER, SENDER, add, octets_of};
-use beep_frame::Rule;
-use beep_memory::MemWires;
-use beep_octets::NoMemory;
+use beep_listener::beep_frame::Rule;
+use beep_listener::beep_memory::MemWires;
+use beep_listener::beep_octets::NoMemory;
+use beep_listener::beep_settings::Settings;
+use beep_listener::beep_wires::{Fails, Wires};
+use beep_listener::prof_raw::Entries;
 use beep_sender::{Ended, send_end};
-use beep_settings::Settings;
-use beep_wires::{Fails, Wires};
-use prof_raw::Entries;
 use std::alloc::Global;
 use std::process::Abort;
 use std::test::Fail;

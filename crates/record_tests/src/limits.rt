@@ -158,8 +158,8 @@ fn verdict_of(alloc: Global, text: &str) -> Result<Option<Verdict>, Fail> {
     let log = read_record(alloc, text.as_bytes())?;
     let mut out = Octets::new(alloc);
     let verdict = replay(alloc, &log, &mut out)?;
-    let (told, whole) = replay_text(alloc, text.as_bytes())?;
-    let same = told == verdict && whole.as_slice() == out.as_slice();
+    let (judged, whole) = replay_text(alloc, text.as_bytes())?;
+    let same = judged == verdict && whole.as_slice() == out.as_slice();
     Ok(if same { Some(verdict) } else { None })
 }
 

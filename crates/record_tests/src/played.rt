@@ -71,11 +71,11 @@ fn holds(alloc: Global, role: &str, session: &RecordedSession) -> Result<bool, F
     let text = record_of(alloc, role, session.lines)?;
     let report = report_of(alloc, session.report)?;
     let log = read_record(alloc, text.as_bytes())?;
-    let (told, whole) = replay_text(alloc, text.as_bytes())?;
+    let (judged, whole) = replay_text(alloc, text.as_bytes())?;
     let wanted = Some(session.verdict);
     let pieces = in_octets(alloc, &log)?;
     Ok(
-        told == session.verdict
+        judged == session.verdict
             && whole.as_slice() == report.as_bytes()
             && shown(alloc, &log, report.as_bytes())? == wanted
             && shown(alloc, &pieces, report.as_bytes())? == wanted,

@@ -33,10 +33,10 @@ fn shows(alloc: Global, lines: &[u8], after: &[u8]) -> Result<Option<Verdict>, N
     };
     let mut out = Octets::new(alloc);
     let verdict = replay(alloc, &log, &mut out)?;
-    let Ok((told, whole)) = replay_text(alloc, text.as_slice()) else {
+    let Ok((judged, whole)) = replay_text(alloc, text.as_slice()) else {
         return Ok(None);
     };
-    let same = told == verdict && whole.as_slice() == report.as_slice();
+    let same = judged == verdict && whole.as_slice() == report.as_slice();
     if same && out.as_slice() == report.as_slice() {
         Ok(Some(verdict))
     } else {

@@ -9,12 +9,12 @@ mod peer;
 mod preparing;
 mod saying;
 
-use beep_chars::Text;
-use beep_decide::Offer;
-use beep_frame::Rule;
-use beep_journal::Role;
-use beep_octets::Octets;
-use beep_seq::{MAX_WINDOW, MIN_WINDOW};
+use beep_session::beep_chars::Text;
+use beep_session::beep_decide::Offer;
+use beep_session::beep_frame::Rule;
+use beep_session::beep_journal::Role;
+use beep_session::beep_octets::Octets;
+use beep_session::beep_seq::{MAX_WINDOW, MIN_WINDOW};
 use beep_session::{Limits, MAX_PIECE, Offers, Session, is_uri};
 use std::alloc::Global;
 use std::test::Fail;

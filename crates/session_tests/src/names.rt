@@ -1,8 +1,8 @@
 //! What is noted of answers: names, numbers and codes.
 
-use beep_channel::AskError;
-use beep_frame::{Kind, Rule};
-use beep_outbox::GiveError;
+use beep_session::beep_channel::AskError;
+use beep_session::beep_frame::{Kind, Rule};
+use beep_session::beep_outbox::GiveError;
 use beep_session::{CloseError, ReleaseError, StartError};
 use std::test::Fail;
 

@@ -3,8 +3,8 @@
 use crate::dice::Dice;
 use crate::end::NUMBERS;
 use crate::world::kind_of;
-use beep_frame::Kind;
-use beep_seq::{MAX_WINDOW, MIN_WINDOW};
+use beep_session::beep_frame::Kind;
+use beep_session::beep_seq::{MAX_WINDOW, MIN_WINDOW};
 use beep_session::{Limits, MAX_PIECE};
 use try_book::Who;
 

@@ -1,19 +1,19 @@
 //! One end of a run: its session, the octets that it sent, and what it does.
 
-use beep_channel::AskError;
-use beep_chars::Text;
-use beep_decide::Offer;
-use beep_frame::Kind;
-use beep_history::Side;
-use beep_journal::Role;
-use beep_lawful::Terms;
-use beep_octets::Octets;
-use beep_outbox::GiveError;
-use beep_seq::{MAX_WINDOW, MIN_WINDOW};
+use beep_session::beep_channel::AskError;
+use beep_session::beep_chars::Text;
+use beep_session::beep_decide::Offer;
+use beep_session::beep_frame::Kind;
+use beep_session::beep_history::Side;
+use beep_session::beep_journal::Role;
+use beep_session::beep_lawful::Terms;
+use beep_session::beep_octets::Octets;
+use beep_session::beep_outbox::GiveError;
+use beep_session::beep_seq::{MAX_WINDOW, MIN_WINDOW};
+use beep_session::beep_speaking::Emit;
 use beep_session::{
     Duty, Event, Limits, MAX_PIECE, Offers, ReleaseError, Session, Settled, is_uri, one_profile,
 };
-use beep_speaking::Emit;
 use std::alloc::Global;
 use try_book::{Book, Fault, Log, Stop, Who, octet_of};
 

@@ -3,8 +3,8 @@
 use crate::act::{Act, Length, Mood, draw, drawn_mood};
 use crate::dice::Dice;
 use crate::end::{End, MOST_TAKEN, NUMBERS};
-use beep_frame::Kind;
 use beep_session::MAX_PIECE;
+use beep_session::beep_frame::Kind;
 use std::alloc::Global;
 use try_book::{Book, Fault, Stop, Who};
 

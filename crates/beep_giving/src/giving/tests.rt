@@ -1,11 +1,11 @@
 //! Requests that a program gives in a life of a peer in memory.
 use super::ask;
-use beep_channel::{AskError, Channel};
-use beep_hearing::Ear;
-use beep_lives::Lives;
-use beep_management::Management;
-use beep_octets::Octets;
 use beep_peer::Peer;
+use beep_peer::beep_channel::{AskError, Channel};
+use beep_peer::beep_hearing::Ear;
+use beep_peer::beep_lives::Lives;
+use beep_peer::beep_management::Management;
+use beep_peer::beep_octets::Octets;
 use std::alloc::Global;
 use std::process::Abort;
 use std::test::Fail;

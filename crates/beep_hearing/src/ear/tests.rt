@@ -7,9 +7,9 @@ ghost use Rattle.beep_hearing.specs.Answers.{IsReached, IsWaiting};
 use super::Ear;
 use crate::heard::Heard;
 use crate::laws::a_new_ear_stands;
-use beep_frame::{Head, Kind, Rule};
-use beep_lives::Lives;
-use beep_octets::NoMemory;
+use beep_standing::beep_frame::{Head, Kind, Rule};
+use beep_standing::beep_lives::Lives;
+use beep_standing::beep_octets::NoMemory;
 use std::alloc::Global;
 use std::marker::Model;
 

@@ -1,11 +1,11 @@
 //! What a listener does with octets that come.
 ghost use Rattle.std.specs.Prelude.{◌≡◌, ◌≤◌, ◌<◌, ◌++◌, ◌||◌, false, List, length, take, ℕ, None, IfErr, IfOk, OnErr, OnOk};
-ghost use Rattle.beep_wires.specs.Counts.{Rose};
-ghost use Rattle.beep_inbox.specs.Laws.{part_marks};
-ghost use Rattle.beep_journal.specs.Log.{Moment, got_all};
-ghost use Rattle.beep_session.specs.Lawfully.{terms_of};
-ghost use Rattle.beep_link.specs.Causes.{ended_by, WithText};
-ghost use Rattle.beep_link.specs.declared.ended.Stop.{Stop as StopValue};
+ghost use Rattle.beep_steps.specs.beep_wires.specs.Counts.{Rose};
+ghost use Rattle.beep_steps.specs.beep_inbox.specs.Laws.{part_marks};
+ghost use Rattle.beep_steps.specs.beep_journal.specs.Log.{Moment, got_all};
+ghost use Rattle.beep_steps.specs.beep_session.specs.Lawfully.{terms_of};
+ghost use Rattle.beep_steps.specs.beep_link.specs.Causes.{ended_by, WithText};
+ghost use Rattle.beep_steps.specs.beep_link.specs.declared.ended.Stop.{Stop as StopValue};
 ghost use Rattle.beep_lines.specs.Bodies.{body_of, IsOver};
 ghost use Rattle.beep_lines.specs.Lines.{lines_of, GathersAll, GathersSome};
 ghost use Rattle.beep_listener.specs.declared.listener.TheConstants.{TAKEN};
@@ -13,18 +13,18 @@ ghost use Rattle.beep_listener.specs.Listening.{is_first, is_whole, part_lines, 
 ghost use Rattle.beep_steps.specs.Logs.{AreTaken, SaysNothing, StandsOn, StaysOn, StopsOn, WaitsOn};
 ghost use Rattle.beep_steps.specs.Refusing.{refused_so, IsOtherStop, RefusesOn, RefusesWith};
 ghost use Rattle.beep_steps.specs.Serving.{KeepsServing, ServesOn, ServesWaiting};
-ghost use Rattle.beep_talk.specs.declared.plan.Command.{Command};
-ghost use Rattle.beep_talk.specs.Plan.{PlainPlan};
+ghost use Rattle.beep_steps.specs.beep_talk.specs.declared.plan.Command.{Command};
+ghost use Rattle.beep_steps.specs.beep_talk.specs.Plan.{PlainPlan};
 
 use super::{Listener, TAKEN};
 use crate::pruning::prune;
-use beep_frame::Kind;
-use beep_inbox::Part;
-use beep_link::Stop;
-use beep_octets::NoMemory;
-use beep_session::Settled;
+use beep_steps::beep_frame::Kind;
+use beep_steps::beep_inbox::Part;
+use beep_steps::beep_link::Stop;
+use beep_steps::beep_octets::NoMemory;
+use beep_steps::beep_session::Settled;
+use beep_steps::beep_wires::Sink;
 use beep_steps::{Came, denial, hear_next, settle_message, take_part};
-use beep_wires::Sink;
 
 impl Listener {
     ghost use Rattle.beep_steps.specs.Speaking.{closes_all};

@@ -1,12 +1,12 @@
 //! What a sender gives on its channel: lines, their end, and its close (RFC 3195, section 3.1).
 ghost use Rattle.std.specs.Prelude.{◌≡◌, ◌<◌, ◌≤◌, slice_get, false, length, List, Some, true, IfOk, OnOk};
-ghost use Rattle.beep_journal.specs.Life.{is_there};
-ghost use Rattle.beep_journal.specs.Log.{Moment};
-ghost use Rattle.beep_peer.specs.Peering.{is_over};
-ghost use Rattle.prof_raw.specs.declared.line.TheConstants.{ENTRY_MAX};
-ghost use Rattle.beep_talk.specs.Plan.{PlainPlan};
-ghost use Rattle.beep_session.specs.Lawfully.{terms_of};
-ghost use Rattle.beep_session.specs.Lending.{answering_number, answering_session, duty_number, duty_session, IsSameReference};
+ghost use Rattle.beep_steps.specs.beep_journal.specs.Life.{is_there};
+ghost use Rattle.beep_steps.specs.beep_journal.specs.Log.{Moment};
+ghost use Rattle.beep_steps.specs.beep_peer.specs.Peering.{is_over};
+ghost use Rattle.beep_steps.specs.prof_raw.specs.declared.line.TheConstants.{ENTRY_MAX};
+ghost use Rattle.beep_steps.specs.beep_talk.specs.Plan.{PlainPlan};
+ghost use Rattle.beep_steps.specs.beep_session.specs.Lawfully.{terms_of};
+ghost use Rattle.beep_steps.specs.beep_session.specs.Lending.{answering_number, answering_session, duty_number, duty_session, IsSameReference};
 ghost use Rattle.beep_sender.specs.declared.sender.TheConstants.{CHANNEL, STARTED};
 ghost use Rattle.beep_sender.specs.Asking.{AsksOn, KeepsAsking};
 ghost use Rattle.beep_steps.specs.Desking.{AsksClose, DesksWithin};
@@ -16,11 +16,11 @@ ghost use Rattle.beep_steps.specs.Scripting.{KeepsScripting, ScriptedOn};
 ghost use Rattle.beep_steps.specs.Sending.{at_next, if_closed, if_given, KeepsSending, Progress};
 
 use super::CHANNEL;
-use beep_octets::{NoMemory, Octets};
-use beep_outbox::GiveError;
-use beep_session::{Answering, CloseError, Duty, Session};
+use beep_steps::beep_octets::{NoMemory, Octets};
+use beep_steps::beep_outbox::GiveError;
+use beep_steps::beep_session::{Answering, CloseError, Duty, Session};
 use beep_steps::is_open;
-use prof_raw::{Entries, entry_body};
+use beep_steps::prof_raw::{Entries, entry_body};
 
 /// Asks for the close of the channel, where it is open, and answers whether it did.
 pub(super) fn close_channel(session: &mut Session) -> Result<bool, NoMemory>

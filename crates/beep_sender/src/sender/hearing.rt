@@ -1,10 +1,10 @@
 //! What a sender does with octets that come.
 ghost use Rattle.std.specs.Prelude.{◌≡◌, ◌≤◌, ◌<◌, ◌||◌, ℕ, List, length, take, None, Some, true, IfErr, IfOk, OnOk};
-ghost use Rattle.beep_journal.specs.Log.{Moment, got_all};
-ghost use Rattle.beep_talk.specs.declared.plan.Command.{Command};
-ghost use Rattle.beep_session.specs.Lawfully.{terms_of};
-ghost use Rattle.beep_link.specs.declared.ended.Stop.{Stop as StopValue};
-ghost use Rattle.beep_answering.specs.declared.settled.Settled.{Settled as SettledValue};
+ghost use Rattle.beep_steps.specs.beep_journal.specs.Log.{Moment, got_all};
+ghost use Rattle.beep_steps.specs.beep_talk.specs.declared.plan.Command.{Command};
+ghost use Rattle.beep_steps.specs.beep_session.specs.Lawfully.{terms_of};
+ghost use Rattle.beep_steps.specs.beep_link.specs.declared.ended.Stop.{Stop as StopValue};
+ghost use Rattle.beep_steps.specs.beep_answering.specs.declared.settled.Settled.{Settled as SettledValue};
 ghost use Rattle.beep_steps.specs.Desking.{closes_own};
 ghost use Rattle.beep_steps.specs.Logs.{SaysNothing};
 ghost use Rattle.beep_steps.specs.Refusing.{refused_so, IsUnrefused, RefusesOn, RefusesWith, Unrefused};
@@ -13,9 +13,9 @@ ghost use Rattle.beep_steps.specs.Sending.{StopsSending};
 use super::noting::{closed_early, stopped};
 use super::taking::take_all;
 use super::{CHANNEL, CLOSED, RELEASED, STARTED, Sender, UNSTARTED};
-use beep_link::Stop;
-use beep_octets::NoMemory;
-use beep_session::{ReleaseError, Settled, StartError, one_profile};
+use beep_steps::beep_link::Stop;
+use beep_steps::beep_octets::NoMemory;
+use beep_steps::beep_session::{ReleaseError, Settled, StartError, one_profile};
 use beep_steps::{Came, denial, hear_next, settle_message};
 
 impl Sender<'_> {

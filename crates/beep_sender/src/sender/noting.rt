@@ -1,15 +1,15 @@
 //! What a sender notes of a frame that goes out, and of a message that was settled.
 ghost use Rattle.std.specs.Prelude.{◌≡◌, ◌==◌, ◌&&◌, ◌||◌, IfErr, IfOk, Ok};
-ghost use Rattle.beep_frame.specs.Frame.{is_nul as is_nul_kind};
-ghost use Rattle.beep_speaking.specs.declared.emit.Emit.{Emit as EmitValue};
-ghost use Rattle.beep_link.specs.declared.ended.Stop.{Stop as StopValue};
+ghost use Rattle.beep_steps.specs.beep_frame.specs.Frame.{is_nul as is_nul_kind};
+ghost use Rattle.beep_steps.specs.beep_speaking.specs.declared.emit.Emit.{Emit as EmitValue};
+ghost use Rattle.beep_steps.specs.beep_link.specs.declared.ended.Stop.{Stop as StopValue};
 ghost use Rattle.beep_steps.specs.Refusing.{closed_so, closing_by};
 
 use super::{CHANNEL, CLOSE};
-use beep_frame::{Head, Kind};
-use beep_link::Stop;
-use beep_octets::NoMemory;
-use beep_session::Settled;
+use beep_steps::beep_frame::{Head, Kind};
+use beep_steps::beep_link::Stop;
+use beep_steps::beep_octets::NoMemory;
+use beep_steps::beep_session::Settled;
 
 /// Whether the close of the channel has begun, or begins with this frame.
 pub(super) fn is_closing_by(is_closing: bool, head: &Head) -> bool

@@ -1,14 +1,14 @@
 //! What a sender takes of a frame that arrives: all of it, and it uses none.
 ghost use Rattle.std.specs.Prelude.{◌≡◌, ◌<◌, ◌^◌, List, length};
-ghost use Rattle.beep_journal.specs.Log.{Moment};
-ghost use Rattle.beep_talk.specs.Plan.{PlainPlan};
+ghost use Rattle.beep_steps.specs.beep_journal.specs.Log.{Moment};
+ghost use Rattle.beep_steps.specs.beep_talk.specs.Plan.{PlainPlan};
 ghost use Rattle.beep_sender.specs.Asking.{TakesFrame};
 ghost use Rattle.beep_steps.specs.Desking.{DesksWithin};
 ghost use Rattle.beep_steps.specs.Logs.{AreTaken, StaysOn};
 ghost use Rattle.beep_steps.specs.Scripting.{KeepsScripting, ScriptedOn};
 ghost use Rattle.beep_steps.specs.Sending.{KeepsSending, Progress};
 
-use beep_session::Session;
+use beep_steps::beep_session::Session;
 use beep_steps::take_part;
 
 /// Takes all that has arrived on a channel. A frame is one part of a message, or several.

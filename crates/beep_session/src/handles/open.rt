@@ -1,33 +1,33 @@
 //! What a program does with a channel that it holds.
 ghost use Rattle.std.specs.Prelude.{◌≡◌, ◌≢◌, ◌<◌, [], ℕ, List, length, None, Some, is_some, true, false, IfSome, IfNone, IfOk, IfErr, OnOk, OnErr};
-ghost use Rattle.beep_frame.specs.declared.kind.Kind.{Kind as KindValue};
-ghost use Rattle.beep_frame.specs.Frame.{is_msg};
-ghost use Rattle.beep_frame.specs.Modulo.{modulo_2_64};
-ghost use Rattle.beep_history.specs.Journal.{Item};
-ghost use Rattle.beep_mgmt.specs.Message.{message_text};
-ghost use Rattle.beep_channel.specs.declared.ask_error.AskError.{AskError as AskErrorValue};
-ghost use Rattle.beep_channel.specs.Stands.{ends_of};
-ghost use Rattle.beep_inbox.specs.Untaken.{IsTaken};
-ghost use Rattle.beep_lives.specs.Lives.{live_at};
-ghost use Rattle.beep_standing.specs.Standing.{Marks};
-ghost use Rattle.beep_answering.specs.Sent.{closing_of};
-ghost use Rattle.beep_peer.specs.declared.refusals.CloseError.{CloseError as CloseErrorValue};
-ghost use Rattle.beep_peer.specs.Peering.{IsPeer};
-ghost use Rattle.beep_peer.specs.Waiting.{IsStuck};
-ghost use Rattle.beep_peer.specs.Acts.{close_refusal};
+ghost use Rattle.beep_giving.specs.beep_frame.specs.declared.kind.Kind.{Kind as KindValue};
+ghost use Rattle.beep_giving.specs.beep_frame.specs.Frame.{is_msg};
+ghost use Rattle.beep_giving.specs.beep_frame.specs.Modulo.{modulo_2_64};
+ghost use Rattle.beep_giving.specs.beep_history.specs.Journal.{Item};
+ghost use Rattle.beep_giving.specs.beep_mgmt.specs.Message.{message_text};
+ghost use Rattle.beep_giving.specs.beep_channel.specs.declared.ask_error.AskError.{AskError as AskErrorValue};
+ghost use Rattle.beep_giving.specs.beep_channel.specs.Stands.{ends_of};
+ghost use Rattle.beep_giving.specs.beep_inbox.specs.Untaken.{IsTaken};
+ghost use Rattle.beep_giving.specs.beep_lives.specs.Lives.{live_at};
+ghost use Rattle.beep_giving.specs.beep_standing.specs.Standing.{Marks};
+ghost use Rattle.beep_giving.specs.beep_answering.specs.Sent.{closing_of};
+ghost use Rattle.beep_giving.specs.beep_peer.specs.declared.refusals.CloseError.{CloseError as CloseErrorValue};
+ghost use Rattle.beep_giving.specs.beep_peer.specs.Peering.{IsPeer};
+ghost use Rattle.beep_giving.specs.beep_peer.specs.Waiting.{IsStuck};
+ghost use Rattle.beep_giving.specs.beep_peer.specs.Acts.{close_refusal};
 ghost use Rattle.beep_giving.specs.Giving.{ask_refusal_at};
 ghost use Rattle.beep_giving.specs.Looks.{owes_of, answers_of, inbox_of};
 ghost use Rattle.beep_session.specs.Lawfully.{KeepsUpright};
 ghost use Rattle.beep_session.specs.Channels.{is_closing, IsStill, Gives, Takes, Closes};
 
 use super::{ClosingChannel, Duty, OpenChannel};
-use beep_channel::AskError;
-use beep_inbox::Part;
-use beep_peer::CloseError;
+use beep_giving::beep_channel::AskError;
+use beep_giving::beep_inbox::Part;
+use beep_giving::beep_peer::CloseError;
 
 impl<'s> OpenChannel<'s> {
     ghost use Rattle.std.specs.Borrow.{sem, RestsIfNone};
-    ghost use Rattle.beep_octets.specs.Numbers.{numbers_32};
+    ghost use Rattle.beep_giving.specs.beep_octets.specs.Numbers.{numbers_32};
     ghost use Rattle.beep_session.specs.contracts.session.Session.{the_row};
     ghost use Rattle.beep_session.specs.Lending.{IsSameReference, open_session, open_number, closing_session, closing_number, duty_session, duty_number, has_begun};
 
@@ -144,7 +144,7 @@ impl<'s> OpenChannel<'s> {
 
 impl<'s> ClosingChannel<'s> {
     ghost use Rattle.std.specs.Borrow.{sem, RestsIfNone};
-    ghost use Rattle.beep_octets.specs.Numbers.{numbers_32};
+    ghost use Rattle.beep_giving.specs.beep_octets.specs.Numbers.{numbers_32};
     ghost use Rattle.beep_session.specs.contracts.session.Session.{the_row};
     ghost use Rattle.beep_session.specs.Lending.{closing_session, closing_number, duty_session, duty_number, has_begun};
 

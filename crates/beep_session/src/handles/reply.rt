@@ -1,16 +1,16 @@
 //! What a program gives to a request that it owes a reply (RFC 3080, section 2.6.1).
 ghost use Rattle.std.specs.Prelude.{◌≡◌, ◌≢◌, ◌<◌, [], length, None, Some, IfOk, IfErr, OnOk, OnErr};
-ghost use Rattle.beep_frame.specs.declared.kind.Kind.{Kind as KindValue};
-ghost use Rattle.beep_outbox.specs.declared.give_error.GiveError.{GiveError as GiveErrorValue};
-ghost use Rattle.beep_lives.specs.Lives.{live_at};
+ghost use Rattle.beep_giving.specs.beep_frame.specs.declared.kind.Kind.{Kind as KindValue};
+ghost use Rattle.beep_giving.specs.beep_outbox.specs.declared.give_error.GiveError.{GiveError as GiveErrorValue};
+ghost use Rattle.beep_giving.specs.beep_lives.specs.Lives.{live_at};
 ghost use Rattle.beep_giving.specs.Giving.{reply_refusal_at};
 ghost use Rattle.beep_session.specs.Lawfully.{KeepsUpright};
 ghost use Rattle.beep_session.specs.Channels.{IsStill, Gives};
 
 use super::{Answering, Owed};
-use beep_frame::Kind;
-use beep_octets::NoMemory;
-use beep_outbox::GiveError;
+use beep_giving::beep_frame::Kind;
+use beep_giving::beep_octets::NoMemory;
+use beep_giving::beep_outbox::GiveError;
 
 impl<'c> Owed<'c> {
     ghost use Rattle.std.specs.Borrow.{sem};

@@ -2,37 +2,37 @@
 //! and 2.3.1.3).
 ghost use Rattle.std.specs.Prelude.{◌≡◌, ◌≢◌, ◌+◌, ◌<◌, ◌≤◌, ◌==◌, not, [], ℕ, List, length, map, None, Some, true, false, IfErr, OnOk, OnErr};
 ghost use Rattle.std.specs.Option.{option_to_list};
-ghost use Rattle.beep_history.specs.Journal.{Item};
-ghost use Rattle.beep_history.specs.declared.limits.TheConstants.{MAX_REQUESTS};
-ghost use Rattle.beep_mgmt.specs.Form.{form_of, plain_profile, start as start_form};
-ghost use Rattle.beep_mgmt.specs.Message.{message_text};
-ghost use Rattle.beep_mgmt.specs.Written.{is_writable, comes_back};
-ghost use Rattle.beep_decide.specs.Numbers.{may_start};
-ghost use Rattle.beep_turns.specs.declared.turns.TheConstants.{MAX_CHANNELS};
-ghost use Rattle.beep_lives.specs.Lives.{live_at};
-ghost use Rattle.beep_standing.specs.Standing.{Marks};
-ghost use Rattle.beep_management.specs.Managed.{number_started};
-ghost use Rattle.beep_management.specs.Manages.{AreFresh};
-ghost use Rattle.beep_answering.specs.Sent.{IsMessage, closing_of};
-ghost use Rattle.beep_peer.specs.declared.refusals.StartError.{StartError as StartErrorValue};
-ghost use Rattle.beep_peer.specs.declared.refusals.ReleaseError.{ReleaseError as ReleaseErrorValue};
-ghost use Rattle.beep_peer.specs.declared.refusals.CloseError.{CloseError as CloseErrorValue};
-ghost use Rattle.beep_upright.specs.Upright.{IsUpright};
-ghost use Rattle.beep_peer.specs.Asking.{MayAsk, MayCloseWhere};
-ghost use Rattle.beep_peer.specs.Acts.{asked_of, count_used, release_refusal, close_refusal, KeepsRequest, IsUnchanged};
+ghost use Rattle.beep_giving.specs.beep_history.specs.Journal.{Item};
+ghost use Rattle.beep_giving.specs.beep_history.specs.declared.limits.TheConstants.{MAX_REQUESTS};
+ghost use Rattle.beep_giving.specs.beep_mgmt.specs.Form.{form_of, plain_profile, start as start_form};
+ghost use Rattle.beep_giving.specs.beep_mgmt.specs.Message.{message_text};
+ghost use Rattle.beep_giving.specs.beep_mgmt.specs.Written.{is_writable, comes_back};
+ghost use Rattle.beep_giving.specs.beep_decide.specs.Numbers.{may_start};
+ghost use Rattle.beep_giving.specs.beep_turns.specs.declared.turns.TheConstants.{MAX_CHANNELS};
+ghost use Rattle.beep_giving.specs.beep_lives.specs.Lives.{live_at};
+ghost use Rattle.beep_giving.specs.beep_standing.specs.Standing.{Marks};
+ghost use Rattle.beep_giving.specs.beep_management.specs.Managed.{number_started};
+ghost use Rattle.beep_giving.specs.beep_management.specs.Manages.{AreFresh};
+ghost use Rattle.beep_giving.specs.beep_answering.specs.Sent.{IsMessage, closing_of};
+ghost use Rattle.beep_giving.specs.beep_peer.specs.declared.refusals.StartError.{StartError as StartErrorValue};
+ghost use Rattle.beep_giving.specs.beep_peer.specs.declared.refusals.ReleaseError.{ReleaseError as ReleaseErrorValue};
+ghost use Rattle.beep_giving.specs.beep_peer.specs.declared.refusals.CloseError.{CloseError as CloseErrorValue};
+ghost use Rattle.beep_giving.specs.beep_upright.specs.Upright.{IsUpright};
+ghost use Rattle.beep_giving.specs.beep_peer.specs.Asking.{MayAsk, MayCloseWhere};
+ghost use Rattle.beep_giving.specs.beep_peer.specs.Acts.{asked_of, count_used, release_refusal, close_refusal, KeepsRequest, IsUnchanged};
 ghost use Rattle.beep_session.specs.Acts.{AsksZero, start_text, refusal_of_start};
 
 use super::Session;
 use crate::limits::GREATEST_SIZE;
-use beep_answering::{close_of, close_text, message_of};
-use beep_channel::Channel;
-use beep_mgmt::{Mgmt, Profiles};
-use beep_octets::{NoMemory, Octets};
-use beep_peer::{CloseError, ReleaseError, StartError, start_of};
-use beep_text::MAX_TEXT;
+use beep_giving::beep_answering::{close_of, close_text, message_of};
+use beep_giving::beep_channel::Channel;
+use beep_giving::beep_mgmt::{Mgmt, Profiles};
+use beep_giving::beep_octets::{NoMemory, Octets};
+use beep_giving::beep_peer::{CloseError, ReleaseError, StartError, start_of};
+use beep_giving::beep_text::MAX_TEXT;
 
 impl Session {
-    ghost use Rattle.beep_peer.specs.Peering.{IsPeer, is_over, zero_waits};
+    ghost use Rattle.beep_giving.specs.beep_peer.specs.Peering.{IsPeer, is_over, zero_waits};
     ghost use Rattle.beep_session.specs.Lawfully.{KeepsUpright, terms_of};
     ghost use Rattle.beep_session.specs.Channels.{IsOpen, is_closing, IsStill, Closes};
 

@@ -1,30 +1,30 @@
 //! What a program gives and takes on a live channel (RFC 3080, section 2.1).
 ghost use Rattle.std.specs.Prelude.{◌≡◌, ◌≢◌, ◌<◌, [], ℕ, List, length, None, Some, true, false, is_some, IfSome, IfNone, IfOk, IfErr, OnOk, OnErr};
-ghost use Rattle.beep_frame.specs.declared.kind.Kind.{Kind as KindValue};
-ghost use Rattle.beep_frame.specs.Frame.{is_msg, is_ans, is_reply};
-ghost use Rattle.beep_frame.specs.Modulo.{modulo_2_64};
-ghost use Rattle.beep_history.specs.Journal.{Item};
-ghost use Rattle.beep_outbox.specs.declared.give_error.GiveError.{GiveError as GiveErrorValue};
-ghost use Rattle.beep_channel.specs.declared.ask_error.AskError.{AskError as AskErrorValue};
-ghost use Rattle.beep_channel.specs.Fits.{may_follow, is_shaped};
-ghost use Rattle.beep_channel.specs.Stands.{ends_of};
-ghost use Rattle.beep_inbox.specs.Untaken.{IsTaken};
-ghost use Rattle.beep_lives.specs.Lives.{live_at};
-ghost use Rattle.beep_standing.specs.Standing.{Marks};
-ghost use Rattle.beep_peer.specs.Peering.{IsPeer};
-ghost use Rattle.beep_peer.specs.Waiting.{IsStuck};
-ghost use Rattle.beep_upright.specs.Upright.{IsUpright};
+ghost use Rattle.beep_giving.specs.beep_frame.specs.declared.kind.Kind.{Kind as KindValue};
+ghost use Rattle.beep_giving.specs.beep_frame.specs.Frame.{is_msg, is_ans, is_reply};
+ghost use Rattle.beep_giving.specs.beep_frame.specs.Modulo.{modulo_2_64};
+ghost use Rattle.beep_giving.specs.beep_history.specs.Journal.{Item};
+ghost use Rattle.beep_giving.specs.beep_outbox.specs.declared.give_error.GiveError.{GiveError as GiveErrorValue};
+ghost use Rattle.beep_giving.specs.beep_channel.specs.declared.ask_error.AskError.{AskError as AskErrorValue};
+ghost use Rattle.beep_giving.specs.beep_channel.specs.Fits.{may_follow, is_shaped};
+ghost use Rattle.beep_giving.specs.beep_channel.specs.Stands.{ends_of};
+ghost use Rattle.beep_giving.specs.beep_inbox.specs.Untaken.{IsTaken};
+ghost use Rattle.beep_giving.specs.beep_lives.specs.Lives.{live_at};
+ghost use Rattle.beep_giving.specs.beep_standing.specs.Standing.{Marks};
+ghost use Rattle.beep_giving.specs.beep_peer.specs.Peering.{IsPeer};
+ghost use Rattle.beep_giving.specs.beep_peer.specs.Waiting.{IsStuck};
+ghost use Rattle.beep_giving.specs.beep_upright.specs.Upright.{IsUpright};
 ghost use Rattle.beep_giving.specs.Giving.{ask_refusal_at, reply_refusal_at};
 ghost use Rattle.beep_giving.specs.Looks.{owes_of, answers_of, inbox_of};
 
 use super::Session;
-use beep_channel::AskError;
-use beep_frame::Kind;
-use beep_inbox::Part;
-use beep_outbox::GiveError;
+use beep_giving::beep_channel::AskError;
+use beep_giving::beep_frame::Kind;
+use beep_giving::beep_inbox::Part;
+use beep_giving::beep_outbox::GiveError;
 
 impl Session {
-    ghost use Rattle.beep_octets.specs.Numbers.{numbers_32};
+    ghost use Rattle.beep_giving.specs.beep_octets.specs.Numbers.{numbers_32};
     ghost use Rattle.beep_session.specs.Lawfully.{KeepsUpright, terms_of};
     ghost use Rattle.beep_session.specs.Channels.{IsOpen, is_closing, next_answer, IsStill, Gives, Takes};
 

@@ -1,21 +1,21 @@
 //! What a session answers of itself.
 ghost use Rattle.std.specs.Prelude.{◌≡◌, ◌↔◌, ◌==◌, ◌&&◌, ◌||◌, not, ◌+◌, ◌<◌, true, false, ℕ, List, length, IfSome, is_some, slice_get};
 ghost use Rattle.std.specs.List.{list_any};
-ghost use Rattle.beep_frame.specs.declared.head.Head.{Head as HeadValue};
-ghost use Rattle.beep_frame.specs.Modulo.{modulo_2_64};
-ghost use Rattle.beep_history.specs.Journal.{Item};
-ghost use Rattle.beep_standing.specs.Standing.{Marks};
-ghost use Rattle.beep_decide.specs.Numbers.{may_start};
-ghost use Rattle.beep_lives.specs.Lives.{live_at, can_send, owes_seq, numbers};
-ghost use Rattle.beep_peer.specs.Standing.{rest_of, live_above};
+ghost use Rattle.beep_giving.specs.beep_frame.specs.declared.head.Head.{Head as HeadValue};
+ghost use Rattle.beep_giving.specs.beep_frame.specs.Modulo.{modulo_2_64};
+ghost use Rattle.beep_giving.specs.beep_history.specs.Journal.{Item};
+ghost use Rattle.beep_giving.specs.beep_standing.specs.Standing.{Marks};
+ghost use Rattle.beep_giving.specs.beep_decide.specs.Numbers.{may_start};
+ghost use Rattle.beep_giving.specs.beep_lives.specs.Lives.{live_at, can_send, owes_seq, numbers};
+ghost use Rattle.beep_giving.specs.beep_peer.specs.Standing.{rest_of, live_above};
 ghost use Rattle.beep_session.specs.Looks.{IsTakenAt};
 
 use super::Session;
-use beep_decide::may_start;
-use beep_lives::Lives;
+use beep_giving::beep_decide::may_start;
+use beep_giving::beep_lives::Lives;
 
 impl Session {
-    ghost use Rattle.beep_peer.specs.Peering.{IsPeer, WaitsIn, is_over, is_greeted, zero_waits};
+    ghost use Rattle.beep_giving.specs.beep_peer.specs.Peering.{IsPeer, WaitsIn, is_over, is_greeted, zero_waits};
     ghost use Rattle.beep_session.specs.Bounded.{text_held, IsBounded, IsWholeBounded};
 
     /// Whether a whole message of channel zero has arrived and isn't settled.

@@ -2,7 +2,7 @@
 
 use super::End;
 use crate::names::{push_number, push_numbered, rule_name};
-use beep_frame::Rule;
+use beep_session::beep_frame::Rule;
 use beep_session::{Event, SettleError, Settled};
 use std::test::Fail;
 

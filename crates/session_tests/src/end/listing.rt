@@ -1,13 +1,13 @@
 //! What a start lists, with a URI of any length.
 ghost use Rattle.std.specs.Prelude.{◌≡◌, ℕ, map, true, None, IfOk};
 ghost use Rattle.std.specs.List.{list_all};
-ghost use Rattle.beep_chars.specs.Characters.{is_allowed};
-ghost use Rattle.beep_mgmt.specs.Form.{plain_profile, start as start_form};
-ghost use Rattle.beep_mgmt.specs.Written.{is_writable, comes_back};
+ghost use Rattle.beep_session.specs.beep_chars.specs.Characters.{is_allowed};
+ghost use Rattle.beep_session.specs.beep_mgmt.specs.Form.{plain_profile, start as start_form};
+ghost use Rattle.beep_session.specs.beep_mgmt.specs.Written.{is_writable, comes_back};
 
-use beep_chars::Text;
-use beep_mgmt::{Encoding, Profile, Profiles};
-use beep_octets::{NoMemory, Octets};
+use beep_session::beep_chars::Text;
+use beep_session::beep_mgmt::{Encoding, Profile, Profiles};
+use beep_session::beep_octets::{NoMemory, Octets};
 use std::alloc::Global;
 
 /// One profile with this URI and no content.

@@ -6,10 +6,10 @@ use crate::names::{
     kind_name, note_ask, note_close, note_give, note_release, note_start, push_number,
     push_numbered,
 };
-use beep_chars::Text;
-use beep_inbox::Part;
-use beep_octets::Octets;
 use beep_session::Duty;
+use beep_session::beep_chars::Text;
+use beep_session::beep_inbox::Part;
+use beep_session::beep_octets::Octets;
 use std::test::Fail;
 
 /// What the octets of messages are copied from.

@@ -2,7 +2,7 @@
 
 use super::{End, number_in};
 use beep_session::MAX_PIECE;
-use beep_speaking::Emit;
+use beep_session::beep_speaking::Emit;
 use std::test::Fail;
 
 /// Room for one frame of the greatest size, and some more.

@@ -1,7 +1,7 @@
 -- The message of a choice is short enough to be read.
 use Rattle.std.proofs.Common.{ap}
-use Rattle.beep_mgmt.specs.Form.{PlainProfile, chosen}
-use Rattle.beep_decide.specs.Plain.{plain_offer}
+use Rattle.beep_management.specs.beep_mgmt.specs.Form.{PlainProfile, chosen}
+use Rattle.beep_management.specs.beep_decide.specs.Plain.{plain_offer}
 use Rattle.beep_answering.specs.Sent.{plain_listed}
 use Rattle.beep_answering.proofs.LengthLemmas.{chosen-length, plain-back}
 use Rattle.beep_answering.proofs.MessageLemmas.{is-message-of}

@@ -4,10 +4,10 @@ use Rattle.std.proofs.lemmas.List.{take_all}
 use Rattle.std.proofs.lemmas.List.{length-map}
 use Rattle.std.proofs.lemmas.List.Folds.{list_all-map}
 use Rattle.std.specs.List.{list_all}
-use Rattle.beep_mgmt.specs.Form.{PlainProfile, greeting}
-use Rattle.beep_mgmt.specs.Written.{is_uri_allowed}
-use Rattle.beep_decide.specs.declared.decision.Offer.{Offer}
-use Rattle.beep_decide.specs.Plain.{plain_offer}
+use Rattle.beep_management.specs.beep_mgmt.specs.Form.{PlainProfile, greeting}
+use Rattle.beep_management.specs.beep_mgmt.specs.Written.{is_uri_allowed}
+use Rattle.beep_management.specs.beep_decide.specs.declared.decision.Offer.{Offer}
+use Rattle.beep_management.specs.beep_decide.specs.Plain.{plain_offer}
 use Rattle.beep_answering.specs.Sent.{plain_listed, greeting_of, is_uri}
 use Rattle.beep_answering.proofs.LengthLemmas.{greeting-length, offers-back, offers-allowed}
 use Rattle.beep_answering.proofs.MessageLemmas.{is-message-of}

@@ -1,6 +1,6 @@
 use Rattle.std.proofs.Common.{◌≡◌, map, take}
-use Rattle.beep_mgmt.specs.Form.{plain_profile}
-use Rattle.beep_decide.specs.Plain.{plain_offer}
+use Rattle.beep_management.specs.beep_mgmt.specs.Form.{plain_profile}
+use Rattle.beep_management.specs.beep_decide.specs.Plain.{plain_offer}
 use Rattle.beep_answering.specs.Sent.{plain_listed}
 use Rattle.beep_answering.proofs.answer.greeting_text.Given as goal
 

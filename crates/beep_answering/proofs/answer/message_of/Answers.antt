@@ -1,7 +1,7 @@
 -- What is written of a value says it.
 use Rattle.std.proofs.Common.{◌++◌, ap, ◌∙◌}
-use Rattle.beep_mgmt.specs.Form.{form_of}
-use Rattle.beep_mgmt.specs.Message.{message_text}
+use Rattle.beep_management.specs.beep_mgmt.specs.Form.{form_of}
+use Rattle.beep_management.specs.beep_mgmt.specs.Message.{message_text}
 use Rattle.beep_answering.proofs.MessageLemmas.{is-message}
 use Rattle.beep_answering.proofs.answer.message_of.Goals as goal
 

@@ -1,6 +1,6 @@
 -- The message of a refusal is short enough to be read.
 use Rattle.std.proofs.Common.{List, ℕ, refl, ap, ◌∙◌}
-use Rattle.beep_mgmt.specs.Form.{fault}
+use Rattle.beep_management.specs.beep_mgmt.specs.Form.{fault}
 use Rattle.beep_answering.specs.Sent.{refusal_of}
 use Rattle.beep_answering.proofs.LengthLemmas.{refusal-length}
 use Rattle.beep_answering.proofs.MessageLemmas.{is-message-of}

@@ -3,11 +3,11 @@ use Rattle.std.proofs.Common.{◌≡◌, ◌<◌, true, Option, None, is_some, I
 use Rattle.std.specs.Option.{option_copied}
 use Rattle.std.proofs.lemmas.List.{length-map}
 use Rattle.std.proofs.lemmas.Result.{IfOk-weaker}
-use Rattle.beep_journal.specs.Plain.{form_in}
-use Rattle.beep_channel.specs.Held.{Live}
-use Rattle.beep_turns.specs.declared.turns.TheConstants.{MAX_CHANNELS}
-use Rattle.beep_decide.specs.Decide.{Decision, used_count}
-use Rattle.beep_decide.specs.Plain.{plain_offer, plain_standing, decision_of}
+use Rattle.beep_management.specs.beep_journal.specs.Plain.{form_in}
+use Rattle.beep_management.specs.beep_channel.specs.Held.{Live}
+use Rattle.beep_management.specs.beep_turns.specs.declared.turns.TheConstants.{MAX_CHANNELS}
+use Rattle.beep_management.specs.beep_decide.specs.Decide.{Decision, used_count}
+use Rattle.beep_management.specs.beep_decide.specs.Plain.{plain_offer, plain_standing, decision_of}
 use Rattle.beep_management.specs.Values.{prepared_of}
 use Rattle.beep_answering.specs.Decided.{SettledBy, SaysAnswer, IsAnswer}
 use Rattle.beep_answering.proofs.DecidedLemmas.{none-tunes, chosen-start}

@@ -1,8 +1,8 @@
 -- The message of a choice has the form of a RPY, and its channel is fresh.
 use Rattle.std.proofs.Common.{◌∷◌, [], ◌++◌, ℕ, List, Some, refl, sym, subst}
-use Rattle.beep_frame.specs.declared.kind.Kind.{Kind}
-use Rattle.beep_mgmt.specs.Form.{chosen}
-use Rattle.beep_decide.specs.Plain.{plain_offer, plain_standing}
+use Rattle.beep_management.specs.beep_frame.specs.declared.kind.Kind.{Kind}
+use Rattle.beep_management.specs.beep_mgmt.specs.Form.{chosen}
+use Rattle.beep_management.specs.beep_decide.specs.Plain.{plain_offer, plain_standing}
 use Rattle.beep_management.specs.declared.wait.Wait.{Wait}
 use Rattle.beep_management.specs.Manages.{AreFresh}
 use Rattle.beep_answering.specs.Sent.{plain_listed}

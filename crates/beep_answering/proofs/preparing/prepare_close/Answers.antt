@@ -1,9 +1,9 @@
 -- The message of a grant has the form of a RPY.
 use Rattle.std.proofs.Common.{[], ◌++◌, ℕ, List, None, refl, sym, subst}
-use Rattle.beep_frame.specs.declared.kind.Kind.{Kind}
-use Rattle.beep_mgmt.specs.Form.{okay}
+use Rattle.beep_management.specs.beep_frame.specs.declared.kind.Kind.{Kind}
+use Rattle.beep_management.specs.beep_mgmt.specs.Form.{okay}
 use Rattle.beep_management.specs.Manages.{AreFresh}
-use Rattle.beep_decide.proofs.AnswerLemmas.{closed-form}
+use Rattle.beep_management.specs.beep_decide.proofs.AnswerLemmas.{closed-form}
 use Rattle.beep_answering.proofs.DecidedLemmas.{answers, says-same, closed-number}
 use Rattle.beep_answering.proofs.preparing.prepare_close.Goals as goal
 

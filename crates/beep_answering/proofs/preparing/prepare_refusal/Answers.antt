@@ -1,6 +1,6 @@
 -- The message of a refusal has the form of an ERR.
 use Rattle.std.proofs.Common.{None, refl}
-use Rattle.beep_frame.specs.declared.kind.Kind.{Kind}
+use Rattle.beep_management.specs.beep_frame.specs.declared.kind.Kind.{Kind}
 use Rattle.beep_management.specs.declared.wait.Wait.{Wait}
 use Rattle.beep_answering.specs.Sent.{refusal_of}
 use Rattle.beep_answering.proofs.DecidedLemmas.{answers, says-same}

@@ -1,6 +1,6 @@
 -- The first profile with the URI is found at its place.
 use Rattle.std.proofs.Common.{List, length, get_or, ap, sym, ◌∙◌, arith}
-use Rattle.beep_mgmt.specs.declared.profile.Profile.{Profile}
+use Rattle.beep_management.specs.beep_mgmt.specs.declared.profile.Profile.{Profile}
 use Rattle.beep_answering.proofs.PlaceLemmas.{first-of, none-more, place-more}
 use Rattle.beep_answering.proofs.settling.place_of.Goals as goal
 

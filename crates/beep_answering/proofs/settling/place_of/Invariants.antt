@@ -1,6 +1,6 @@
 use Rattle.std.proofs.Common.{◌≡◌, ◌-◌, ◌^◌, false, map, take, min, bytes_eq}
 use Rattle.std.specs.List.{list_any}
-use Rattle.beep_mgmt.specs.Form.{PlainProfile, plain_profile}
+use Rattle.beep_management.specs.beep_mgmt.specs.Form.{PlainProfile, plain_profile}
 use Rattle.beep_answering.proofs.settling.place_of.Given as goal
 
 -- none of those before has the URI, and they are counted

@@ -1,7 +1,7 @@
 use Rattle.std.proofs.Common.{◌≡◌, true, false, refl, sym, ◌∙◌}
 use Rattle.std.proofs.KnownBytes.{Appends-nil}
-use Rattle.beep_link.specs.declared.ended.Ended.{Ended}
-use Rattle.beep_link.specs.Causes.{Seen}
+use Rattle.beep_runs.specs.beep_link.specs.declared.ended.Ended.{Ended}
+use Rattle.beep_runs.specs.beep_link.specs.Causes.{Seen}
 use Rattle.beep_cmd.specs.Ends.{seen_of, session}
 use Rattle.beep_cmd.specs.Recording.{record_starved}
 use Rattle.beep_cmd.proofs.EndsLemmas.{listened}
@@ -12,24 +12,24 @@ use Rattle.beep_cmd.proofs.listen.listen.Goals as goal
 pub returns-clause-listened : goal.returns-clause-listened
 returns-clause-listened g c = λ source.
     let O = g.O.Sink in
-    listened c.args.settings.now _ _ source (O.state c.args.output.now) (O.state c.listen_all-ended.new.output) (O.state c.finish.new.output) c.finish.result c.listen_all-ended.ensures.kept c.listen_all-ended.result c.listen_all-ended.ensures.caused c.listen_all-ended.ensures.written c.finish.ensures.told c.finish.ensures.none
+    listened c.args.settings.now _ _ source (O.state c.args.output.now) (O.state c.listen_all-ended.new.output) (O.state c.finish.new.output) c.finish.result c.listen_all-ended.ensures.kept c.listen_all-ended.result c.listen_all-ended.ensures.caused c.listen_all-ended.ensures.written c.finish.ensures.written c.finish.ensures.none
 
 pub returns-then-settings-clause-listened : goal.returns-then-settings-clause-listened
 returns-then-settings-clause-listened g c = λ source.
     let O = g.O.Sink in
-    listened_recorded c.args.settings.now _ _ c.record_listen.result source (O.state c.args.output.now) (O.state c.record_listen.new.output) c.record_listen.ensures.told
+    listened_recorded c.args.settings.now _ _ c.record_listen.result source (O.state c.args.output.now) (O.state c.record_listen.new.output) c.record_listen.ensures.recorded
 
 pub returns-clause-lines : goal.returns-clause-lines
-returns-clause-lines g c = λ recording told.
+returns-clause-lines g c = λ recording known.
     let W = g.W.Wires in
     let O = g.O.Sink in
-    last_line c.args.settings.now _ _ c.listen_all-ended.result c.finish.result (O.state c.args.output.now) (O.state c.listen_all-ended.new.output) (O.state c.finish.new.output) c.listen_all-ended.ensures.kept (c.listen_all-ended.ensures.lines told) c.finish.ensures.told
+    last_line c.args.settings.now _ _ c.listen_all-ended.result c.finish.result (O.state c.args.output.now) (O.state c.listen_all-ended.new.output) (O.state c.finish.new.output) c.listen_all-ended.ensures.kept (c.listen_all-ended.ensures.lines known) c.finish.ensures.written
 
 pub returns-then-settings-clause-lines : goal.returns-then-settings-clause-lines
-returns-then-settings-clause-lines g c = λ recording told. absurd (let h : true ≡ false = sym c.if-settings.true ∙ recording in cc)
+returns-then-settings-clause-lines g c = λ recording known. absurd (let h : true ≡ false = sym c.if-settings.true ∙ recording in cc)
 
 pub returns-in_default-clause-lines : goal.returns-in_default-clause-lines
-returns-in_default-clause-lines g c = λ recording told. none_written c.args.settings.now _ (g.O.Sink.state c.args.output.now)
+returns-in_default-clause-lines g c = λ recording known. none_written c.args.settings.now _ (g.O.Sink.state c.args.output.now)
 
 pub returns-in_default-clause-recorded : goal.returns-in_default-clause-recorded
 returns-in_default-clause-recorded g c =

@@ -1,11 +1,11 @@
 use Rattle.std.proofs.Common.{◌≡◌, ◌+◌, false, inl, inr, sym, ap, ◌∙◌, subst, arith}
-use Rattle.beep_link.specs.declared.ended.Ended.{Ended}
-use Rattle.beep_link.specs.Causes.{Seen, WhereKnown}
-use Rattle.beep_journal.specs.declared.role.Role.{Role}
-use Rattle.beep_steps.specs.Logs.{IsLawfulOn, terms_by}
+use Rattle.beep_runs.specs.beep_link.specs.declared.ended.Ended.{Ended}
+use Rattle.beep_runs.specs.beep_link.specs.Causes.{Seen, WhereKnown}
+use Rattle.beep_runs.specs.beep_journal.specs.declared.role.Role.{Role}
+use Rattle.beep_runs.specs.beep_steps.specs.Logs.{IsLawfulOn, terms_by}
 use Rattle.beep_cmd.specs.Ends.{ends_run, IsAcceptOf, SessionCause, seen_of}
 use Rattle.beep_cmd.proofs.EndsLemmas.{rose_later}
-use Rattle.beep_cmd.proofs.ListenLemmas.{all_lines, lines_ended, lines_further, lines_unlinked, told_after, told_before}
+use Rattle.beep_cmd.proofs.ListenLemmas.{all_lines, lines_ended, lines_further, lines_unlinked, known_after, known_before}
 use Rattle.beep_cmd.proofs.ServingLemmas.{asks_fewer, asks_more, each_joined, joined_cause, first_goes, goes_further}
 use Rattle.beep_cmd.proofs.listen.listen_all.Goals as goal
 
@@ -20,7 +20,7 @@ returns-in-Err-clause-asks g c =
     asks_fewer P (c.loop.counter + 1) c.args.settings.now.sessions _ _ (omega (arith, c.loop-test.true)) (asks_more P c.loop.counter 1 _ _ _ c.loop.invariant.asks c.in-Err.ensures.failed.asks)
 
 pub returns-then-ends_run-clause-lines : goal.returns-then-ends_run-clause-lines
-returns-then-ends_run-clause-lines g c = λ told.
+returns-then-ends_run-clause-lines g c = λ known.
     let W = g.W.Wires in
     let O = g.O.Sink in
     let settings = c.args.settings.now in
@@ -30,10 +30,10 @@ returns-then-ends_run-clause-lines g c = λ told.
     let i = c.loop.invariant in
     let s = c.in-Ok.ensures.served in
     lines_ended settings before mid after c.loop.first c.in-Ok.ended (O.state c.args.output.now).written (O.state c.loop.output).written (O.state c.listen_once.new.output).written i.goes s.goes_on
-    (i.lines (told_before before mid after s.goes_on told)) s.one (c.in-Ok.ensures.lines (told_after before mid after i.goes_on.given told)) (sym c.ends_run.ensures ∙ c.if-ends_run.true)
+    (i.lines (known_before before mid after s.goes_on known)) s.one (c.in-Ok.ensures.lines (known_after before mid after i.goes_on.given known)) (sym c.ends_run.ensures ∙ c.if-ends_run.true)
 
 pub returns-in-Err-clause-lines : goal.returns-in-Err-clause-lines
-returns-in-Err-clause-lines g c = λ told.
+returns-in-Err-clause-lines g c = λ known.
     let W = g.W.Wires in
     let O = g.O.Sink in
     let settings = c.args.settings.now in
@@ -43,17 +43,17 @@ returns-in-Err-clause-lines g c = λ told.
     let i = c.loop.invariant in
     let n = c.in-Err.ensures.failed in
     lines_unlinked settings before mid after c.loop.first c.in-Err.ended (O.state c.args.output.now).written (O.state c.loop.output).written (O.state c.listen_once.new.output).written i.goes n.goes_on
-    (i.lines (told_before before mid after n.goes_on told)) n.none (ap (λ o. (O.state o).written) c.in-Err.ensures.same_output) c.in-Err.ended
+    (i.lines (known_before before mid after n.goes_on known)) n.none (ap (λ o. (O.state o).written) c.in-Err.ensures.same_output) c.in-Err.ended
     (elim n.failed [ inl wire ↦ inl (wire.0, rose_later before.counts.accepts mid.counts.accepts after.counts.accepts i.goes_on.accepts wire.1) | inr short ↦ inr short ])
 
 pub returns-clause-lines : goal.returns-clause-lines
-returns-clause-lines g c = λ told.
+returns-clause-lines g c = λ known.
     let W = g.W.Wires in
     let O = g.O.Sink in
     let settings = c.args.settings.now in
     let before : Seen = seen_of (W.state c.args.wires.now) (W.counts c.args.wires.now) (W.asked c.args.wires.now) (W.lent c.args.wires.now) in
     let mid : Seen = seen_of (W.state c.loop.wires) (W.counts c.loop.wires) (W.asked c.loop.wires) (W.lent c.loop.wires) in
-    all_lines settings before mid c.loop.first (O.state c.args.output.now).written (O.state c.loop.output).written (omega (arith, c.loop.invariant.given, c.loop-test.false)) (c.loop.invariant.lines told)
+    all_lines settings before mid c.loop.first (O.state c.args.output.now).written (O.state c.loop.output).written (omega (arith, c.loop.invariant.given, c.loop-test.false)) (c.loop.invariant.lines known)
 
 pub loop-preserved : goal.loop-preserved
 loop-preserved g c =
@@ -72,8 +72,8 @@ loop-preserved g c =
           (joined_cause before mid after i.goes_on s.goes_on Role.Listener settings c.loop.first c.in-Ok.ended i.cause s.cause_is);
       lawful = each_joined before mid after i.goes_on s.goes_on (λ link. WhereKnown (IsLawfulOn (terms_by Role.Listener settings)) link.log) i.lawful c.in-Ok.ensures.lawful;
       goes = ap ends_run c.first_of-first.ensures ∙ first_goes c.loop.first c.in-Ok.ended i.goes goes;
-      lines = λ told. lines_further settings before mid after c.loop.first c.in-Ok.ended (g.O.Sink.state c.args.output.now).written (g.O.Sink.state c.loop.output).written (g.O.Sink.state c.listen_once.new.output).written i.goes s.goes_on
-          (i.lines (told_before before mid after s.goes_on told)) s.one (c.in-Ok.ensures.lines (told_after before mid after i.goes_on.given told)) c.first_of-first.result c.first_of-first.ensures goes;
+      lines = λ known. lines_further settings before mid after c.loop.first c.in-Ok.ended (g.O.Sink.state c.args.output.now).written (g.O.Sink.state c.loop.output).written (g.O.Sink.state c.listen_once.new.output).written i.goes s.goes_on
+          (i.lines (known_before before mid after s.goes_on known)) s.one (c.in-Ok.ensures.lines (known_after before mid after i.goes_on.given known)) c.first_of-first.result c.first_of-first.ensures goes;
       asks = asks_more (IsAcceptOf settings) c.loop.counter 1 before.asked mid.asked after.asked i.asks s.asks;
       kept = omega (arith, i.kept, c.in-Ok.ensures.kept);
     }

@@ -2,8 +2,8 @@
 -- released shows in its link.
 use Rattle.std.proofs.Common.{◌≡◌, ◌+◌, ◌≤◌, false, List}
 use Rattle.beep_cmd.specs.Ends.{AsksOnly, ends_run, IsAcceptOf, SessionCause, seen_of, WritesLawfully}
-use Rattle.beep_journal.specs.declared.role.Role.{Role}
-use Rattle.beep_cmd.specs.Listening.{AreTold, run_cause, Session}
+use Rattle.beep_runs.specs.beep_journal.specs.declared.role.Role.{Role}
+use Rattle.beep_cmd.specs.Listening.{AreKnown, run_cause, Session}
 use Rattle.beep_cmd.specs.Serving.{GoesOn, WritesSessions}
 use Rattle.beep_cmd.proofs.listen.listen_all.Given as goal
 
@@ -18,7 +18,7 @@ invariant-loop g l =
       cause : SessionCause l.first Role.Listener l.settings before now;
       lawful : WritesLawfully Role.Listener l.settings before now;
       goes : ends_run l.first ≡ false;
-      lines : AreTold before now → WritesSessions l.settings before now (λ (sessions : List Session). l.first ≡ run_cause sessions) (g.O.Sink.state l.fn.output).written (g.O.Sink.state l.output).written;
+      lines : AreKnown before now → WritesSessions l.settings before now (λ (sessions : List Session). l.first ≡ run_cause sessions) (g.O.Sink.state l.fn.output).written (g.O.Sink.state l.output).written;
       asks : AsksOnly (IsAcceptOf l.settings) l.counter before.asked now.asked;
       kept : (g.O.Sink.state l.fn.output).faults ≤ (g.O.Sink.state l.output).faults;
     }

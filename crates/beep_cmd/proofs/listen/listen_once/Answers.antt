@@ -1,13 +1,13 @@
 -- What the session of the link that was accepted wrote.
 use Rattle.std.proofs.Common.{◌≡◌, ◌+◌, ◌∙◌, ap}
-use Rattle.beep_wires.specs.Links.{Counts}
-use Rattle.beep_link.specs.Causes.{Seen}
+use Rattle.beep_runs.specs.beep_wires.specs.Links.{Counts}
+use Rattle.beep_runs.specs.beep_link.specs.Causes.{Seen}
 use Rattle.beep_cmd.specs.Ends.{seen_of}
 use Rattle.beep_cmd.proofs.ListenLemmas.{session_lines}
 use Rattle.beep_cmd.proofs.listen.listen_once.Goals as goal
 
 pub returns-clause-lines : goal.returns-clause-lines
-returns-clause-lines g c = λ told.
+returns-clause-lines g c = λ known.
     let W = g.W.Wires in
     let O = g.O.Sink in
     let before : Seen = seen_of (W.state c.args.wires.now) (W.counts c.args.wires.now) (W.asked c.args.wires.now) (W.lent c.args.wires.now) in
@@ -17,4 +17,4 @@ returns-clause-lines g c = λ told.
     let e = c.listen_end-ended.ensures in
     let s = c.shut.ensures in
     let one : after.counts.given ≡ before.counts.given + 1 = ap (λ (k : Counts). k.given) s.same_counts ∙ e.keeps.given ∙ i.given in
-    session_lines c.args.settings.now c.listen_end-ended.result before used after c.in-Ok.link i.number one s.shut (O.state c.args.output.now).written (O.state c.listen_end-ended.new.output).written e.told e.lines e.unrefused e.each told
+    session_lines c.args.settings.now c.listen_end-ended.result before used after c.in-Ok.link i.number one s.shut (O.state c.args.output.now).written (O.state c.listen_end-ended.new.output).written e.shown e.lines e.unrefused e.waits e.each known

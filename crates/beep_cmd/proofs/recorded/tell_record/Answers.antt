@@ -1,6 +1,6 @@
 use Rattle.std.proofs.Common.{◌≢◌, ◌≤◌, ℕ, sym, subst, rules}
-use Rattle.beep_link.specs.declared.ended.Ended.{Ended}
-use Rattle.beep_record.specs.declared.limits.TheConstants.{MAX_STATUS}
+use Rattle.beep_runs.specs.beep_link.specs.declared.ended.Ended.{Ended}
+use Rattle.beep_runs.specs.beep_record.specs.declared.limits.TheConstants.{MAX_STATUS}
 use Rattle.beep_cmd.specs.Recording.{TellsWhole}
 use Rattle.beep_cmd.proofs.RecordedLemmas.{status_within, tells_record}
 use Rattle.beep_cmd.proofs.recorded.tell_record.Goals as goal

@@ -1,21 +1,21 @@
 use Rattle.std.proofs.Common.{◌≡◌, ◌⊎◌, true, false, Some, None, map, refl, ap, sym, ◌∙◌, subst, arith}
 use Rattle.std.specs.String.{string_bytes}
 use Rattle.std.proofs.KnownBytes.{Appends-nil}
-use Rattle.beep_words.specs.declared.command.ShowSettings.{ShowSettings as Settings}
-use Rattle.beep_words.specs.declared.command.PairSettings.{PairSettings}
-use Rattle.beep_settings.specs.declared.settings.Settings.{Settings as EndSettings}
-use Rattle.beep_words.specs.declared.command.Command.{Command}
-use Rattle.beep_words.specs.CommandSet.{IsShow, IsReplay, IsSend, IsListen, IsPair, IsOfEnd}
-use Rattle.beep_words.specs.Usable.{IsUsable}
-use Rattle.beep_words.proofs.UsableLemmas.{send_is_usable, listen_is_usable, pair_is_usable}
-use Rattle.beep_link.specs.declared.ended.Ended.{Ended}
-use Rattle.beep_steps.specs.Ends.{AreFit}
-use Rattle.beep_steps.proofs.FitLemmas.{fit}
+use Rattle.beep_show.specs.beep_words.specs.declared.command.ShowSettings.{ShowSettings as Settings}
+use Rattle.beep_show.specs.beep_words.specs.declared.command.PairSettings.{PairSettings}
+use Rattle.beep_runs.specs.beep_settings.specs.declared.settings.Settings.{Settings as EndSettings}
+use Rattle.beep_show.specs.beep_words.specs.declared.command.Command.{Command}
+use Rattle.beep_show.specs.beep_words.specs.CommandSet.{IsShow, IsReplay, IsSend, IsListen, IsPair, IsOfEnd}
+use Rattle.beep_show.specs.beep_words.specs.Usable.{IsUsable}
+use Rattle.beep_show.specs.beep_words.proofs.UsableLemmas.{send_is_usable, listen_is_usable, pair_is_usable}
+use Rattle.beep_runs.specs.beep_link.specs.declared.ended.Ended.{Ended}
+use Rattle.beep_runs.specs.beep_steps.specs.Ends.{AreFit}
+use Rattle.beep_runs.specs.beep_steps.proofs.FitLemmas.{fit}
 use Rattle.beep_cmd.specs.Ends.{AcceptsAtMost, DialsOnce, IsAcceptOf, IsDialOf, Listened, listen_starved, seen_of, Sent, session, WritesLawfully}
 use Rattle.beep_cmd.specs.Pair.{Paired}
-use Rattle.beep_link.specs.Causes.{Seen, WhereKnown}
-use Rattle.beep_journal.specs.declared.role.Role.{Role}
-use Rattle.beep_steps.specs.Logs.{IsLawfulOn, terms_by}
+use Rattle.beep_runs.specs.beep_link.specs.Causes.{Seen, WhereKnown}
+use Rattle.beep_runs.specs.beep_journal.specs.declared.role.Role.{Role}
+use Rattle.beep_runs.specs.beep_steps.specs.Logs.{IsLawfulOn, terms_by}
 use Rattle.beep_cmd.specs.Listening.{WritesLines}
 use Rattle.beep_cmd.specs.Recording.{ListenRecorded, record_starved}
 use Rattle.beep_show.specs.Show.{Run, run_of}
@@ -75,7 +75,7 @@ returns-in-Ok-Some-Show g c =
       sent = λ settings w. absurd (other_send settings w);
       listened = λ settings w. absurd (other_listen settings w);
       listen_recorded = λ settings w recording. absurd (other_listen settings w);
-      listen_lines = λ settings w recording told. absurd (other_listen settings w);
+      listen_lines = λ settings w recording known. absurd (other_listen settings w);
       paired = λ settings w. absurd (other_pair settings w);
       pair_complete = λ settings w is_runnable no_fault. absurd (other_pair settings w);
       usage = λ one. absurd (shown_not a.settings c.show.result _ c.show.ensures.shown one);
@@ -116,7 +116,7 @@ returns-in-Ok-Some-Replay g c =
       sent = λ settings w. absurd (other_send settings w);
       listened = λ settings w. absurd (other_listen settings w);
       listen_recorded = λ settings w recording. absurd (other_listen settings w);
-      listen_lines = λ settings w recording told. absurd (other_listen settings w);
+      listen_lines = λ settings w recording known. absurd (other_listen settings w);
       paired = λ settings w. absurd (other_pair settings w);
       pair_complete = λ settings w is_runnable no_fault. absurd (other_pair settings w);
       usage = λ one. absurd (replayed_not c.replay.result _ c.replay.ensures.replayed one);
@@ -158,7 +158,7 @@ returns-in-Ok-Some-Send g c =
       sent = λ settings w. subst (λ (s : EndSettings). Sent s before after c.send.result run) (same settings is w) c.send.ensures.sent;
       listened = λ settings w. absurd (other settings w);
       listen_recorded = λ settings w recording. absurd (other settings w);
-      listen_lines = λ settings w recording told. absurd (other settings w);
+      listen_lines = λ settings w recording known. absurd (other settings w);
       paired = λ settings w. absurd (of.not_pair settings w);
       pair_complete = λ settings w is_runnable no_fault. absurd (of.not_pair settings w);
       usage = λ one. absurd (sent_not a.settings before after c.send.result run c.send.ensures.sent one);
@@ -201,8 +201,8 @@ returns-in-Ok-Some-Listen g c =
       listened = λ settings w. subst (λ (s : EndSettings). Listened s before after c.listen.result run) (same settings is w) (c.listen.ensures.listened (g.I.Source.state c.args.input.now));
       listen_recorded = λ settings w recording. subst (λ (s : EndSettings). ListenRecorded s before after c.listen.result run.sink run.sink_after) (same settings is w)
           (c.listen.ensures.recorded (subst (λ (s : EndSettings). s.recording ≡ true) (sym (same settings is w)) recording));
-      listen_lines = λ settings w recording told. subst (λ (s : EndSettings). WritesLines s before after c.listen.result run.sink run.sink_after) (same settings is w)
-          (c.listen.ensures.lines (subst (λ (s : EndSettings). s.recording ≡ false) (sym (same settings is w)) recording) told);
+      listen_lines = λ settings w recording known. subst (λ (s : EndSettings). WritesLines s before after c.listen.result run.sink run.sink_after) (same settings is w)
+          (c.listen.ensures.lines (subst (λ (s : EndSettings). s.recording ≡ false) (sym (same settings is w)) recording) known);
       paired = λ settings w. absurd (of.not_pair settings w);
       pair_complete = λ settings w is_runnable no_fault. absurd (of.not_pair settings w);
       usage = λ one. absurd (listened_not a.settings before after c.listen.result run (c.listen.ensures.listened (g.I.Source.state c.args.input.now)) one);
@@ -246,7 +246,7 @@ returns-in-Ok-Some-Pair g c =
       sent = λ settings w. absurd (send settings w);
       listened = λ settings w. absurd (listen settings w);
       listen_recorded = λ settings w recording. absurd (listen settings w);
-      listen_lines = λ settings w recording told. absurd (listen settings w);
+      listen_lines = λ settings w recording known. absurd (listen settings w);
       paired = by;
       pair_complete = λ settings w is_runnable no_fault. runnable_complete settings run c.pair.result is_runnable no_fault (by settings w);
       usage = λ one. absurd (paired_not a.settings c.pair.result run c.pair.ensures.paired one);
@@ -288,7 +288,7 @@ returns-in-Ok-None g c =
       sent = λ settings w. absurd (send settings w);
       listened = λ settings w. absurd (listen settings w);
       listen_recorded = λ settings w recording. absurd (listen settings w);
-      listen_lines = λ settings w recording told. absurd (listen settings w);
+      listen_lines = λ settings w recording known. absurd (listen settings w);
       paired = λ settings w. absurd (pair settings w);
       pair_complete = λ settings w is_runnable no_fault. absurd (pair settings w);
       usage = λ one command w. none command w;
@@ -324,7 +324,7 @@ returns-in-Err g c =
       sent = λ settings w. starved_at_once settings _ _ _;
       listened = λ settings w. listen_starved refl;
       listen_recorded = λ settings w recording. record_starved Ended.NoMemory (session tt (λ e. absurd cc), unlinked_keeps settings Ended.NoMemory seen seen refl) refl (Appends-nil (g.O.Sink.state c.args.output.now).written);
-      listen_lines = λ settings w recording told. none_written settings seen (g.O.Sink.state c.args.output.now);
+      listen_lines = λ settings w recording known. none_written settings seen (g.O.Sink.state c.args.output.now);
       paired = λ settings w. absurd (of.not_pair settings w);
       pair_complete = λ settings w is_runnable no_fault. absurd (of.not_pair settings w);
       usage = λ one. absurd (omega (arith, one));

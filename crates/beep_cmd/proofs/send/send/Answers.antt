@@ -19,13 +19,13 @@ returns-in-Ok-read_lines-clause-sent g c =
     let gives = c.in-Ok-read_lines.ensures.ok in
     let cause = c.send_lines-ended.result in
     sent c.args.settings.now _ _ (run_of (g.I.Source.state c.args.input.now) (g.I.Source.state c.read_lines.new.input) (g.O.Sink.state c.args.output.now) (g.O.Sink.state c.finish.new.output)) gives.octets gives.consumed (ended_status cause) (ended_line cause) c.finish.result
-    (over gives.ended c.in-Ok-read_lines.lines gives.are_lines cause c.send_lines-ended.ensures.unwritten c.send_lines-ended.ensures.caused (c.send_lines-ended.ensures.sent (lines-short c.in-Ok-read_lines.lines gives.octets gives.are_lines)) refl (lined (inl c.if-settings.false) refl)) c.finish.ensures.told
+    (over gives.ended c.in-Ok-read_lines.lines gives.are_lines cause c.send_lines-ended.ensures.unwritten c.send_lines-ended.ensures.caused (c.send_lines-ended.ensures.sent (lines-short c.in-Ok-read_lines.lines gives.octets gives.are_lines)) refl (lined (inl c.if-settings.false) refl)) c.finish.ensures.written
 
 pub returns-then-settings-clause-sent : goal.returns-then-settings-clause-sent
 returns-then-settings-clause-sent g c =
     let gives = c.in-Ok-read_lines.ensures.ok in
-    sent_recorded c.args.settings.now _ _ c.record_send.result (run_of (g.I.Source.state c.args.input.now) (g.I.Source.state c.read_lines.new.input) (g.O.Sink.state c.args.output.now) (g.O.Sink.state c.record_send.new.output)) gives.octets gives.consumed c.if-settings.true gives.ended c.in-Ok-read_lines.lines gives.are_lines (c.record_send.ensures.told (lines-short c.in-Ok-read_lines.lines gives.octets gives.are_lines))
+    sent_recorded c.args.settings.now _ _ c.record_send.result (run_of (g.I.Source.state c.args.input.now) (g.I.Source.state c.read_lines.new.input) (g.O.Sink.state c.args.output.now) (g.O.Sink.state c.record_send.new.output)) gives.octets gives.consumed c.if-settings.true gives.ended c.in-Ok-read_lines.lines gives.are_lines (c.record_send.ensures.recorded (lines-short c.in-Ok-read_lines.lines gives.octets gives.are_lines))
 
 pub returns-clause-sent : goal.returns-clause-sent
 returns-clause-sent g c =
-    unsent c.args.settings.now _ (run_of (g.I.Source.state c.args.input.now) (g.I.Source.state c.read_lines.new.input) (g.O.Sink.state c.args.output.now) (g.O.Sink.state c.finish_unlisted.new.output)) c.in-Err.why c.finish_unlisted.result c.in-Err.ensures.err c.finish_unlisted.ensures.told c.finish_unlisted.ensures.none
+    unsent c.args.settings.now _ (run_of (g.I.Source.state c.args.input.now) (g.I.Source.state c.read_lines.new.input) (g.O.Sink.state c.args.output.now) (g.O.Sink.state c.finish_unlisted.new.output)) c.in-Err.why c.finish_unlisted.result c.in-Err.ensures.err c.finish_unlisted.ensures.written c.finish_unlisted.ensures.none

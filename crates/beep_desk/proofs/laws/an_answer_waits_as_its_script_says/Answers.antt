@@ -1,5 +1,5 @@
 use Rattle.beep_desk.proofs.ClearLemmas.{clear-then, come-then, done-where, may-wait}
-use Rattle.beep_journal.specs.Zero.{events}
+use Rattle.beep_peer.specs.beep_journal.specs.Zero.{events}
 use Rattle.beep_desk.proofs.laws.an_answer_waits_as_its_script_says.Goals as goal
 
 pub returns-clause-clear : goal.returns-clause-clear

@@ -1,18 +1,18 @@
 -- What the channel gives is the next request of the life.
 use Rattle.std.proofs.lemmas.Result.{on_err_weaker}
 use Rattle.std.proofs.Common.{◌≡◌, refl, sym, ap, ◌∙◌}
-use Rattle.beep_asked.specs.Kept.{Queue, closes, is_leaving}
+use Rattle.beep_peer.specs.beep_asked.specs.Kept.{Queue, closes, is_leaving}
 use Rattle.std.specs.Prelude.{option_map}
-use Rattle.beep_frame.specs.declared.kind.Kind.{Kind}
-use Rattle.beep_exchange.specs.Given.{after_given}
-use Rattle.beep_outbox.specs.Queue.{message_marks}
-use Rattle.beep_channel.specs.Held.{next_ask}
-use Rattle.beep_lives.specs.Lives.{live_at}
-use Rattle.beep_lives.specs.Edits.{Edits, Gives}
+use Rattle.beep_peer.specs.beep_frame.specs.declared.kind.Kind.{Kind}
+use Rattle.beep_peer.specs.beep_exchange.specs.Given.{after_given}
+use Rattle.beep_peer.specs.beep_outbox.specs.Queue.{message_marks}
+use Rattle.beep_peer.specs.beep_channel.specs.Held.{next_ask}
+use Rattle.beep_peer.specs.beep_lives.specs.Lives.{live_at}
+use Rattle.beep_peer.specs.beep_lives.specs.Edits.{Edits, Gives}
 use Rattle.beep_giving.specs.Looks.{given_of}
 use Rattle.beep_giving.specs.Giving.{GivesMessage}
 use Rattle.beep_giving.proofs.GivenLemmas.{at-live, position-is, gives-ask, ask-counts, room-unchanged}
-use Rattle.beep_upright.specs.Upright.{IsUpright}
+use Rattle.beep_peer.specs.beep_upright.specs.Upright.{IsUpright}
 use Rattle.beep_peer.proofs.UnchangedLemmas.{unchanged-upright}
 use Rattle.beep_giving.proofs.UprightLemmas.{by-result, ask-upright}
 use Rattle.beep_giving.proofs.giving.ask.Goals as goal

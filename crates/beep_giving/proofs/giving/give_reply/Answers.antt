@@ -2,15 +2,15 @@
 use Rattle.std.proofs.lemmas.Result.{on_err_weaker}
 use Rattle.std.proofs.Common.{◌≡◌, true, refl}
 use Rattle.std.specs.Prelude.{option_map}
-use Rattle.beep_exchange.specs.Given.{after_given}
-use Rattle.beep_outbox.specs.Queue.{message_marks}
-use Rattle.beep_channel.specs.Held.{IsReply, next_reply}
-use Rattle.beep_lives.specs.Lives.{live_at}
-use Rattle.beep_lives.specs.Edits.{Edits, Gives}
+use Rattle.beep_peer.specs.beep_exchange.specs.Given.{after_given}
+use Rattle.beep_peer.specs.beep_outbox.specs.Queue.{message_marks}
+use Rattle.beep_peer.specs.beep_channel.specs.Held.{IsReply, next_reply}
+use Rattle.beep_peer.specs.beep_lives.specs.Lives.{live_at}
+use Rattle.beep_peer.specs.beep_lives.specs.Edits.{Edits, Gives}
 use Rattle.beep_giving.specs.Looks.{given_of, owes_of}
 use Rattle.beep_giving.specs.Giving.{GivesMessage}
 use Rattle.beep_giving.proofs.GivenLemmas.{at-live, may-there, gives-reply, reply-counts, answer-owes, room-unchanged}
-use Rattle.beep_upright.specs.Upright.{IsUpright}
+use Rattle.beep_peer.specs.beep_upright.specs.Upright.{IsUpright}
 use Rattle.beep_peer.proofs.UnchangedLemmas.{unchanged-upright}
 use Rattle.beep_giving.proofs.UprightLemmas.{by-result, reply-is-one, reply-upright}
 use Rattle.beep_giving.proofs.giving.give_reply.Goals as goal

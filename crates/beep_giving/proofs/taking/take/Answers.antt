@@ -1,5 +1,5 @@
 -- The part is that of the channel, and what is let go leaves it.
-use Rattle.beep_lives.specs.Edits.{Takes}
+use Rattle.beep_peer.specs.beep_lives.specs.Edits.{Takes}
 use Rattle.beep_giving.proofs.ChangeLemmas.{edits-both}
 use Rattle.beep_giving.proofs.TakenLemmas.{holds-taken, still-held, takes-marks, part-counts, let-go-then}
 use Rattle.beep_giving.proofs.UprightLemmas.{taken-upright}

@@ -1,6 +1,6 @@
 -- Each take leaves less, until nothing is left.
 use Rattle.std.proofs.Common.{List, sym, subst, refl, ◌∙◌}
-use Rattle.beep_channel.specs.Held.{Live}
+use Rattle.beep_standing.specs.beep_channel.specs.Held.{Live}
 use Rattle.beep_hearing.specs.Hears.{Passes, KeepsOthers}
 use Rattle.beep_hearing.proofs.DropLemmas.{drops-none, drops-more, dropped, zero-stays, keeps-none, keeps-taken, keeps-both}
 use Rattle.beep_hearing.proofs.TextLemmas.{takes-length}

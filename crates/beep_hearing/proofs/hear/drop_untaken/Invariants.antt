@@ -1,7 +1,7 @@
 use Rattle.std.proofs.Common.{◌≡◌, List, ℕ, length, true}
 use Rattle.std.specs.Prelude.{is_some}
-use Rattle.beep_history.specs.Journal.{Item}
-use Rattle.beep_lives.specs.Lives.{live_at}
+use Rattle.beep_standing.specs.beep_history.specs.Journal.{Item}
+use Rattle.beep_standing.specs.beep_lives.specs.Lives.{live_at}
 use Rattle.beep_standing.specs.Standing.{Marks, AreLive}
 use Rattle.beep_hearing.specs.Hears.{KeepsOthers}
 use Rattle.beep_hearing.specs.Left.{Drops, untaken_of}

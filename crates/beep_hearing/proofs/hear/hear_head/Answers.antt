@@ -2,7 +2,7 @@
 use Rattle.std.proofs.Common.{true, false, sym, ◌∙◌}
 use Rattle.beep_standing.proofs.ArriveLemmas.{judged-by, header-joins}
 use Rattle.beep_hearing.proofs.HearLemmas.{exit-greeting, exit-judged, exit-zero}
-use Rattle.beep_lives.specs.Edits.{Begins}
+use Rattle.beep_standing.specs.beep_lives.specs.Edits.{Begins}
 use Rattle.beep_hearing.proofs.RoomLemmas.{room-edit}
 use Rattle.beep_hearing.proofs.hear.hear_head.Goals as goal
 

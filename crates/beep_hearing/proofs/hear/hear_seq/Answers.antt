@@ -1,7 +1,7 @@
 use Rattle.std.proofs.Common.{true, false, refl, sym}
 use Rattle.beep_standing.proofs.ArriveLemmas.{seq-joins}
 use Rattle.beep_hearing.proofs.HearLemmas.{seq-heard}
-use Rattle.beep_lives.specs.Edits.{Obeys}
+use Rattle.beep_standing.specs.beep_lives.specs.Edits.{Obeys}
 use Rattle.beep_hearing.proofs.RoomLemmas.{room-where, room-same}
 use Rattle.beep_hearing.proofs.hear.hear_seq.Goals as goal
 

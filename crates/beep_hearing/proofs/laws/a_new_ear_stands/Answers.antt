@@ -1,7 +1,7 @@
 use Rattle.std.proofs.Common.{ℕ, List, [], refl, sym, subst}
 use Rattle.std.proofs.lemmas.Grind.{merely}
-use Rattle.beep_channel.specs.Held.{Live}
-use Rattle.beep_lives.specs.Edits.{AreNew}
+use Rattle.beep_standing.specs.beep_channel.specs.Held.{Live}
+use Rattle.beep_standing.specs.beep_lives.specs.Edits.{AreNew}
 use Rattle.beep_standing.specs.Standing.{AreLiveBy, no_marks}
 use Rattle.beep_standing.proofs.NewLemmas.{new-session}
 use Rattle.beep_hearing.specs.declared.ear.Ear.{Ear}

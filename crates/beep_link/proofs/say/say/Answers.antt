@@ -3,13 +3,13 @@ use Rattle.std.proofs.Common.{◌∙◌, [], rules, sym, subst}
 use Rattle.beep_link.specs.declared.ended.Ended.{Ended}
 use Rattle.beep_link.proofs.KeepLemmas.{SameReads-wrote, SameReads-trans, Keeps-wrote}
 use Rattle.beep_link.specs.Causes.{WithText}
-use Rattle.beep_link.proofs.StandLemmas.{wrote-stands, front-tells, grew-more, known-then, told-map, text-map}
+use Rattle.beep_link.proofs.StandLemmas.{wrote-stands, front-tells, grew-more, known-then, known-map, text-map}
 use Rattle.beep_link.proofs.say.say.Goals as goal
 
 pub returns-in_default-clause-stopped : goal.returns-in_default-clause-stopped
 returns-in_default-clause-stopped g c before now s =
     let E = g.E.End in
-    told-map _ _ (λ log h. text-map before now _ (E.tells (E.terms c.args.end.now) Ended.NoMemory log)
+    known-map _ _ (λ log h. text-map before now _ (E.tells (E.terms c.args.end.now) Ended.NoMemory log)
     (λ text k. subst (λ t. E.tells t Ended.NoMemory log text) c.loop.invariant.terms
     (g.met.E.End.stops c.loop.end log [] text Ended.NoMemory tt k)) h) _ (c.loop.invariant.stands before now s)
 
@@ -28,7 +28,7 @@ returns-clause-terms g c = c.loop.invariant.terms
 pub returns-clause-stopped : goal.returns-clause-stopped
 returns-clause-stopped g c before now s =
     let E = g.E.End in
-    told-map _ _ (λ log h. text-map before now _ (E.tells (E.terms c.args.end.now) Ended.NoMemory log)
+    known-map _ _ (λ log h. text-map before now _ (E.tells (E.terms c.args.end.now) Ended.NoMemory log)
     (λ text k. subst (λ t. E.tells t Ended.NoMemory log text) c.loop.invariant.terms
     (g.met.E.End.stops c.loop.end log [] text Ended.NoMemory tt k)) h) _ (c.loop.invariant.stands before now s)
 

@@ -3,11 +3,11 @@ use Rattle.std.proofs.Common.{rules, ℕ, List, ◌∙◌, [], arith, subst, sym
 use Rattle.beep_link.specs.Causes.{ReadsWhere, WhereKnown, WithText}
 use Rattle.beep_link.specs.declared.ended.Ended.{Ended}
 use Rattle.beep_link.proofs.KeepLemmas.{Keeps-trans}
-use Rattle.beep_link.proofs.StandLemmas.{text-none, told-empty}
+use Rattle.beep_link.proofs.StandLemmas.{text-none, known-empty}
 use Rattle.beep_link.proofs.turns.run_turns.Goals as goal
 
-pub returns-in-Err-clause-told : goal.returns-in-Err-clause-told
-returns-in-Err-clause-told g c begun =
+pub returns-in-Err-clause-shown : goal.returns-in-Err-clause-shown
+returns-in-Err-clause-shown g c begun =
     let E = g.E.End in
     subst (λ t. WhereKnown (λ log. WithText (g.O.Sink.state c.args.output.now).written (g.O.Sink.state c.turn.new.output).written (E.tells t c.in-Err.ended log))
     (g.W.Wires.state c.turn.new.wires c.args.link).log) c.loop-ended.invariant.terms
@@ -23,14 +23,14 @@ returns-in-Err-clause-waits g c begun =
 pub returns-in_default-clause-waits : goal.returns-in_default-clause-waits
 returns-in_default-clause-waits g c begun =
     let E = g.E.End in
-    told-empty (ReadsWhere (λ log. (text : List ℕ) × E.tells (E.terms c.args.end.now) (Ended.Idle 0) log text)) (g.W.Wires.state c.args.wires.now c.args.link).log tt c.requires.unused.unread
+    known-empty (ReadsWhere (λ log. (text : List ℕ) × E.tells (E.terms c.args.end.now) (Ended.Idle 0) log text)) (g.W.Wires.state c.args.wires.now c.args.link).log tt c.requires.unused.unread
 
-pub returns-in_default-clause-told : goal.returns-in_default-clause-told
-returns-in_default-clause-told g c begun =
+pub returns-in_default-clause-shown : goal.returns-in_default-clause-shown
+returns-in_default-clause-shown g c begun =
     let E = g.E.End in
     let now = (g.O.Sink.state c.args.output.now).written in
     let h : WhereKnown (λ log. WithText now now (E.tells (E.terms c.args.end.now) Ended.NoMemory log)) (g.W.Wires.state c.args.wires.now c.args.link).log =
-    told-empty (λ log. WithText now now (E.tells (E.terms c.args.end.now) Ended.NoMemory log)) (g.W.Wires.state c.args.wires.now c.args.link).log
+    known-empty (λ log. WithText now now (E.tells (E.terms c.args.end.now) Ended.NoMemory log)) (g.W.Wires.state c.args.wires.now c.args.link).log
     (text-none now (E.tells (E.terms c.args.end.now) Ended.NoMemory []) (g.met.E.End.stops c.args.end.now [] [] [] Ended.NoMemory tt begun)) c.requires.unused.unread in
     search (rules, h)
 
@@ -46,7 +46,7 @@ loop-ended-preserved g c = record {
       (subst (λ t. WhereKnown (ReadsWhere (λ log. (text : List ℕ) × E.tells t (Ended.Idle 0) log text)) (g.W.Wires.state c.loop-ended.wires c.args.link).log) (sym c.loop-ended.invariant.terms) (c.loop-ended.invariant.waits begun)));
   going = c.in-Ok-turn.ensures.going;
   buffer = c.turn.ensures.buffer;
-  told = c.in-Ok-turn.ensures.told;
+  shown = c.in-Ok-turn.ensures.shown;
   counted = c.in-Ok-turn.ensures.counted _ c.loop-ended.invariant.counted;
   keeps = Keeps-trans c.args.link _ _ _ c.loop-ended.invariant.keeps c.turn.ensures.keeps;
   kept = omega (arith, c.loop-ended.invariant.kept, c.turn.ensures.kept);

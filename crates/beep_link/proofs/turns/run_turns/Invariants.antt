@@ -15,7 +15,7 @@ invariant-loop-ended g l =
       waits : g.E.End.stands l.fn.end [] [] [] → WhereKnown (ReadsWhere (λ log. (text : List ℕ) × g.E.End.tells (g.E.End.terms l.fn.end) (Ended.Idle 0) log text)) (W.state l.wires l.link).log;
       going : (W.state l.wires l.link).has_ended ≡ false;
       buffer : vec_len l.buffers.coming ≡ BUFFER;
-      told : TellsLeft l.reads l.left (W.state l.wires l.link).log;
+      shown : TellsLeft l.reads l.left (W.state l.wires l.link).log;
       counted : CountsQuiet (W.counts l.fn.wires).quiets l.left (W.counts l.wires).quiets;
       keeps : Keeps l.link (record { state = W.state l.fn.wires; counts = W.counts l.fn.wires; asked = W.asked l.fn.wires; lent = W.lent l.fn.wires })
           (record { state = W.state l.wires; counts = W.counts l.wires; asked = W.asked l.wires; lent = W.lent l.wires });

@@ -4,7 +4,7 @@ use Rattle.beep_wires.specs.Log.{Logs, read, quiet, ended}
 use Rattle.beep_wires.specs.Links.{Counts}
 use Rattle.beep_link.specs.Causes.{CountsQuiet, IsOfReads, ReadsWhere, WhereKnown, WithText, ended_by}
 use Rattle.beep_link.specs.declared.ended.Ended.{Ended}
-use Rattle.beep_link.proofs.StandLemmas.{entered, kept, reads-grown, spent-is, take-front, text-map, text-more, told-map, told-pair}
+use Rattle.beep_link.proofs.StandLemmas.{entered, kept, reads-grown, spent-is, take-front, text-map, text-more, known-map, known-pair}
 use Rattle.beep_link.proofs.turns.turn.Goals as goal
 
 pub returns-in_err-say-clause-stopped : goal.returns-in_err-say-clause-stopped
@@ -16,7 +16,7 @@ returns-in-Some-clause-stopped g c before s =
     let now = (g.O.Sink.state c.args.output.now).written in
     let old = E.terms c.args.end.now in
     subst (λ e. WhereKnown (λ log. WithText before now (E.tells old e log)) (g.W.Wires.state c.say.new.wires c.args.link).log) (sym c.of.ensures)
-    (told-map (λ log. WithText before now (E.stands c.say.new.end log [])) (λ log. WithText before now (E.tells old (ended_by c.in-Some.stop) log))
+    (known-map (λ log. WithText before now (E.stands c.say.new.end log [])) (λ log. WithText before now (E.tells old (ended_by c.in-Some.stop) log))
     (λ log h. text-map before now (E.stands c.say.new.end log []) (E.tells old (ended_by c.in-Some.stop) log)
     (λ text k. subst (λ t. E.tells t (ended_by c.in-Some.stop) log text) c.say.ensures.terms (search (rules, k))) h)
     (g.W.Wires.state c.say.new.wires c.args.link).log (c.in_ok-say.ensures.said before now s))
@@ -35,11 +35,11 @@ returns-in-Some-is_spent-clause-stopped g c before s =
     let now = (g.O.Sink.state c.args.output.now).written in
     let t : IsOfReads c.in-Some-is_spent.ended = spent-is c.in-Some-is_spent.ended c.args.reads c.args.left.now c.in-Some-is_spent.ensures.some in
     let h : WhereKnown (λ log. WithText before now (E.tells (E.terms c.args.end.now) c.in-Some-is_spent.ended log)) (g.W.Wires.state c.say.new.wires c.args.link).log =
-    told-map (λ log. WithText before now (E.stands c.say.new.end log []) × E.rests c.say.new.end) (λ log. WithText before now (E.tells (E.terms c.args.end.now) c.in-Some-is_spent.ended log))
+    known-map (λ log. WithText before now (E.stands c.say.new.end log []) × E.rests c.say.new.end) (λ log. WithText before now (E.tells (E.terms c.args.end.now) c.in-Some-is_spent.ended log))
     (λ log h. text-map before now (E.stands c.say.new.end log []) (E.tells (E.terms c.args.end.now) c.in-Some-is_spent.ended log)
     (λ text k. subst (λ e. E.tells e c.in-Some-is_spent.ended log text) c.say.ensures.terms (g.met.E.End.spends c.say.new.end log text c.in-Some-is_spent.ended t (search rules) h.1 k)) h.0)
     (g.W.Wires.state c.say.new.wires c.args.link).log
-    (told-pair _ _ (g.W.Wires.state c.say.new.wires c.args.link).log (c.in_ok-say.ensures.said before now s) (c.in_ok-say.ensures.rested before now s)) in
+    (known-pair _ _ (g.W.Wires.state c.say.new.wires c.args.link).log (c.in_ok-say.ensures.said before now s) (c.in_ok-say.ensures.rested before now s)) in
     search (rules, h)
 
 pub returns-in-Ok-clause-stands : goal.returns-in-Ok-clause-stands
@@ -100,7 +100,7 @@ returns-in-Err-clause-stopped g c before s =
     let old = E.terms c.args.end.now in
     let h : WhereKnown (λ log. WithText before now (E.tells old Ended.WireFault log)) (g.W.Wires.state c.read_once.new.wires c.args.link).log =
     kept (λ log. WithText before now (E.tells old Ended.WireFault log)) (g.W.Wires.state c.say.new.wires c.args.link).log (g.W.Wires.state c.read_once.new.wires c.args.link).log (search rules)
-    (told-map (λ log. WithText before now (E.stands c.say.new.end log [])) (λ log. WithText before now (E.tells old Ended.WireFault log))
+    (known-map (λ log. WithText before now (E.stands c.say.new.end log [])) (λ log. WithText before now (E.tells old Ended.WireFault log))
     (λ log h. text-map before now (E.stands c.say.new.end log []) (E.tells old Ended.WireFault log)
     (λ text k. subst (λ e. E.tells e Ended.WireFault log text) c.say.ensures.terms (g.met.E.End.stops c.say.new.end log [] text Ended.WireFault tt k)) h)
     (g.W.Wires.state c.say.new.wires c.args.link).log (c.in_ok-say.ensures.said before now s)) in
@@ -121,11 +121,11 @@ returns-in-Ok-clause-waits g c before s r =
     let now = (g.O.Sink.state c.args.output.now).written in
     let logged : Logs (g.W.Wires.state c.say.new.wires c.args.link).log (g.W.Wires.state c.read_once.new.wires c.args.link).log (read (take c.in-Ok-Bytes.count c.read_once.new.coming) ∷ []) = search rules in
     entered (λ log. ((text : List ℕ) × E.tells (E.terms c.args.end.now) (Ended.Idle 0) log text) × ReadsWhere (λ log. (text : List ℕ) × E.tells (E.terms c.args.end.now) (Ended.Idle 0) log text) log) (ReadsWhere (λ log. (text : List ℕ) × E.tells (E.terms c.args.end.now) (Ended.Idle 0) log text)) (read (take c.in-Ok-Bytes.count c.read_once.new.coming))
-    (λ log h. h) _ _ logged (told-pair _ _ _
-    (told-map (λ log. WithText before now (E.stands c.say.new.end log []) × E.rests c.say.new.end) (λ log. (text : List ℕ) × E.tells (E.terms c.args.end.now) (Ended.Idle 0) log text)
+    (λ log h. h) _ _ logged (known-pair _ _ _
+    (known-map (λ log. WithText before now (E.stands c.say.new.end log []) × E.rests c.say.new.end) (λ log. (text : List ℕ) × E.tells (E.terms c.args.end.now) (Ended.Idle 0) log text)
     (λ log h. (h.0.0, subst (λ e. E.tells e (Ended.Idle 0) log h.0.0) c.say.ensures.terms (g.met.E.End.spends c.say.new.end log h.0.0 (Ended.Idle 0) tt (search rules) h.1 h.0.2)))
     (g.W.Wires.state c.say.new.wires c.args.link).log
-    (told-pair _ _ (g.W.Wires.state c.say.new.wires c.args.link).log (c.in_ok-say.ensures.said before now s) (c.in_ok-say.ensures.rested before now s))) (reads-grown _ _ _ c.say.ensures.writes r))
+    (known-pair _ _ (g.W.Wires.state c.say.new.wires c.args.link).log (c.in_ok-say.ensures.said before now s) (c.in_ok-say.ensures.rested before now s))) (reads-grown _ _ _ c.say.ensures.writes r))
 
 pub returns-in-Err-hear-clause-waits : goal.returns-in-Err-hear-clause-waits
 returns-in-Err-hear-clause-waits g c before s r =
@@ -133,11 +133,11 @@ returns-in-Err-hear-clause-waits g c before s r =
     let now = (g.O.Sink.state c.args.output.now).written in
     let logged : Logs (g.W.Wires.state c.say.new.wires c.args.link).log (g.W.Wires.state c.read_once.new.wires c.args.link).log (read (take c.in-Ok-Bytes.count c.read_once.new.coming) ∷ []) = search rules in
     entered (λ log. ((text : List ℕ) × E.tells (E.terms c.args.end.now) (Ended.Idle 0) log text) × ReadsWhere (λ log. (text : List ℕ) × E.tells (E.terms c.args.end.now) (Ended.Idle 0) log text) log) (ReadsWhere (λ log. (text : List ℕ) × E.tells (E.terms c.args.end.now) (Ended.Idle 0) log text)) (read (take c.in-Ok-Bytes.count c.read_once.new.coming))
-    (λ log h. h) _ _ logged (told-pair _ _ _
-    (told-map (λ log. WithText before now (E.stands c.say.new.end log []) × E.rests c.say.new.end) (λ log. (text : List ℕ) × E.tells (E.terms c.args.end.now) (Ended.Idle 0) log text)
+    (λ log h. h) _ _ logged (known-pair _ _ _
+    (known-map (λ log. WithText before now (E.stands c.say.new.end log []) × E.rests c.say.new.end) (λ log. (text : List ℕ) × E.tells (E.terms c.args.end.now) (Ended.Idle 0) log text)
     (λ log h. (h.0.0, subst (λ e. E.tells e (Ended.Idle 0) log h.0.0) c.say.ensures.terms (g.met.E.End.spends c.say.new.end log h.0.0 (Ended.Idle 0) tt (search rules) h.1 h.0.2)))
     (g.W.Wires.state c.say.new.wires c.args.link).log
-    (told-pair _ _ (g.W.Wires.state c.say.new.wires c.args.link).log (c.in_ok-say.ensures.said before now s) (c.in_ok-say.ensures.rested before now s))) (reads-grown _ _ _ c.say.ensures.writes r))
+    (known-pair _ _ (g.W.Wires.state c.say.new.wires c.args.link).log (c.in_ok-say.ensures.said before now s) (c.in_ok-say.ensures.rested before now s))) (reads-grown _ _ _ c.say.ensures.writes r))
 
 pub returns-in-Ok-Quiet-clause-waits : goal.returns-in-Ok-Quiet-clause-waits
 returns-in-Ok-Quiet-clause-waits g c before s r =
@@ -145,11 +145,11 @@ returns-in-Ok-Quiet-clause-waits g c before s r =
     let now = (g.O.Sink.state c.args.output.now).written in
     let logged : Logs (g.W.Wires.state c.say.new.wires c.args.link).log (g.W.Wires.state c.read_once.new.wires c.args.link).log (quiet ∷ []) = search rules in
     entered (λ log. ((text : List ℕ) × E.tells (E.terms c.args.end.now) (Ended.Idle 0) log text) × ReadsWhere (λ log. (text : List ℕ) × E.tells (E.terms c.args.end.now) (Ended.Idle 0) log text) log) (ReadsWhere (λ log. (text : List ℕ) × E.tells (E.terms c.args.end.now) (Ended.Idle 0) log text)) quiet
-    (λ log h. h) _ _ logged (told-pair _ _ _
-    (told-map (λ log. WithText before now (E.stands c.say.new.end log []) × E.rests c.say.new.end) (λ log. (text : List ℕ) × E.tells (E.terms c.args.end.now) (Ended.Idle 0) log text)
+    (λ log h. h) _ _ logged (known-pair _ _ _
+    (known-map (λ log. WithText before now (E.stands c.say.new.end log []) × E.rests c.say.new.end) (λ log. (text : List ℕ) × E.tells (E.terms c.args.end.now) (Ended.Idle 0) log text)
     (λ log h. (h.0.0, subst (λ e. E.tells e (Ended.Idle 0) log h.0.0) c.say.ensures.terms (g.met.E.End.spends c.say.new.end log h.0.0 (Ended.Idle 0) tt (search rules) h.1 h.0.2)))
     (g.W.Wires.state c.say.new.wires c.args.link).log
-    (told-pair _ _ (g.W.Wires.state c.say.new.wires c.args.link).log (c.in_ok-say.ensures.said before now s) (c.in_ok-say.ensures.rested before now s))) (reads-grown _ _ _ c.say.ensures.writes r))
+    (known-pair _ _ (g.W.Wires.state c.say.new.wires c.args.link).log (c.in_ok-say.ensures.said before now s) (c.in_ok-say.ensures.rested before now s))) (reads-grown _ _ _ c.say.ensures.writes r))
 
 pub returns-in-Ok-End-clause-waits : goal.returns-in-Ok-End-clause-waits
 returns-in-Ok-End-clause-waits g c before s r =
@@ -157,11 +157,11 @@ returns-in-Ok-End-clause-waits g c before s r =
     let now = (g.O.Sink.state c.args.output.now).written in
     let logged : Logs (g.W.Wires.state c.say.new.wires c.args.link).log (g.W.Wires.state c.read_once.new.wires c.args.link).log (ended ∷ []) = search rules in
     entered (λ log. ((text : List ℕ) × E.tells (E.terms c.args.end.now) (Ended.Idle 0) log text) × ReadsWhere (λ log. (text : List ℕ) × E.tells (E.terms c.args.end.now) (Ended.Idle 0) log text) log) (ReadsWhere (λ log. (text : List ℕ) × E.tells (E.terms c.args.end.now) (Ended.Idle 0) log text)) ended
-    (λ log h. h) _ _ logged (told-pair _ _ _
-    (told-map (λ log. WithText before now (E.stands c.say.new.end log []) × E.rests c.say.new.end) (λ log. (text : List ℕ) × E.tells (E.terms c.args.end.now) (Ended.Idle 0) log text)
+    (λ log h. h) _ _ logged (known-pair _ _ _
+    (known-map (λ log. WithText before now (E.stands c.say.new.end log []) × E.rests c.say.new.end) (λ log. (text : List ℕ) × E.tells (E.terms c.args.end.now) (Ended.Idle 0) log text)
     (λ log h. (h.0.0, subst (λ e. E.tells e (Ended.Idle 0) log h.0.0) c.say.ensures.terms (g.met.E.End.spends c.say.new.end log h.0.0 (Ended.Idle 0) tt (search rules) h.1 h.0.2)))
     (g.W.Wires.state c.say.new.wires c.args.link).log
-    (told-pair _ _ (g.W.Wires.state c.say.new.wires c.args.link).log (c.in_ok-say.ensures.said before now s) (c.in_ok-say.ensures.rested before now s))) (reads-grown _ _ _ c.say.ensures.writes r))
+    (known-pair _ _ (g.W.Wires.state c.say.new.wires c.args.link).log (c.in_ok-say.ensures.said before now s) (c.in_ok-say.ensures.rested before now s))) (reads-grown _ _ _ c.say.ensures.writes r))
 
 pub returns-in-Err-clause-waits : goal.returns-in-Err-clause-waits
 returns-in-Err-clause-waits g c before s r =

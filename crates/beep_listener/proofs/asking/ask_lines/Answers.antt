@@ -1,11 +1,11 @@
 -- What is asked in a life that has just begun is refused by nothing, and leaves what the session stands for.
 use Rattle.std.proofs.Common.{◌≡◌, ◌∙◌, refl, sym, ap, subst, rules, false, true}
 use Rattle.std.specs.Prelude.{is_some}
-use Rattle.beep_frame.specs.declared.kind.Kind.{Kind}
-use Rattle.beep_session.specs.Channels.{Gives}
-use Rattle.beep_session.specs.Session.{Held}
-use Rattle.beep_journal.proofs.MomentLemmas.{above-zero, positive}
-use Rattle.beep_talk.specs.Talk.{ready}
+use Rattle.beep_steps.specs.beep_frame.specs.declared.kind.Kind.{Kind}
+use Rattle.beep_steps.specs.beep_session.specs.Channels.{Gives}
+use Rattle.beep_steps.specs.beep_session.specs.Session.{Held}
+use Rattle.beep_steps.specs.beep_journal.proofs.MomentLemmas.{above-zero, positive}
+use Rattle.beep_steps.specs.beep_talk.specs.Talk.{ready}
 use Rattle.beep_steps.specs.Desking.{DesksWithin}
 use Rattle.beep_steps.specs.Logs.{StaysOn}
 use Rattle.beep_steps.specs.Serving.{KeepsServing}

@@ -2,7 +2,7 @@
 use Rattle.std.proofs.Common.{◌≡◌, ◌∙◌, ap, sym, take, length, arith}
 use Rattle.std.proofs.Common.{ℕ}
 use Rattle.std.proofs.Math.Seq.{take-length}
-use Rattle.beep_decide.specs.Decide.{is_among}
+use Rattle.beep_steps.specs.beep_decide.specs.Decide.{is_among}
 use Rattle.beep_listener.proofs.SpeakingLemmas.{among-more}
 use Rattle.beep_listener.proofs.asking.first_other.Goals as goal
 

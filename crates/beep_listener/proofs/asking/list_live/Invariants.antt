@@ -1,6 +1,6 @@
 -- The numbers so far are the first of the live channels.
 use Rattle.std.proofs.Common.{◌≡◌, ◌-◌, length, take}
-use Rattle.beep_peer.specs.Standing.{live_above}
+use Rattle.beep_steps.specs.beep_peer.specs.Standing.{live_above}
 use Rattle.beep_listener.proofs.asking.list_live.Given as goal
 
 abbrev pub invariant-loop-number : goal.invariant-loop-number

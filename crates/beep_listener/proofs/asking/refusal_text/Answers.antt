@@ -1,8 +1,8 @@
 -- Each character of the note may be written.
 use Rattle.std.proofs.Common.{◌≡◌, ◌∙◌, ◌++◌, ℕ, List, [], ap, codes, refl, rules}
 use Rattle.beep_listener.proofs.NoteLemmas.{allowed, plain}
-use Rattle.beep_mgmt.specs.Form.{fault}
-use Rattle.beep_mgmt.specs.Message.{message_text}
+use Rattle.beep_steps.specs.beep_mgmt.specs.Form.{fault}
+use Rattle.beep_steps.specs.beep_mgmt.specs.Message.{message_text}
 use Rattle.beep_listener.proofs.asking.refusal_text.Goals as goal
 
 pub write_mgmt-requires : goal.write_mgmt-requires

@@ -1,7 +1,7 @@
 -- Each refusal leaves what the session stands for.
 use Rattle.std.proofs.Common.{◌≡◌, ◌∙◌, ◌==◌, ℕ, true, false, ap, sym, subst, take, get_or, length, arith}
 use Rattle.std.proofs.Math.Seq.{take-length}
-use Rattle.beep_decide.specs.Decide.{is_among}
+use Rattle.beep_steps.specs.beep_decide.specs.Decide.{is_among}
 use Rattle.beep_steps.specs.Resting.{HasRepliedAt}
 use Rattle.beep_steps.proofs.CallLemmas.{stays, stays-trans}
 use Rattle.beep_steps.proofs.RestCalls.{awake-before, still-more, still-none, still-replied}

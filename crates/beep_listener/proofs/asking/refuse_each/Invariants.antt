@@ -1,11 +1,11 @@
 -- What was refused so far leaves what the session stands for; where nothing was, each channel so far owes nothing, or finds no room.
 use Rattle.std.proofs.Common.{◌≡◌, ◌≤◌, ◌==◌, ℕ, List, take, length, true, false}
-use Rattle.beep_history.specs.declared.limits.TheConstants.{MAX_MESSAGE}
-use Rattle.beep_journal.specs.Log.{Moment}
-use Rattle.beep_mgmt.specs.Form.{fault}
-use Rattle.beep_mgmt.specs.Message.{message_text}
-use Rattle.beep_decide.specs.Decide.{is_among, note_of}
-use Rattle.beep_talk.specs.Plan.{PlainPlan}
+use Rattle.beep_steps.specs.beep_history.specs.declared.limits.TheConstants.{MAX_MESSAGE}
+use Rattle.beep_steps.specs.beep_journal.specs.Log.{Moment}
+use Rattle.beep_steps.specs.beep_mgmt.specs.Form.{fault}
+use Rattle.beep_steps.specs.beep_mgmt.specs.Message.{message_text}
+use Rattle.beep_steps.specs.beep_decide.specs.Decide.{is_among, note_of}
+use Rattle.beep_steps.specs.beep_talk.specs.Plan.{PlainPlan}
 use Rattle.beep_steps.specs.Desking.{DesksOn}
 use Rattle.beep_steps.specs.Logs.{StaysOn}
 use Rattle.beep_steps.specs.Resting.{HasRepliedAt, HoldsStill, IsAwake}

@@ -1,28 +1,28 @@
 -- A refusal that is given, or finds no room, leaves what the session stands for.
 use Rattle.std.proofs.Common.{◌≡◌, ◌∙◌, sym, ap, subst, rules}
 use Rattle.std.specs.Prelude.{[]}
-use Rattle.beep_frame.specs.declared.kind.Kind.{Kind}
-use Rattle.beep_session.specs.declared.handles.Duty.{Duty}
-use Rattle.beep_session.specs.Lending.{duty_session}
-use Rattle.beep_session.specs.Session.{Held}
-use Rattle.beep_journal.proofs.MomentLemmas.{above-zero, positive}
+use Rattle.beep_steps.specs.beep_frame.specs.declared.kind.Kind.{Kind}
+use Rattle.beep_steps.specs.beep_session.specs.declared.handles.Duty.{Duty}
+use Rattle.beep_steps.specs.beep_session.specs.Lending.{duty_session}
+use Rattle.beep_steps.specs.beep_session.specs.Session.{Held}
+use Rattle.beep_steps.specs.beep_journal.proofs.MomentLemmas.{above-zero, positive}
 use Rattle.beep_steps.specs.Logs.{StaysOn}
 use Rattle.beep_steps.specs.Serving.{KeepsServing}
 use Rattle.beep_steps.proofs.CallLemmas.{same-stays, still-stays, gone-stays}
 use Rattle.beep_steps.proofs.ServeCalls.{same-serves, still-serves, gone-serves}
 use Rattle.std.proofs.Common.{◌==◌, false, true}
 use Rattle.std.specs.Prelude.{is_some}
-use Rattle.beep_lives.specs.Lives.{live_at}
-use Rattle.beep_giving.specs.Looks.{answers_of}
-use Rattle.beep_session.specs.Lending.{duty_number, has_begun}
-use Rattle.beep_decide.specs.Decide.{is_among}
+use Rattle.beep_steps.specs.beep_lives.specs.Lives.{live_at}
+use Rattle.beep_steps.specs.beep_giving.specs.Looks.{answers_of}
+use Rattle.beep_steps.specs.beep_session.specs.Lending.{duty_number, has_begun}
+use Rattle.beep_steps.specs.beep_decide.specs.Decide.{is_among}
 use Rattle.beep_steps.specs.Speaking.{KeepsSpeaking}
 use Rattle.beep_steps.proofs.SpeakCalls.{same-speaking, still-speaking}
 use Rattle.beep_steps.proofs.SpeakGives.{begun-speaking, gone-speaking}
 use Rattle.beep_steps.specs.Desking.{DesksOn}
 use Rattle.beep_listener.proofs.SpeakingLemmas.{gone-desk, rest-desk}
 use Rattle.std.specs.Prelude.{◌≢◌, length}
-use Rattle.beep_outbox.specs.declared.give_error.GiveError.{GiveError}
+use Rattle.beep_steps.specs.beep_outbox.specs.declared.give_error.GiveError.{GiveError}
 use Rattle.beep_steps.specs.Resting.{HasRepliedAt, HoldsStill, IsAwake}
 use Rattle.beep_steps.proofs.OnLemmas.{ok-map}
 use Rattle.beep_steps.proofs.RestCalls.{full-replied, none-owed, none-there, still-none, still-replied, unchanged-still}

@@ -1,7 +1,7 @@
 -- A session in which nothing has happened stands for an empty log.
 use Rattle.std.proofs.Common.{◌∙◌, ap, refl, subst, sym, [], map}
-use Rattle.beep_decide.specs.Plain.{plain_offer}
-use Rattle.beep_standing.specs.Standing.{no_marks}
+use Rattle.beep_steps.specs.beep_decide.specs.Plain.{plain_offer}
+use Rattle.beep_steps.specs.beep_standing.specs.Standing.{no_marks}
 use Rattle.beep_steps.specs.Serving.{ServesOn}
 use Rattle.beep_steps.proofs.ServeCalls.{begins-listener}
 use Rattle.beep_listener.proofs.ServingLemmas.{listener-of}
@@ -9,9 +9,9 @@ use Rattle.beep_steps.proofs.OnLemmas.{ok-map}
 use Rattle.beep_listener.specs.Listening.{UnrefusedOn, plan_of}
 use Rattle.beep_listener.proofs.ListenLemmas.{begins-listening, begun-plan, dry-as, terms-begun}
 use Rattle.beep_listener.proofs.RefusingLemmas.{begins-unrefused}
-use Rattle.beep_mgmt.specs.Message.{message_text}
-use Rattle.beep_answering.specs.Decided.{NoneTunes}
-use Rattle.beep_answering.specs.Sent.{greeting_of}
+use Rattle.beep_steps.specs.beep_mgmt.specs.Message.{message_text}
+use Rattle.beep_steps.specs.beep_answering.specs.Decided.{NoneTunes}
+use Rattle.beep_steps.specs.beep_answering.specs.Sent.{greeting_of}
 use Rattle.beep_steps.specs.Desking.{DesksOn, IsGreetingRead}
 use Rattle.beep_steps.specs.Speaking.{SpeaksOn, no_notes}
 use Rattle.beep_steps.proofs.DeskBegins.{begins-desk}

@@ -1,6 +1,6 @@
 use Rattle.std.proofs.Common.{[]}
-use Rattle.beep_history.specs.declared.journal.Side.{Side}
-use Rattle.beep_journal.specs.Zero.{zero_history}
+use Rattle.beep_asked.specs.beep_history.specs.declared.journal.Side.{Side}
+use Rattle.beep_asked.specs.beep_journal.specs.Zero.{zero_history}
 use Rattle.beep_asked.proofs.LawsLemmas.{reply-waits}
 use Rattle.beep_management.proofs.ReceivedLemmas.{oldest-starts, start-has-one, reply-refused, reply-granted}
 use Rattle.beep_management.proofs.laws.a_reply_that_came_takes_the_oldest.Goals as goal

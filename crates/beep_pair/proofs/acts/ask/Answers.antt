@@ -1,8 +1,8 @@
 use Rattle.std.proofs.Common.{◌≡◌, rules, sym, subst}
-use Rattle.beep_frame.specs.Frame.{is_msg}
-use Rattle.beep_frame.specs.Modulo.{modulo_2_64}
-use Rattle.beep_channel.specs.Stands.{ends_of}
-use Rattle.beep_peer.specs.Peering.{IsPeer}
+use Rattle.beep_two_sessions.specs.beep_frame.specs.Frame.{is_msg}
+use Rattle.beep_two_sessions.specs.beep_frame.specs.Modulo.{modulo_2_64}
+use Rattle.beep_two_sessions.specs.beep_channel.specs.Stands.{ends_of}
+use Rattle.beep_two_sessions.specs.beep_peer.specs.Peering.{IsPeer}
 use Rattle.beep_pair.specs.Acts.{IsPosition}
 use Rattle.beep_pair.proofs.UprightLemmas.{upright-over}
 use Rattle.beep_pair.proofs.acts.ask.Goals as goal

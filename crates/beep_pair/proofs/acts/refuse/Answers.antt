@@ -1,7 +1,7 @@
 use Rattle.std.proofs.Common.{rules, ◌≡◌}
-use Rattle.beep_frame.specs.declared.kind.Kind.{Kind}
-use Rattle.beep_session.specs.Channels.{Gives}
-use Rattle.beep_session.specs.Lawfully.{KeepsUpright}
+use Rattle.beep_two_sessions.specs.beep_frame.specs.declared.kind.Kind.{Kind}
+use Rattle.beep_two_sessions.specs.beep_session.specs.Channels.{Gives}
+use Rattle.beep_two_sessions.specs.beep_session.specs.Lawfully.{KeepsUpright}
 use Rattle.beep_pair.proofs.UprightLemmas.{upright-over, of-ok}
 use Rattle.beep_pair.proofs.acts.refuse.Goals as goal
 

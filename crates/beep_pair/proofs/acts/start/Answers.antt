@@ -1,5 +1,5 @@
 use Rattle.std.proofs.Common.{◌≡◌, None, subst}
-use Rattle.beep_session.specs.Acts.{AsksZero, start_text, refusal_of_start}
+use Rattle.beep_two_sessions.specs.beep_session.specs.Acts.{AsksZero, start_text, refusal_of_start}
 use Rattle.beep_pair.proofs.acts.start.Goals as goal
 
 pub start-requires-clause-back : goal.start-requires-clause-back

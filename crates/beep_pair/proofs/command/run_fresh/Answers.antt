@@ -1,8 +1,8 @@
 use Rattle.std.proofs.Common.{List, [], Ok, Err}
 use Rattle.std.specs.declared.result.Result.{Result}
 use Rattle.std.specs.Result.{IfOk}
-use Rattle.beep_octets.specs.Held.{Held as Octets}
-use Rattle.beep_session.specs.declared.limits.Limits.{Limits}
+use Rattle.beep_two_sessions.specs.beep_octets.specs.Held.{Held as Octets}
+use Rattle.beep_two_sessions.specs.beep_session.specs.declared.limits.Limits.{Limits}
 use Rattle.beep_schedule.specs.declared.event.PairEvent.{PairEvent}
 use Rattle.beep_pair.specs.Sessions.{Sessions}
 use Rattle.beep_pair.specs.World.{Leads}

@@ -1,6 +1,6 @@
 use Rattle.std.proofs.Common.{◌≡◌, ◌≤◌, ◌+◌, ◌-◌, false, true, length}
-use Rattle.beep_peer.specs.Peering.{is_over}
-use Rattle.beep_tally.specs.Accounts.{one_if}
+use Rattle.beep_two_sessions.specs.beep_peer.specs.Peering.{is_over}
+use Rattle.beep_report.specs.beep_tally.specs.Accounts.{one_if}
 use Rattle.beep_pair.specs.Sessions.{IsReady, Hears}
 use Rattle.beep_pair.proofs.hear.hear.Given as goal
 

@@ -1,5 +1,5 @@
 use Rattle.std.proofs.Common.{◌≡◌, ◌-◌, length, take}
-use Rattle.beep_peer.specs.Standing.{live_above}
+use Rattle.beep_two_sessions.specs.beep_peer.specs.Standing.{live_above}
 use Rattle.beep_pair.proofs.lives.live_numbers.Given as goal
 
 abbrev pub invariant-loop-number : goal.invariant-loop-number

@@ -1,6 +1,6 @@
 use Rattle.std.proofs.Common.{◌∙◌, false, [], ◌∷◌, ◌++◌, refl, ap, sym, subst}
-use Rattle.beep_decide.specs.declared.decision.Offer.{Offer}
-use Rattle.beep_session.specs.Session.{AreLimits}
+use Rattle.beep_two_sessions.specs.beep_decide.specs.declared.decision.Offer.{Offer}
+use Rattle.beep_two_sessions.specs.beep_session.specs.Session.{AreLimits}
 use Rattle.beep_pair.proofs.UriLemmas.{offer_fits, offer_is}
 use Rattle.beep_pair.proofs.GreetingLemmas.{short_greeting}
 use Rattle.beep_pair.proofs.ReadyLemmas.{begun_with}

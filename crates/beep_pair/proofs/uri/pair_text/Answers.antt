@@ -1,5 +1,5 @@
 use Rattle.std.proofs.Common.{ap, ◌∙◌}
-use Rattle.beep_answering.specs.Sent.{is_uri}
+use Rattle.beep_two_sessions.specs.beep_answering.specs.Sent.{is_uri}
 use Rattle.beep_pair.proofs.UriLemmas.{is_pair_uri, uri_fits}
 use Rattle.beep_pair.proofs.uri.pair_text.Goals as goal
 

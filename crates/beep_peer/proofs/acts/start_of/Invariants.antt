@@ -1,5 +1,5 @@
 use Rattle.std.proofs.Common.{◌≡◌, map, take}
-use Rattle.beep_mgmt.specs.Form.{plain_profile}
+use Rattle.beep_upright.specs.beep_mgmt.specs.Form.{plain_profile}
 use Rattle.beep_peer.proofs.acts.start_of.Given as goal
 
 -- the profiles before the place are copied

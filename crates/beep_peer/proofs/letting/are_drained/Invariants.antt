@@ -1,6 +1,6 @@
 use Rattle.std.proofs.Common.{◌≡◌, ℕ, ◌<◌, Some}
 use Rattle.std.specs.Prelude.{slice_get}
-use Rattle.beep_lives.specs.Lives.{numbers}
+use Rattle.beep_upright.specs.beep_lives.specs.Lives.{numbers}
 use Rattle.beep_peer.specs.Waiting.{IsDrainedAt}
 use Rattle.beep_peer.proofs.letting.are_drained.Given as goal
 

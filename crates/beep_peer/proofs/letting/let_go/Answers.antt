@@ -1,12 +1,12 @@
 -- One answer after another.
 use Rattle.std.proofs.Common.{◌≡◌, ℕ, ◌≤◌, true, false, List, length, sym, subst, arith}
 use Rattle.std.specs.Prelude.{IfSome}
-use Rattle.beep_outbox.specs.declared.outbox.TheConstants.{MAX_UNLIMITED}
-use Rattle.beep_outbox.specs.Queue.{message_marks}
-use Rattle.beep_channel.specs.Held.{IsReply, next_reply}
-use Rattle.beep_lives.specs.Lives.{live_at}
-use Rattle.beep_lives.specs.Edits.{Edits, Gives, UsesRoom}
-use Rattle.beep_management.specs.Values.{prepared_of}
+use Rattle.beep_upright.specs.beep_outbox.specs.declared.outbox.TheConstants.{MAX_UNLIMITED}
+use Rattle.beep_upright.specs.beep_outbox.specs.Queue.{message_marks}
+use Rattle.beep_upright.specs.beep_channel.specs.Held.{IsReply, next_reply}
+use Rattle.beep_upright.specs.beep_lives.specs.Lives.{live_at}
+use Rattle.beep_upright.specs.beep_lives.specs.Edits.{Edits, Gives, UsesRoom}
+use Rattle.beep_upright.specs.beep_management.specs.Values.{prepared_of}
 use Rattle.beep_peer.proofs.DrainedLemmas.{drained-other, lets-one, lets-nothing, keeps-all, keeps-more}
 use Rattle.beep_peer.proofs.OwedLemmas.{lets-none, lets-held, lets-more, surely-let, zero-there, answer-may, answer-fits, first-then, first-rest, rest-of}
 use Rattle.beep_peer.proofs.FallLemmas.{lets-left}

@@ -1,6 +1,6 @@
 use Rattle.std.proofs.Common.{◌≤◌, List, ℕ, length}
-use Rattle.beep_history.specs.Journal.{Item}
-use Rattle.beep_standing.specs.Standing.{Marks}
+use Rattle.beep_upright.specs.beep_history.specs.Journal.{Item}
+use Rattle.beep_upright.specs.beep_standing.specs.Standing.{Marks}
 use Rattle.beep_peer.specs.Peering.{Holds}
 use Rattle.beep_peer.specs.Calls.{LetsGo}
 use Rattle.beep_peer.specs.Left.{left_to_say}

@@ -2,12 +2,12 @@
 use Rattle.std.proofs.Common.{◌≡◌, ℕ, Bool, true, false, ◌||◌, List, ◌∷◌, Option, Some, option_map, refl, sym, ap, ◌∙◌, subst}
 use Rattle.std.proofs.Math.Logic.{∥∥₁_map}
 use Rattle.std.specs.Option.{option_map_or}
-use Rattle.beep_mgmt.specs.Form.{form_of}
-use Rattle.beep_history.specs.declared.journal.Side.{Side}
-use Rattle.beep_history.specs.Journal.{Item, passed}
-use Rattle.beep_standing.specs.Standing.{Marks}
-use Rattle.beep_asked.specs.Kept.{Kept, oldest, fits}
-use Rattle.beep_asked.specs.Request.{kept_of}
+use Rattle.beep_upright.specs.beep_mgmt.specs.Form.{form_of}
+use Rattle.beep_upright.specs.beep_history.specs.declared.journal.Side.{Side}
+use Rattle.beep_upright.specs.beep_history.specs.Journal.{Item, passed}
+use Rattle.beep_upright.specs.beep_standing.specs.Standing.{Marks}
+use Rattle.beep_upright.specs.beep_asked.specs.Kept.{Kept, oldest, fits}
+use Rattle.beep_upright.specs.beep_asked.specs.Request.{kept_of}
 use Rattle.beep_hearing.specs.Hears.{Passes}
 use Rattle.beep_hearing.proofs.RoomLemmas.{room-others}
 use Rattle.beep_answering.specs.Decided.{IsSettledAs}

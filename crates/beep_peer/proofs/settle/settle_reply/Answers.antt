@@ -1,9 +1,9 @@
 -- A reply has its form exactly where it fits the oldest own request; else it breaks ZeroReply.
 use Rattle.std.proofs.Common.{◌≡◌, ℕ, false, option_map, refl, sym, ap, ◌∙◌}
 use Rattle.std.specs.Option.{option_map_or}
-use Rattle.beep_frame.specs.declared.rule.Rule.{Rule}
-use Rattle.beep_mgmt.specs.Form.{form_of}
-use Rattle.beep_asked.specs.Kept.{Queue, oldest, fits}
+use Rattle.beep_upright.specs.beep_frame.specs.declared.rule.Rule.{Rule}
+use Rattle.beep_upright.specs.beep_mgmt.specs.Form.{form_of}
+use Rattle.beep_upright.specs.beep_asked.specs.Kept.{Queue, oldest, fits}
 use Rattle.beep_peer.specs.declared.settle_error.SettleError.{SettleError}
 use Rattle.beep_peer.proofs.WaitingLemmas.{any-ear}
 use Rattle.beep_peer.proofs.AnsweredLemmas.{form-fits}

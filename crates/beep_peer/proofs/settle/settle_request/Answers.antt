@@ -2,15 +2,15 @@
 use Rattle.std.proofs.Common.{Bool, false, ◌||◌, Option, Result, Ok, Err, OnErr, List, ℕ, ◌+◌, length, [], ◌∷◌, ◌++◌, option_map, inl, refl, sym, ap, ◌∙◌, subst}
 use Rattle.std.proofs.Math.Bool.{or-false}
 use Rattle.std.proofs.Math.Logic.{∥∥₁_map}
-use Rattle.beep_mgmt.specs.Form.{Form, form_of}
-use Rattle.beep_history.specs.declared.journal.Side.{Side}
-use Rattle.beep_history.specs.Journal.{Item, passed}
-use Rattle.beep_standing.specs.Standing.{Marks}
+use Rattle.beep_upright.specs.beep_mgmt.specs.Form.{Form, form_of}
+use Rattle.beep_upright.specs.beep_history.specs.declared.journal.Side.{Side}
+use Rattle.beep_upright.specs.beep_history.specs.Journal.{Item, passed}
+use Rattle.beep_upright.specs.beep_standing.specs.Standing.{Marks}
 use Rattle.beep_hearing.proofs.RoomLemmas.{room-others}
-use Rattle.beep_management.specs.Values.{prepared_of}
-use Rattle.beep_asked.specs.Kept.{is_leaving}
-use Rattle.beep_decide.specs.Decide.{PlainStanding, decide}
-use Rattle.beep_decide.specs.Plain.{plain_standing}
+use Rattle.beep_upright.specs.beep_management.specs.Values.{prepared_of}
+use Rattle.beep_upright.specs.beep_asked.specs.Kept.{is_leaving}
+use Rattle.beep_upright.specs.beep_decide.specs.Decide.{PlainStanding, decide}
+use Rattle.beep_upright.specs.beep_decide.specs.Plain.{plain_standing}
 use Rattle.beep_answering.specs.Decided.{IsAnswer, SaysAnswer, SettledBy, kind_of}
 use Rattle.beep_peer.specs.declared.peer.Peer.{Peer}
 use Rattle.beep_peer.specs.Peering.{Holds, WaitsIn, IsWaiting}

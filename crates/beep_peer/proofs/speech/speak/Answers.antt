@@ -1,8 +1,8 @@
 -- What the channels let go out joins the journal, and is done.
 use Rattle.std.proofs.Common.{List, sym, ◌∙◌, subst, arith}
-use Rattle.beep_channel.specs.Held.{Live}
-use Rattle.beep_speaking.specs.declared.emit.Emit.{Emit}
-use Rattle.beep_speaking.specs.Emits.{Emits}
+use Rattle.beep_upright.specs.beep_channel.specs.Held.{Live}
+use Rattle.beep_upright.specs.beep_speaking.specs.declared.emit.Emit.{Emit}
+use Rattle.beep_upright.specs.beep_speaking.specs.Emits.{Emits}
 use Rattle.beep_peer.specs.Calls.{Speaks}
 use Rattle.beep_peer.specs.Waiting.{IsStuck}
 use Rattle.beep_peer.proofs.StuckLemmas.{stuck-told}

@@ -1,5 +1,5 @@
 use Rattle.std.proofs.Common.{◌≡◌, ◌++◌, filter, take}
-use Rattle.beep_asked.specs.Kept.{closes}
+use Rattle.beep_upright.specs.beep_asked.specs.Kept.{closes}
 use Rattle.beep_peer.proofs.standing.list_closing.Given as goal
 
 -- those before the place whose close waits are listed

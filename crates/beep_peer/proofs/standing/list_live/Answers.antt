@@ -1,6 +1,6 @@
 -- The number at each place but the first is listed.
 use Rattle.std.proofs.Common.{ℕ, Vec, Global, sym, ap, ◌∙◌, rules, arith}
-use Rattle.beep_lives.specs.Lives.{numbers}
+use Rattle.beep_upright.specs.beep_lives.specs.Lives.{numbers}
 use Rattle.beep_peer.proofs.StandingLemmas.{above-more, zero-not, each-placed}
 use Rattle.beep_peer.proofs.standing.list_live.Goals.{in-Some+then-i-ne0+in_ok-push, in-Some+else-i-ne0, in_default}
 use Rattle.beep_peer.proofs.standing.list_live.Goals as goal

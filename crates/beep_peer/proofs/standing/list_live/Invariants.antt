@@ -1,5 +1,5 @@
 use Rattle.std.proofs.Common.{◌≡◌, ◌++◌, take}
-use Rattle.beep_lives.specs.Lives.{numbers}
+use Rattle.beep_upright.specs.beep_lives.specs.Lives.{numbers}
 use Rattle.beep_peer.specs.Standing.{rest_of}
 use Rattle.beep_peer.proofs.standing.list_live.Given as goal
 

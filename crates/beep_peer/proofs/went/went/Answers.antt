@@ -1,15 +1,15 @@
 -- A request waits, and a reply grants or refuses.
 use Rattle.std.proofs.Common.{Bool, true, false, ◌∷◌, sym, ap, ◌∙◌, subst}
-use Rattle.beep_frame.specs.declared.kind.Kind.{Kind}
-use Rattle.beep_frame.specs.Frame.{is_msg, same_kind}
-use Rattle.beep_history.specs.declared.journal.Side.{Side}
-use Rattle.beep_history.specs.Journal.{began, passed}
-use Rattle.beep_asked.specs.Request.{kept_of}
+use Rattle.beep_upright.specs.beep_frame.specs.declared.kind.Kind.{Kind}
+use Rattle.beep_upright.specs.beep_frame.specs.Frame.{is_msg, same_kind}
+use Rattle.beep_upright.specs.beep_history.specs.declared.journal.Side.{Side}
+use Rattle.beep_upright.specs.beep_history.specs.Journal.{began, passed}
+use Rattle.beep_upright.specs.beep_asked.specs.Request.{kept_of}
 use Rattle.beep_peer.specs.Calls.{AreLeft, IsDone}
 use Rattle.beep_peer.proofs.LetLemmas.{left-answered}
 use Rattle.beep_peer.proofs.GoneLemmas.{taken-by, request-gone, refusal-gone, grant-gone, out-act, out-room, out-answer, out-starts, out-joins, out-number, out-above, out-left}
 use Rattle.beep_peer.proofs.WentLemmas.{request-upright, refusal-upright, grant-upright}
-use Rattle.beep_management.specs.Moved.{is_live_in}
+use Rattle.beep_upright.specs.beep_management.specs.Moved.{is_live_in}
 use Rattle.beep_peer.proofs.FallLemmas.{request-falls, refusal-falls, grant-falls}
 use Rattle.beep_peer.proofs.went.went.Goals as goal
 

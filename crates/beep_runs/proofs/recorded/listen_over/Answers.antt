@@ -1,9 +1,9 @@
 -- The links come back from the recorder as it leaves them.
 use Rattle.std.proofs.Common.{rules}
 use Rattle.std.specs.Result.{IfOk, IfErr}
-use Rattle.beep_journal.specs.declared.role.Role.{Role}
+use Rattle.beep_listener.specs.beep_journal.specs.declared.role.Role.{Role}
 use Rattle.beep_runs.specs.Runs.{AsksThis, HasListened, IsRecorded, NotGiven, Ran, seen_of}
-use Rattle.beep_wires.specs.Links.{accept}
+use Rattle.beep_listener.specs.beep_wires.specs.Links.{accept}
 use Rattle.beep_runs.proofs.RunLemmas.{moved}
 use Rattle.beep_runs.proofs.recorded.listen_over.Goals as goal
 

@@ -1,17 +1,17 @@
 -- A session in which nothing has happened is that of a sender that has said nothing.
 use Rattle.std.proofs.Common.{◌≡◌, ◌∙◌, ℕ, List, [], map, false, refl, sym, ap, subst}
-use Rattle.beep_decide.specs.Decide.{PlainOffer}
-use Rattle.beep_decide.specs.Plain.{plain_offer}
-use Rattle.beep_mgmt.specs.Message.{message_text}
-use Rattle.beep_answering.specs.Sent.{greeting_of}
-use Rattle.beep_peer.specs.Calls.{Begins}
-use Rattle.beep_journal.specs.declared.role.Role.{Role}
-use Rattle.beep_standing.specs.Standing.{no_marks}
-use Rattle.beep_session.specs.declared.limits.Limits.{Limits}
-use Rattle.beep_session.specs.Lawfully.{IsLawfulSession, terms_of}
-use Rattle.beep_session.specs.Session.{Held}
-use Rattle.beep_talk.specs.declared.plan.Command.{Command}
-use Rattle.beep_talk.specs.Plan.{PlainPlan}
+use Rattle.beep_steps.specs.beep_decide.specs.Decide.{PlainOffer}
+use Rattle.beep_steps.specs.beep_decide.specs.Plain.{plain_offer}
+use Rattle.beep_steps.specs.beep_mgmt.specs.Message.{message_text}
+use Rattle.beep_steps.specs.beep_answering.specs.Sent.{greeting_of}
+use Rattle.beep_steps.specs.beep_peer.specs.Calls.{Begins}
+use Rattle.beep_steps.specs.beep_journal.specs.declared.role.Role.{Role}
+use Rattle.beep_steps.specs.beep_standing.specs.Standing.{no_marks}
+use Rattle.beep_steps.specs.beep_session.specs.declared.limits.Limits.{Limits}
+use Rattle.beep_steps.specs.beep_session.specs.Lawfully.{IsLawfulSession, terms_of}
+use Rattle.beep_steps.specs.beep_session.specs.Session.{Held}
+use Rattle.beep_steps.specs.beep_talk.specs.declared.plan.Command.{Command}
+use Rattle.beep_steps.specs.beep_talk.specs.Plan.{PlainPlan}
 use Rattle.beep_steps.specs.Logs.{terms_by}
 use Rattle.beep_steps.specs.Sending.{Progress, SendsOn, IsSender, at_first, sender_plan}
 use Rattle.beep_steps.specs.Scripting.{ScriptedOn}

@@ -1,5 +1,5 @@
 use Rattle.std.proofs.Common.{List, sym, subst}
-use Rattle.beep_channel.specs.Held.{Live}
+use Rattle.beep_standing.specs.beep_channel.specs.Held.{Live}
 use Rattle.beep_speaking.specs.Emits.{IsReached}
 use Rattle.beep_speaking.proofs.emit.emit_next.Goals as goal
 

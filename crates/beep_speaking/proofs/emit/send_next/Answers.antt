@@ -1,6 +1,6 @@
 use Rattle.std.proofs.Common.{◌++◌, List, ℕ, length, ap, ◌∙◌, arith}
-use Rattle.beep_frame.specs.Frame.{framed}
-use Rattle.beep_frame.specs.Spelling.{spelling}
+use Rattle.beep_standing.specs.beep_frame.specs.Frame.{framed}
+use Rattle.beep_standing.specs.beep_frame.specs.Spelling.{spelling}
 use Rattle.beep_speaking.proofs.SendLemmas.{sized}
 use Rattle.beep_speaking.proofs.emit.send_next.Goals as goal
 

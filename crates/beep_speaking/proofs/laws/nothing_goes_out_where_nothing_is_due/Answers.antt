@@ -1,6 +1,6 @@
 use Rattle.std.proofs.Common.{ℕ}
-use Rattle.beep_journal.specs.Life.{history}
-use Rattle.beep_lives.specs.Lives.{can_send, owes_seq}
+use Rattle.beep_standing.specs.beep_journal.specs.Life.{history}
+use Rattle.beep_standing.specs.beep_lives.specs.Lives.{can_send, owes_seq}
 use Rattle.beep_standing.specs.Due.{has_due, has_ready}
 use Rattle.beep_standing.proofs.DueLemmas.{channel-due, channel-ready, none-by}
 use Rattle.beep_speaking.proofs.laws.nothing_goes_out_where_nothing_is_due.Goals as goal

@@ -4,8 +4,8 @@ use Rattle.beep_session.specs.declared.event.Event.{Event}
 use Rattle.std.specs.Prelude.{take}
 use Rattle.beep_steps.proofs.ServeCalls.{HeardServing, answers-kept, hears-serving}
 use Rattle.beep_session.specs.Lawfully.{terms_of}
-use Rattle.beep_lawful.specs.declared.terms.Terms.{Terms}
-use Rattle.beep_journal.specs.Log.{got_all}
+use Rattle.beep_session.specs.beep_lawful.specs.declared.terms.Terms.{Terms}
+use Rattle.beep_session.specs.beep_journal.specs.Log.{got_all}
 use Rattle.beep_steps.specs.Logs.{ShowsFault}
 use Rattle.beep_steps.proofs.EndsLemmas.{feed-broken, feed-released, still-going}
 use Rattle.beep_steps.proofs.EndSends.{HeardSending, hears-sending, release-sent}

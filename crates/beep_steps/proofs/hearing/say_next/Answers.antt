@@ -1,12 +1,12 @@
 -- What goes out joins what is to be written.
 use Rattle.std.proofs.Common.{◌≡◌, ◌∙◌, [], false, true, refl, sym, ap, subst, min}
-use Rattle.beep_journal.specs.Log.{put_all}
-use Rattle.beep_peer.specs.Peering.{is_over}
-use Rattle.beep_octets.specs.Held.{Held as Octets}
-use Rattle.beep_speaking.specs.declared.emit.Emit.{Emit}
-use Rattle.beep_peer.specs.declared.peer.Peer.{Peer}
-use Rattle.beep_peer.specs.Calls.{Speaks}
-use Rattle.beep_settings.specs.declared.limits.TheConstants.{MAX_PIECE}
+use Rattle.beep_session.specs.beep_journal.specs.Log.{put_all}
+use Rattle.beep_session.specs.beep_peer.specs.Peering.{is_over}
+use Rattle.beep_session.specs.beep_octets.specs.Held.{Held as Octets}
+use Rattle.beep_session.specs.beep_speaking.specs.declared.emit.Emit.{Emit}
+use Rattle.beep_session.specs.beep_peer.specs.declared.peer.Peer.{Peer}
+use Rattle.beep_session.specs.beep_peer.specs.Calls.{Speaks}
+use Rattle.beep_session.specs.beep_settings.specs.declared.limits.TheConstants.{MAX_PIECE}
 use Rattle.beep_steps.specs.Logs.{StandsOn}
 use Rattle.beep_steps.proofs.CallLemmas.{emits-on}
 use Rattle.beep_steps.proofs.EmitScripts.{emits-scripting}

@@ -1,8 +1,8 @@
 -- A message that is settled has passed, or its last octet broke a rule.
 use Rattle.std.proofs.Common.{◌≡◌, false, true, [], refl, ap, Err}
-use Rattle.beep_frame.specs.Frame.{is_msg}
-use Rattle.beep_history.specs.declared.journal.Side.{Side}
-use Rattle.beep_journal.specs.Zero.{zero_history, completes_form}
+use Rattle.beep_session.specs.beep_frame.specs.Frame.{is_msg}
+use Rattle.beep_session.specs.beep_history.specs.declared.journal.Side.{Side}
+use Rattle.beep_session.specs.beep_journal.specs.Zero.{zero_history, completes_form}
 use Rattle.beep_steps.proofs.CallLemmas.{settles-logged, settles-on, fault-on, unreleased-waiting}
 use Rattle.beep_steps.proofs.EndsLemmas.{waiting-ends}
 use Rattle.beep_steps.proofs.GoLemmas.{settled-so}

@@ -1,4 +1,4 @@
-use Rattle.beep_journal.specs.Broken.{none_tunes}
+use Rattle.beep_management.specs.beep_journal.specs.Broken.{none_tunes}
 use Rattle.beep_upright.proofs.HeadLemmas.{head-lawful}
 use Rattle.beep_upright.proofs.FrameLemmas.{frame-lawful}
 use Rattle.beep_upright.proofs.LawLemmas.{with-frame}

@@ -1,4 +1,4 @@
-use Rattle.beep_journal.specs.Broken.{none_tunes}
+use Rattle.beep_management.specs.beep_journal.specs.Broken.{none_tunes}
 use Rattle.beep_upright.proofs.SeqLemmas.{seq-lawful}
 use Rattle.beep_upright.proofs.LawLemmas.{with-seq}
 use Rattle.beep_upright.proofs.laws.a_seq_that_goes_out_is_lawful.Goals as goal

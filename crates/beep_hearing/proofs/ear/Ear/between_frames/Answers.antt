@@ -1,6 +1,6 @@
 use Rattle.std.proofs.Common.{ℕ, ◌==◌, ap}
-use Rattle.beep_history.specs.declared.journal.Side.{Side}
-use Rattle.beep_history.specs.Broken.{under_way}
+use Rattle.beep_standing.specs.beep_history.specs.declared.journal.Side.{Side}
+use Rattle.beep_standing.specs.beep_history.specs.Broken.{under_way}
 use Rattle.beep_hearing.proofs.TextLemmas.{none-left}
 use Rattle.beep_hearing.proofs.ear.Ear.between_frames.Goals as goal
 

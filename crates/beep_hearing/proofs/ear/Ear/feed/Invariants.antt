@@ -1,5 +1,5 @@
 use Rattle.std.proofs.Common.{◌-◌, ◌≤◌, List, ℕ, length, take}
-use Rattle.beep_history.specs.Journal.{Item}
+use Rattle.beep_standing.specs.beep_history.specs.Journal.{Item}
 use Rattle.beep_standing.specs.Standing.{Marks}
 use Rattle.beep_hearing.specs.Hears.{IsEar, Goes, KeepsZeroRoom}
 use Rattle.beep_hearing.specs.Answers.{IsHeld}

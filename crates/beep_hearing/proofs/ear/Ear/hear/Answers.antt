@@ -3,15 +3,15 @@ use Rattle.std.proofs.Common.{◌≡◌, ◌+◌, ◌<◌, ◌≤◌, List, ℕ,
 use Rattle.std.proofs.lemmas.List.{take_all, length-take-le}
 use Rattle.std.proofs.Math.Logic.{∥∥₁_elim, ∥∥₁_map}
 use denote.Struct.Props.{props}
-use Rattle.beep_frame.specs.declared.step.Step.{Step}
-use Rattle.beep_frame.specs.Fed.{fed_of}
-use Rattle.beep_frame.specs.Decodes.{Decodes, is_broken}
-use Rattle.beep_frame.specs.Modulo.{modulo_2_64}
-use Rattle.beep_history.specs.declared.journal.Side.{Side}
-use Rattle.beep_history.specs.Broken.{under_way}
+use Rattle.beep_standing.specs.beep_frame.specs.declared.step.Step.{Step}
+use Rattle.beep_standing.specs.beep_frame.specs.Fed.{fed_of}
+use Rattle.beep_standing.specs.beep_frame.specs.Decodes.{Decodes, is_broken}
+use Rattle.beep_standing.specs.beep_frame.specs.Modulo.{modulo_2_64}
+use Rattle.beep_standing.specs.beep_history.specs.declared.journal.Side.{Side}
+use Rattle.beep_standing.specs.beep_history.specs.Broken.{under_way}
 use Rattle.beep_hearing.specs.declared.heard.Heard.{Heard}
 use Rattle.beep_hearing.specs.declared.ear.Ear.{Ear}
-use Rattle.beep_history.specs.Journal.{Item}
+use Rattle.beep_standing.specs.beep_history.specs.Journal.{Item}
 use Rattle.beep_standing.specs.Standing.{Marks}
 use Rattle.beep_hearing.specs.Hears.{Goes, IsEar}
 use Rattle.beep_hearing.specs.Left.{MayPass}

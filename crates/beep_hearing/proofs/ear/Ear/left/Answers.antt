@@ -1,7 +1,7 @@
-use Rattle.beep_frame.specs.Fed.{fed_of}
-use Rattle.beep_history.specs.declared.journal.Side.{Side}
-use Rattle.beep_history.specs.Broken.{under_way}
-use Rattle.beep_frame.specs.Frame.{framed}
+use Rattle.beep_standing.specs.beep_frame.specs.Fed.{fed_of}
+use Rattle.beep_standing.specs.beep_history.specs.declared.journal.Side.{Side}
+use Rattle.beep_standing.specs.beep_history.specs.Broken.{under_way}
+use Rattle.beep_standing.specs.beep_frame.specs.Frame.{framed}
 use Rattle.std.proofs.Common.{[], ◌∷◌, ◌++◌, None}
 use Rattle.beep_hearing.proofs.ear.Ear.left.Goals as goal
 

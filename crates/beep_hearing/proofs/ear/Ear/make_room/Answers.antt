@@ -1,5 +1,5 @@
 use Rattle.beep_standing.proofs.SendLemmas.{room-stays}
-use Rattle.beep_lives.specs.Edits.{KeepsHeld}
+use Rattle.beep_standing.specs.beep_lives.specs.Edits.{KeepsHeld}
 use Rattle.beep_hearing.proofs.RoomLemmas.{room-where}
 use Rattle.beep_hearing.proofs.ear.Ear.make_room.Goals as goal
 

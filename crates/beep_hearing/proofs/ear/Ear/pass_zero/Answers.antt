@@ -2,10 +2,10 @@
 use Rattle.std.proofs.Common.{◌≡◌, ◌==◌, ℕ, List, ◌∷◌, Some, length, sym, ap, subst, subst₂, ◌∙◌}
 use Rattle.std.proofs.Math.Logic.{∥∥₁_elim}
 use denote.Struct.Props.{props}
-use Rattle.beep_frame.specs.declared.head.Head.{Head}
-use Rattle.beep_history.specs.declared.journal.Side.{Side}
-use Rattle.beep_history.specs.Journal.{passed}
-use Rattle.beep_lives.specs.Lives.{live_at, receiving_of}
+use Rattle.beep_standing.specs.beep_frame.specs.declared.head.Head.{Head}
+use Rattle.beep_standing.specs.beep_history.specs.declared.journal.Side.{Side}
+use Rattle.beep_standing.specs.beep_history.specs.Journal.{passed}
+use Rattle.beep_standing.specs.beep_lives.specs.Lives.{live_at, receiving_of}
 use Rattle.beep_hearing.specs.Hears.{Passes, KeepsOthers}
 use Rattle.beep_hearing.proofs.AnswerLemmas.{has-room}
 use Rattle.beep_hearing.proofs.DropLemmas.{keeps-both}

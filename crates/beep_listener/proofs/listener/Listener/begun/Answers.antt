@@ -1,6 +1,6 @@
 -- The numbers of the live channels are noted, and where a life begins it is spoken there.
 use Rattle.std.proofs.Common.{◌≡◌, ◌∙◌, ℕ, ap, false, true, rules, subst, sym}
-use Rattle.beep_decide.specs.Decide.{is_among}
+use Rattle.beep_steps.specs.beep_decide.specs.Decide.{is_among}
 use Rattle.beep_steps.proofs.OnLemmas.{ok-then}
 use Rattle.beep_listener.specs.Speaking.{notes_of}
 use Rattle.beep_listener.proofs.SpeakingLemmas.{none-gone, one-gone, taken-speaking}

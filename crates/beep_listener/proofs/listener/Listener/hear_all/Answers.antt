@@ -1,10 +1,10 @@
 -- Each event uses one octet at least, so that all are used.
 use Rattle.std.proofs.Common.{◌≡◌, ◌∙◌, ◌++◌, ◌+◌, refl, subst, length, take, arith}
-use Rattle.beep_journal.specs.Log.{got_all}
-use Rattle.beep_link.specs.Causes.{ended_by}
-use Rattle.beep_link.proofs.StandLemmas.{text-map}
-use Rattle.beep_session.specs.Lawfully.{terms_of}
-use Rattle.beep_talk.specs.Plan.{PlainPlan}
+use Rattle.beep_steps.specs.beep_journal.specs.Log.{got_all}
+use Rattle.beep_steps.specs.beep_link.specs.Causes.{ended_by}
+use Rattle.beep_steps.specs.beep_link.proofs.StandLemmas.{text-map}
+use Rattle.beep_steps.specs.beep_session.specs.Lawfully.{terms_of}
+use Rattle.beep_steps.specs.beep_talk.specs.Plan.{PlainPlan}
 use Rattle.beep_steps.specs.Logs.{StopsOn}
 use Rattle.beep_steps.specs.Refusing.{RefusesOn}
 use Rattle.beep_steps.specs.Serving.{ServesOn}

@@ -1,8 +1,8 @@
 -- The octets so far are used, and each event uses one at least.
 use Rattle.std.proofs.Common.{◌≡◌, ◌≤◌, ◌++◌, ℕ, List, length, take}
-use Rattle.beep_journal.specs.Log.{Moment, got_all}
-use Rattle.beep_link.specs.Causes.{WithText}
-use Rattle.beep_talk.specs.Plan.{PlainPlan}
+use Rattle.beep_steps.specs.beep_journal.specs.Log.{Moment, got_all}
+use Rattle.beep_steps.specs.beep_link.specs.Causes.{WithText}
+use Rattle.beep_steps.specs.beep_talk.specs.Plan.{PlainPlan}
 use Rattle.beep_steps.specs.Serving.{ServesOn}
 use Rattle.beep_listener.specs.Listening.{Listens, UnrefusedOn, plan_of}
 use Rattle.beep_listener.specs.Speaking.{SpeaksBy}

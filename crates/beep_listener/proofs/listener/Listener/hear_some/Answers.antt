@@ -1,11 +1,11 @@
 -- What comes is used, and what stops the session shows on the log of all octets.
 use Rattle.std.proofs.Common.{◌++◌, false, rules, sym, ap, subst, take, drop}
-use Rattle.beep_journal.specs.Log.{got_all}
-use Rattle.beep_lawful.specs.declared.terms.Terms.{Terms}
-use Rattle.beep_link.specs.Causes.{ended_by, WithText}
-use Rattle.beep_link.proofs.StandLemmas.{text-map}
-use Rattle.beep_talk.specs.declared.plan.Command.{Command}
-use Rattle.beep_session.specs.Lawfully.{terms_of}
+use Rattle.beep_steps.specs.beep_journal.specs.Log.{got_all}
+use Rattle.beep_steps.specs.beep_lawful.specs.declared.terms.Terms.{Terms}
+use Rattle.beep_steps.specs.beep_link.specs.Causes.{ended_by, WithText}
+use Rattle.beep_steps.specs.beep_link.proofs.StandLemmas.{text-map}
+use Rattle.beep_steps.specs.beep_talk.specs.declared.plan.Command.{Command}
+use Rattle.beep_steps.specs.beep_session.specs.Lawfully.{terms_of}
 use Rattle.beep_steps.specs.declared.hearing.Came.{Came}
 use Rattle.beep_steps.specs.Logs.{ComesOn, StandsOn, StopsOn, WaitsOn, command_of}
 use Rattle.beep_steps.specs.Refusing.{ComesUnrefused, IsUnrefused, RefusesOn}

@@ -1,9 +1,9 @@
 -- What is owed is refused in each life that is noted.
 use Rattle.std.proofs.Common.{◌≡◌, ◌∙◌, ◌≤◌, ap, sym, subst, rules, ℕ, List, length}
-use Rattle.beep_history.specs.declared.limits.TheConstants.{MAX_MESSAGE}
-use Rattle.beep_mgmt.specs.Form.{fault}
-use Rattle.beep_mgmt.specs.Message.{message_text}
-use Rattle.beep_decide.specs.Decide.{note_of}
+use Rattle.beep_steps.specs.beep_history.specs.declared.limits.TheConstants.{MAX_MESSAGE}
+use Rattle.beep_steps.specs.beep_mgmt.specs.Form.{fault}
+use Rattle.beep_steps.specs.beep_mgmt.specs.Message.{message_text}
+use Rattle.beep_steps.specs.beep_decide.specs.Decide.{note_of}
 use Rattle.beep_listener.specs.Speaking.{notes_of}
 use Rattle.beep_listener.proofs.RestingLemmas.{refusal-small}
 use Rattle.beep_listener.proofs.listener.Listener.refill.Goals as goal

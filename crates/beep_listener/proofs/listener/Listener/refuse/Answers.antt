@@ -1,6 +1,6 @@
 -- A refusal is given in a life that is noted.
 use Rattle.std.proofs.Common.{◌≡◌, true, rules}
-use Rattle.beep_decide.specs.Decide.{is_among}
+use Rattle.beep_steps.specs.beep_decide.specs.Decide.{is_among}
 use Rattle.beep_listener.specs.Speaking.{notes_of}
 use Rattle.beep_listener.proofs.listener.Listener.refuse.Goals as goal
 

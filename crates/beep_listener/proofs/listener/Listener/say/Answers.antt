@@ -1,9 +1,9 @@
 -- What goes out leaves what is kept, and a frame of channel zero may end lives.
 use Rattle.std.proofs.Common.{◌≡◌, ◌∙◌, ◌==◌, false, true, sym, ap, subst, rules, ℕ, List}
-use Rattle.beep_journal.specs.Log.{put_all}
+use Rattle.beep_steps.specs.beep_journal.specs.Log.{put_all}
 use Rattle.beep_lines.specs.declared.bodies.Body.{Body}
-use Rattle.beep_talk.specs.declared.plan.Command.{Command}
-use Rattle.beep_speaking.specs.declared.emit.Emit.{Emit}
+use Rattle.beep_steps.specs.beep_talk.specs.declared.plan.Command.{Command}
+use Rattle.beep_steps.specs.beep_speaking.specs.declared.emit.Emit.{Emit}
 use Rattle.beep_steps.specs.Desking.{DesksWithin, SaidDesk}
 use Rattle.beep_steps.specs.Refusing.{closing_by}
 use Rattle.beep_steps.specs.Resting.{RestsAfter}

@@ -1,7 +1,7 @@
 -- A message that is settled may end lives, and what stops there brings no line.
 use Rattle.std.proofs.Common.{◌∙◌, ap, false, subst, sym}
-use Rattle.beep_session.specs.Lawfully.{terms_of}
-use Rattle.beep_talk.specs.declared.plan.Command.{Command}
+use Rattle.beep_steps.specs.beep_session.specs.Lawfully.{terms_of}
+use Rattle.beep_steps.specs.beep_talk.specs.declared.plan.Command.{Command}
 use Rattle.beep_steps.specs.Logs.{command_of}
 use Rattle.beep_steps.specs.Serving.{ServesOn}
 use Rattle.beep_steps.proofs.OnLemmas.{err-map, ok-then}

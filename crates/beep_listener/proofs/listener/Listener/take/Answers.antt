@@ -1,6 +1,6 @@
 -- A request that is refused leaves what the session stands for.
 use Rattle.std.proofs.Common.{◌++◌, false, ap, subst}
-use Rattle.beep_link.proofs.StandLemmas.{text-map}
+use Rattle.beep_steps.specs.beep_link.proofs.StandLemmas.{text-map}
 use Rattle.beep_steps.proofs.CallLemmas.{stays-trans}
 use Rattle.beep_listener.specs.Listening.{WritesLines}
 use Rattle.beep_listener.proofs.HearLemmas.{listens-as, listens-some}

@@ -1,10 +1,10 @@
 -- A frame is taken part by part, until none is left.
 use Rattle.std.proofs.Common.{◌∙◌, ◌++◌, ◌+◌, refl, false, drop, length, sym, subst, arith}
-use Rattle.beep_session.specs.Session.{Held}
-use Rattle.beep_inbox.specs.Laws.{part_marks}
+use Rattle.beep_steps.specs.beep_session.specs.Session.{Held}
+use Rattle.beep_steps.specs.beep_inbox.specs.Laws.{part_marks}
 use Rattle.beep_lines.specs.Lines.{GathersAll, GathersSome}
-use Rattle.beep_link.specs.Causes.{WithText}
-use Rattle.beep_link.proofs.StandLemmas.{take-front, text-map}
+use Rattle.beep_steps.specs.beep_link.specs.Causes.{WithText}
+use Rattle.beep_steps.specs.beep_link.proofs.StandLemmas.{take-front, text-map}
 use Rattle.beep_steps.specs.Logs.{StaysOn}
 use Rattle.beep_steps.specs.Serving.{ServesOn}
 use Rattle.beep_steps.proofs.CallLemmas.{stays, stays-trans}

@@ -1,10 +1,10 @@
 -- What was taken so far leaves what the session stands for.
 use Rattle.std.proofs.Common.{◌≡◌, ◌≤◌, ◌++◌, ℕ, List}
-use Rattle.beep_journal.specs.Log.{Moment}
-use Rattle.beep_link.specs.Causes.{WithText}
+use Rattle.beep_steps.specs.beep_journal.specs.Log.{Moment}
+use Rattle.beep_steps.specs.beep_link.specs.Causes.{WithText}
 use Rattle.beep_steps.specs.Logs.{StaysOn}
 use Rattle.beep_steps.specs.Serving.{KeepsServing, ServesOn}
-use Rattle.beep_talk.specs.Plan.{PlainPlan}
+use Rattle.beep_steps.specs.beep_talk.specs.Plan.{PlainPlan}
 use Rattle.beep_listener.specs.Listening.{ListensTaking}
 use Rattle.beep_steps.specs.Speaking.{Notes}
 use Rattle.beep_listener.specs.Speaking.{notes_of, TakesOn}

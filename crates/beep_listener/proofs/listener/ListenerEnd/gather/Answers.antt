@@ -1,6 +1,6 @@
 -- What was said joins what is to be written.
 use Rattle.std.proofs.Common.{◌≡◌, ◌∙◌, ap, refl, subst, sym, rules, true, false}
-use Rattle.beep_journal.specs.Log.{put_all}
+use Rattle.beep_steps.specs.beep_journal.specs.Log.{put_all}
 use Rattle.beep_steps.specs.Logs.{moments}
 use Rattle.beep_steps.specs.Serving.{ServesOn}
 use Rattle.beep_listener.specs.Listening.{plan_of}

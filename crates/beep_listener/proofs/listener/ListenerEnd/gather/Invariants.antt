@@ -1,7 +1,7 @@
 -- What goes out leaves what is kept.
 use Rattle.std.proofs.Common.{◌≡◌, ℕ, List}
-use Rattle.beep_journal.specs.Log.{Moment, put_all}
-use Rattle.beep_talk.specs.Plan.{PlainPlan}
+use Rattle.beep_steps.specs.beep_journal.specs.Log.{Moment, put_all}
+use Rattle.beep_steps.specs.beep_talk.specs.Plan.{PlainPlan}
 use Rattle.beep_steps.specs.Serving.{ServesOn}
 use Rattle.beep_listener.specs.Listening.{Listens, UnrefusedOn, plan_of}
 use Rattle.beep_listener.specs.Speaking.{SpeaksBy}

@@ -1,21 +1,21 @@
 -- What was written is on the output, and what stops the session shows on the log.
 use Rattle.std.proofs.Common.{◌∷◌, ◌++◌, refl, subst, sym}
-use Rattle.beep_wires.specs.Log.{read}
-use Rattle.beep_journal.specs.Log.{got_all}
-use Rattle.beep_session.specs.Lawfully.{terms_of}
+use Rattle.beep_steps.specs.beep_wires.specs.Log.{read}
+use Rattle.beep_steps.specs.beep_journal.specs.Log.{got_all}
+use Rattle.beep_steps.specs.beep_session.specs.Lawfully.{terms_of}
 use Rattle.beep_steps.specs.Logs.{moments, SaysNothing, StopsOn}
 use Rattle.beep_steps.specs.Refusing.{RefusesOn}
-use Rattle.beep_link.specs.declared.ended.Ended.{Ended}
-use Rattle.beep_link.specs.declared.ended.Stop.{Stop}
+use Rattle.beep_steps.specs.beep_link.specs.declared.ended.Ended.{Ended}
+use Rattle.beep_steps.specs.beep_link.specs.declared.ended.Stop.{Stop}
 use Rattle.beep_listener.specs.Turning.{goes_refused}
-use Rattle.beep_link.proofs.StandLemmas.{text-map}
+use Rattle.beep_steps.specs.beep_link.proofs.StandLemmas.{text-map}
 use Rattle.beep_steps.specs.Serving.{ServesOn}
 use Rattle.beep_steps.proofs.OnLemmas.{nothing-stops, ok-then, stopped-on}
 use Rattle.beep_steps.proofs.RefusesLemmas.{stop-refuses}
 use Rattle.beep_steps.proofs.ServeLemmas.{shows-serving}
 use Rattle.beep_listener.specs.Listening.{Listens, ListensDry, plan_of}
 use Rattle.beep_listener.proofs.HearLemmas.{failed-tells, flushed-listens, heard-or, stop-tells, text-then}
-use Rattle.beep_steps.proofs.DeskTold.{told-comes}
+use Rattle.beep_steps.proofs.DeskSaid.{said-comes}
 use Rattle.beep_steps.proofs.ResultLemmas.{err-both, ok-and}
 use Rattle.beep_steps.proofs.SpeakShown.{shows-comes}
 use Rattle.beep_listener.specs.Speaking.{notes_of, SpeaksAll}
@@ -56,7 +56,7 @@ returns-in-Ok-clause-stopped g c log text s =
     err-both c.hear_all-heard.result _ _ _ (λ stop w r. text-map before after _ _
     (λ more t. (
       (t, shows-serving (plan_of a.session) a.session c.args.bytes.now (moments log) s.0.1, stop-refuses (terms_of a.session) stop log c.args.bytes.now (goes_refused a.session a.bodies a.lines.octets.octets log Ended.Released tt s.0.2) r),
-      (shows-comes (plan_of a.session) (notes_of a) a.session c.args.bytes.now (moments log) s.1.0, told-comes (plan_of a.session) a.session c.args.bytes.now (moments log) s.1.1.on s.1.1.listed),
+      (shows-comes (plan_of a.session) (notes_of a) a.session c.args.bytes.now (moments log) s.1.0, said-comes (plan_of a.session) a.session c.args.bytes.now (moments log) s.1.1.on s.1.1.listed),
       stop_idle (plan_of a.session) stop all,
     )) w)
     (err-both c.hear_all-heard.result _ _ _
@@ -87,7 +87,7 @@ returns-in-Err-clause-stopped g c log text s =
         shows-serving (plan_of a.session) a.session octets (moments log) s.0.1,
         stop-refuses (terms_of a.session) stop log octets (goes_refused a.session a.bodies a.lines.octets.octets log Ended.Released tt s.0.2) (subst (λ (x : Stop). RefusesOn (terms_of a.session) x (got_all octets (moments log))) (sym c.in-Err.ensures.stopped) tt),
       ),
-      (shows-comes (plan_of a.session) (notes_of a) a.session octets (moments log) s.1.0, told-comes (plan_of a.session) a.session octets (moments log) s.1.1.on s.1.1.listed),
+      (shows-comes (plan_of a.session) (notes_of a) a.session octets (moments log) s.1.0, said-comes (plan_of a.session) a.session octets (moments log) s.1.1.on s.1.1.listed),
       stop_idle (plan_of a.session) stop all,
     ))
     (failed-tells (plan_of a.session) text before mid after all h.session h.bodies h.lines.octets.octets c.flush.new.self.octets.octets c.hear_all-heard.ensures.plan

@@ -5,9 +5,9 @@ use Rattle.beep_steps.proofs.OnLemmas.{shows-cut}
 use Rattle.beep_steps.proofs.ServeLemmas.{shows-served}
 use Rattle.beep_listener.specs.Listening.{plan_of}
 use Rattle.beep_listener.proofs.HearLemmas.{dry-all}
-use Rattle.beep_link.specs.declared.ended.Ended.{Ended}
+use Rattle.beep_steps.specs.beep_link.specs.declared.ended.Ended.{Ended}
 use Rattle.beep_listener.specs.Turning.{goes_refused}
-use Rattle.beep_steps.proofs.DeskTold.{told-goes}
+use Rattle.beep_steps.proofs.DeskSaid.{said-goes}
 use Rattle.beep_steps.proofs.SpeakShown.{shows-goes}
 use Rattle.beep_listener.specs.Speaking.{notes_of}
 use Rattle.beep_listener.proofs.listener.ListenerEnd.left.Goals as goal
@@ -25,7 +25,7 @@ returns c = record {
           shows-served plan a.session [] (moments log) s.0.1,
           goes_refused a.session a.bodies a.lines.octets.octets log (Ended.Cut c.left.result) tt s.0.2,
         ),
-        (shows-goes plan (notes_of a) a.session [] (moments log) s.1.0, told-goes plan a.session [] (moments log) s.1.1.on s.1.1.listed),
+        (shows-goes plan (notes_of a) a.session [] (moments log) s.1.0, said-goes plan a.session [] (moments log) s.1.1.on s.1.1.listed),
         tt,
       );
 }

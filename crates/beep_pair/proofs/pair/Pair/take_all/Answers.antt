@@ -1,7 +1,7 @@
 use Rattle.std.proofs.Common.{◌≡◌, ◌∙◌, ℕ, ap, subst}
-use Rattle.beep_peer.specs.Standing.{live_above}
-use Rattle.beep_session.specs.Session.{Held}
-use Rattle.beep_session.specs.Looks.{IsTakenAt}
+use Rattle.beep_two_sessions.specs.beep_peer.specs.Standing.{live_above}
+use Rattle.beep_two_sessions.specs.beep_session.specs.Session.{Held}
+use Rattle.beep_two_sessions.specs.beep_session.specs.Looks.{IsTakenAt}
 use Rattle.beep_pair.specs.Drains.{TookAll}
 use Rattle.beep_pair.specs.Draining.{TookEach}
 use Rattle.beep_pair.proofs.LeadLemmas.{none-leads, leads-as, of-held}

@@ -1,7 +1,7 @@
 use Rattle.std.proofs.Common.{◌≡◌, ◌+◌, length}
-use Rattle.beep_inbox.specs.Runs.{octets_of}
-use Rattle.beep_lives.specs.Lives.{live_at}
-use Rattle.beep_giving.specs.Looks.{inbox_of}
+use Rattle.beep_two_sessions.specs.beep_inbox.specs.Runs.{octets_of}
+use Rattle.beep_two_sessions.specs.beep_lives.specs.Lives.{live_at}
+use Rattle.beep_two_sessions.specs.beep_giving.specs.Looks.{inbox_of}
 use Rattle.beep_schedule.specs.declared.limits.TheConstants.{MAX_COUNT}
 use Rattle.beep_pair.specs.Sessions.{AreReady}
 use Rattle.beep_pair.specs.World.{Leads, held_at}

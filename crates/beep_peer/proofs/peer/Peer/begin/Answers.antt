@@ -2,9 +2,9 @@
 use Rattle.std.proofs.Common.{ℕ, ◌≤◌, false, List, [], refl, subst}
 use Rattle.std.specs.Prelude.{IfSome}
 use Rattle.std.proofs.Math.Logic.{∥∥₁_map}
-use Rattle.beep_decide.specs.Decide.{PlainOffer}
-use Rattle.beep_lives.specs.Lives.{live_at}
-use Rattle.beep_standing.specs.Standing.{no_marks}
+use Rattle.beep_upright.specs.beep_decide.specs.Decide.{PlainOffer}
+use Rattle.beep_upright.specs.beep_lives.specs.Lives.{live_at}
+use Rattle.beep_upright.specs.beep_standing.specs.Standing.{no_marks}
 use Rattle.beep_answering.specs.Sent.{IsMessage, greeting_of}
 use Rattle.beep_peer.specs.Calls.{LetsGo}
 use Rattle.beep_peer.specs.declared.peer.Peer.{Peer}

@@ -2,14 +2,14 @@
 use Rattle.std.proofs.Common.{◌≡◌, ℕ, ◌+◌, true, false, List, length, Some, Result, Ok, Err, OnErr, sym, ap, ◌∙◌, ◌≤◌, subst}
 use Rattle.std.specs.Prelude.{IfSome}
 use Rattle.std.specs.Option.{option_to_list}
-use Rattle.beep_mgmt.specs.Form.{form_of}
-use Rattle.beep_outbox.specs.declared.outbox.TheConstants.{MAX_UNLIMITED}
-use Rattle.beep_outbox.specs.Queue.{message_marks}
-use Rattle.beep_channel.specs.Held.{next_ask}
-use Rattle.beep_lives.specs.Lives.{live_at}
-use Rattle.beep_lives.specs.Edits.{Edits, Gives, UsesRoom}
+use Rattle.beep_upright.specs.beep_mgmt.specs.Form.{form_of}
+use Rattle.beep_upright.specs.beep_outbox.specs.declared.outbox.TheConstants.{MAX_UNLIMITED}
+use Rattle.beep_upright.specs.beep_outbox.specs.Queue.{message_marks}
+use Rattle.beep_upright.specs.beep_channel.specs.Held.{next_ask}
+use Rattle.beep_upright.specs.beep_lives.specs.Lives.{live_at}
+use Rattle.beep_upright.specs.beep_lives.specs.Edits.{Edits, Gives, UsesRoom}
 use Rattle.beep_hearing.specs.Hears.{HasZeroRoom}
-use Rattle.beep_management.specs.Managed.{Managed, octets_prepared}
+use Rattle.beep_upright.specs.beep_management.specs.Managed.{Managed, octets_prepared}
 use Rattle.beep_peer.proofs.OwedLemmas.{zero-there}
 use Rattle.beep_peer.proofs.AskLemmas.{ask-upright}
 use Rattle.beep_peer.proofs.AskedLemmas.{message-short, surely-given, given-zero}

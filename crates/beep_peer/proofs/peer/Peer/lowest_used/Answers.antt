@@ -1,7 +1,7 @@
 -- The lowest of the live numbers above zero and of those that are starting.
 use Rattle.std.proofs.Common.{Some, None, ◌++◌, sym, ap, ◌∙◌}
-use Rattle.beep_lives.specs.Lives.{numbers}
-use Rattle.beep_management.specs.Managed.{numbers_of}
+use Rattle.beep_upright.specs.beep_lives.specs.Lives.{numbers}
+use Rattle.beep_upright.specs.beep_management.specs.Managed.{numbers_of}
 use Rattle.beep_peer.specs.Standing.{rest_of}
 use Rattle.beep_peer.proofs.LowestLemmas.{live-lowest, alone-lower, both-lowest}
 use Rattle.beep_peer.proofs.peer.Peer.lowest_used.Goals as goal

@@ -12,5 +12,5 @@ returns-clause-known g c =
     let old = c.args.out.now.octets in
     let new = c.write_record.new.out.octets in
     let r = c.write_record.result in
-    records-known g.K.Known.known self.short self.link (g.W.Wires.counts self.wires.now).given self.log.role (g.W.Wires.state self.wires.now) self.log.entries old new r c.if-self.false self.known self.told
+    records-known g.K.Known.known self.short self.link (g.W.Wires.counts self.wires.now).given self.log.role (g.W.Wires.state self.wires.now) self.log.entries old new r c.if-self.false self.known self.logged
     (subst (λ (l : Log). OnOk r (Writes l.role l.entries old new)) c.log.ensures.value c.write_record.ensures.appended)

@@ -2,7 +2,7 @@
 use Rattle.std.proofs.Common.{◌≡◌, ℕ, not, true, false, ap, sym, ◌∙◌, subst, rules}
 use Rattle.beep_wires.specs.Got.{read_entries}
 use Rattle.beep_recorder.specs.Kept.{IsGiven, is_recorded}
-use Rattle.beep_recorder.proofs.KeptLemmas.{beside-ended, beside-told, going-of, it-ends, it-given, it-ordered, it-read-known, it-told, it-unread, read-grown, read-in-order, read-known}
+use Rattle.beep_recorder.proofs.KeptLemmas.{beside-ended, beside-logged, going-of, it-ends, it-given, it-ordered, it-read-known, it-logged, it-unread, read-grown, read-in-order, read-known}
 use Rattle.beep_recorder.proofs.recorder.RecorderWires.read.Goals as goal
 
 pub invariant_of-self : goal.invariant_of-self
@@ -19,7 +19,7 @@ invariant_of-self g c =
       unread = old.unread;
       given = subst (λ (n : ℕ). IsGiven old.short n old.link) (ap (λ k. k.given) (sym e.counts)) old.given;
       ended = beside-ended old.short old.link c.args.link log state state2 not_it e.others old.ended;
-      told = beside-told old.short old.link c.args.link log state state2 not_it e.others old.told;
+      logged = beside-logged old.short old.link c.args.link log state state2 not_it e.others old.logged;
       known = read-known g.K.Known.known old.short old.link (W.counts old.wires.now) (W.counts c.read.new.self) old.log.role old.known _ e.counts;
     }
 
@@ -42,6 +42,6 @@ invariant_of-self-2 g c =
       unread = it-unread old.short old.link c.args.link log state state2 it more k.new.log k.result k.ensures.kept;
       given = it-given old.short old.link c.args.link (not k.result) (W.counts old.wires.now).given (W.counts c.read-answer.new.self).given it (ap (λ n. n.given) e.counts) old.given;
       ended = it-ends old.short old.link c.args.link log state state2 it more k.new.log k.result k.ensures.kept (read-grown r buf log (state c.args.link).has_ended (state2 c.args.link).has_ended was c.requires.going e.end);
-      told = it-told old.short old.link c.args.link log state state2 it more k.new.log k.result k.ensures.kept e.logged old.told;
+      logged = it-logged old.short old.link c.args.link log state state2 it more k.new.log k.result k.ensures.kept e.logged old.logged;
       known = it-read-known g.K.Known.known old.short old.link (W.counts old.wires.now) (W.counts c.read-answer.new.self) old.log.role old.known c.args.link (not k.result) it _ e.counts;
     }

@@ -1,7 +1,7 @@
 -- A link that is shut keeps its log.
 use Rattle.std.proofs.Common.{◌≡◌, ℕ, ap, sym, subst}
 use Rattle.beep_recorder.specs.Kept.{IsGiven}
-use Rattle.beep_recorder.proofs.KeptLemmas.{kept-known, shut-ended, shut-told}
+use Rattle.beep_recorder.proofs.KeptLemmas.{kept-known, shut-ended, shut-logged}
 use Rattle.beep_recorder.proofs.recorder.RecorderWires.shut.Goals as goal
 
 pub invariant_of-self : goal.invariant_of-self
@@ -17,6 +17,6 @@ invariant_of-self g c =
       unread = old.unread;
       given = subst (λ (n : ℕ). IsGiven old.short n old.link) (ap (λ k. k.given) (sym e.same_counts)) old.given;
       ended = shut-ended old.short old.link c.args.link log state state2 e.shut e.others old.ended;
-      told = shut-told old.short old.link c.args.link log state state2 e.shut e.others old.told;
+      logged = shut-logged old.short old.link c.args.link log state state2 e.shut e.others old.logged;
       known = kept-known g.K.Known.known old.short old.link (W.counts old.wires.now) (W.counts c.shut.new.self) old.log.role old.known e.same_counts;
     }

@@ -1,7 +1,7 @@
 -- A close that is given is the sender's own.
 use Rattle.std.proofs.Common.{◌≡◌, ◌∙◌, Bool, true, false, refl, sym, subst}
 use Rattle.std.specs.Prelude.{Ok}
-use Rattle.beep_session.specs.Lawfully.{terms_of}
+use Rattle.beep_steps.specs.beep_session.specs.Lawfully.{terms_of}
 use Rattle.beep_steps.specs.Sending.{SendsOn, if_closed}
 use Rattle.beep_steps.proofs.CallSends.{with-terms}
 use Rattle.beep_steps.proofs.SendEnding.{close-going, close-second, close-there}

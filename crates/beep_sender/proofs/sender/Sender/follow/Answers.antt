@@ -1,7 +1,7 @@
 -- What is called for is asked, and else nothing is.
 use Rattle.std.proofs.Common.{◌≡◌, ◌∙◌, ◌⊎◌, ⊎_elim, ℕ, Bool, true, false, Option, None, Some, ap, refl, sym}
-use Rattle.beep_answering.specs.declared.settled.Settled.{Settled}
-use Rattle.beep_talk.specs.declared.plan.Command.{Command}
+use Rattle.beep_steps.specs.beep_answering.specs.declared.settled.Settled.{Settled}
+use Rattle.beep_steps.specs.beep_talk.specs.declared.plan.Command.{Command}
 use Rattle.beep_steps.specs.Desking.{closes_own}
 use Rattle.beep_steps.specs.Refusing.{refused_so}
 use Rattle.beep_sender.specs.Sender.{plan_of, progress_of, AsksBy}

@@ -1,7 +1,7 @@
 -- The octets so far are used, and each event uses one at least.
 use Rattle.std.proofs.Common.{◌≡◌, ◌≤◌, List, length, take}
-use Rattle.beep_journal.specs.Log.{Moment, got_all}
-use Rattle.beep_talk.specs.declared.plan.Command.{Command}
+use Rattle.beep_steps.specs.beep_journal.specs.Log.{Moment, got_all}
+use Rattle.beep_steps.specs.beep_talk.specs.declared.plan.Command.{Command}
 use Rattle.beep_steps.specs.Refusing.{IsUnrefused}
 use Rattle.beep_sender.specs.Sender.{plan_of, AsksBy, ScriptsBy, SendsBy}
 use Rattle.beep_sender.proofs.sender.Sender.hear_all.Given as goal

@@ -1,10 +1,10 @@
 -- What comes leaves a sender so far, and what stops it shows on the log.
 use Rattle.std.proofs.Common.{◌∙◌, refl, sym, ap, subst, take, drop}
-use Rattle.beep_journal.specs.Log.{got_all}
-use Rattle.beep_session.specs.Lawfully.{terms_of}
-use Rattle.beep_lawful.specs.declared.terms.Terms.{Terms}
-use Rattle.beep_talk.specs.declared.plan.Command.{Command}
-use Rattle.beep_talk.specs.Plan.{PlainPlan}
+use Rattle.beep_steps.specs.beep_journal.specs.Log.{got_all}
+use Rattle.beep_steps.specs.beep_session.specs.Lawfully.{terms_of}
+use Rattle.beep_steps.specs.beep_lawful.specs.declared.terms.Terms.{Terms}
+use Rattle.beep_steps.specs.beep_talk.specs.declared.plan.Command.{Command}
+use Rattle.beep_steps.specs.beep_talk.specs.Plan.{PlainPlan}
 use Rattle.beep_steps.specs.declared.hearing.Came.{Came}
 use Rattle.beep_steps.specs.Logs.{command_of}
 use Rattle.beep_steps.specs.Refusing.{ComesUnrefused, IsUnrefused, RefusesOn}

@@ -1,6 +1,6 @@
 -- What is given is the sender's own.
 use Rattle.std.proofs.Common.{refl}
-use Rattle.beep_session.specs.Lawfully.{terms_of}
+use Rattle.beep_steps.specs.beep_session.specs.Lawfully.{terms_of}
 use Rattle.beep_steps.specs.Sending.{at_next}
 use Rattle.beep_steps.proofs.CallSends.{with-terms}
 use Rattle.beep_sender.specs.Sender.{plan_of, progress_of}

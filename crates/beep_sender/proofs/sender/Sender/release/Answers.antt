@@ -1,13 +1,13 @@
 -- A release that is given is the sender's own.
 use Rattle.std.proofs.Common.{◌≡◌, ◌∙◌, ap, false, refl, sym, true, arith, rules}
-use Rattle.beep_session.specs.Lawfully.{terms_of}
+use Rattle.beep_steps.specs.beep_session.specs.Lawfully.{terms_of}
 use Rattle.beep_sender.specs.Sender.{plan_of, progress_of}
 use Rattle.beep_steps.proofs.CallSends.{releases-sends, unchanged-sends, with-terms}
 use Rattle.beep_sender.proofs.SenderLemmas.{same-terms}
 use Rattle.beep_steps.proofs.CallScripts.{releases-scripts, unchanged-scripts, with-terms-scripted}
 use Rattle.beep_steps.proofs.PartLemmas.{none-waits}
 use Rattle.beep_steps.proofs.SendReleases.{releases-freely}
-use Rattle.beep_peer.specs.declared.refusals.ReleaseError.{ReleaseError}
+use Rattle.beep_steps.specs.beep_peer.specs.declared.refusals.ReleaseError.{ReleaseError}
 use Rattle.beep_steps.specs.Desking.{closes_own}
 use Rattle.beep_sender.proofs.AskingLemmas.{as-plan, none-refuses, releases-asking, settled-quiet}
 use Rattle.beep_sender.proofs.sender.Sender.release.Goals as goal

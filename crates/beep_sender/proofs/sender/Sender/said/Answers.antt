@@ -1,6 +1,6 @@
 -- What went out was a frame.
 use Rattle.std.proofs.Common.{subst, refl, sym}
-use Rattle.beep_speaking.specs.declared.emit.Emit.{Emit}
+use Rattle.beep_steps.specs.beep_speaking.specs.declared.emit.Emit.{Emit}
 use Rattle.beep_steps.specs.Sending.{SendsOn, went_by}
 use Rattle.beep_sender.specs.Sender.{plan_of, progress_of}
 use Rattle.beep_steps.specs.Scripting.{ScriptedOn}

@@ -1,6 +1,6 @@
 -- A message that is settled leaves a sender so far.
-use Rattle.beep_session.specs.Lawfully.{terms_of}
-use Rattle.beep_talk.specs.declared.plan.Command.{Command}
+use Rattle.beep_steps.specs.beep_session.specs.Lawfully.{terms_of}
+use Rattle.beep_steps.specs.beep_talk.specs.declared.plan.Command.{Command}
 use Rattle.beep_steps.specs.Logs.{command_of}
 use Rattle.beep_steps.proofs.CallScripts.{with-terms-scripted}
 use Rattle.beep_steps.proofs.CallSends.{with-terms}
@@ -9,7 +9,7 @@ use Rattle.beep_steps.proofs.SettledLemmas.{settled-on, settled-stops}
 use Rattle.beep_sender.specs.Sender.{plan_of, progress_of, ScriptsBy, SendsBy}
 use Rattle.beep_sender.proofs.SenderLemmas.{always-ok}
 use Rattle.std.proofs.Common.{ap, sym, subst}
-use Rattle.beep_talk.specs.Plan.{PlainPlan}
+use Rattle.beep_steps.specs.beep_talk.specs.Plan.{PlainPlan}
 use Rattle.beep_steps.specs.Desking.{DesksWithin}
 use Rattle.beep_steps.specs.Steps.{SettledOn}
 use Rattle.beep_sender.proofs.AskingLemmas.{settled-asking}

@@ -1,17 +1,17 @@
 -- What `one_profile` says of each number it says of this one; a start that is given is the sender's own.
 use Rattle.std.proofs.Common.{◌≡◌, ◌∙◌, ap, false, refl, rules, sym, true}
 use Rattle.beep_sender.specs.declared.sender.TheConstants.{CHANNEL}
-use Rattle.beep_session.specs.Lawfully.{terms_of}
+use Rattle.beep_steps.specs.beep_session.specs.Lawfully.{terms_of}
 use Rattle.beep_sender.specs.Sender.{plan_of, progress_of}
 use Rattle.beep_steps.proofs.CallSends.{starts-sends, unchanged-sends, with-terms}
 use Rattle.beep_sender.proofs.SenderLemmas.{same-terms}
 use Rattle.beep_steps.proofs.CallScripts.{starts-scripts, unchanged-scripts, with-terms-scripted}
 use Rattle.beep_steps.proofs.PartLemmas.{none-waits}
 use Rattle.beep_steps.proofs.SendStarts.{start-first, starts-freely}
-use Rattle.beep_peer.specs.declared.refusals.StartError.{StartError}
+use Rattle.beep_steps.specs.beep_peer.specs.declared.refusals.StartError.{StartError}
 use Rattle.beep_sender.proofs.AskingLemmas.{as-plan, none-refuses, starts-asking}
-use Rattle.beep_journal.specs.declared.role.Role.{Role}
-use Rattle.beep_decide.specs.Numbers.{may_start}
+use Rattle.beep_steps.specs.beep_journal.specs.declared.role.Role.{Role}
+use Rattle.beep_steps.specs.beep_decide.specs.Numbers.{may_start}
 use Rattle.beep_sender.proofs.sender.Sender.start.Goals as goal
 use Rattle.beep_sender.proofs.sender.Sender.start.Goals.{then-self-ne-UNSTARTED-via-then-self-ne-UNSTARTED, then-self-ne-UNSTARTED-via-else-self-ne-UNSTARTED+then-zero_waits, then-self-ne-UNSTARTED-via-else-self-ne-UNSTARTED+else-zero_waits+then-not-may_start}
 

@@ -1,6 +1,6 @@
 -- The end of the lines has gone.
 use Rattle.std.proofs.Common.{◌≡◌, ◌∙◌, ◌==◌, Bool, true, false, not, ◌&&◌, ap, refl, sym, subst}
-use Rattle.beep_frame.specs.Frame.{is_nul}
+use Rattle.beep_steps.specs.beep_frame.specs.Frame.{is_nul}
 use Rattle.beep_steps.specs.Sending.{SendsOn}
 use Rattle.beep_sender.specs.Sender.{plan_of, progress_of}
 use Rattle.beep_sender.proofs.AskingLemmas.{gone-closing, gone-quiet}

@@ -1,20 +1,20 @@
 -- What was said joins what is to be written.
 use Rattle.std.proofs.Common.{◌≡◌, ◌∙◌, sym, subst, true, false, rules}
-use Rattle.beep_journal.specs.Log.{put_all}
-use Rattle.beep_session.specs.Lawfully.{terms_of}
-use Rattle.beep_talk.specs.declared.plan.Command.{Command}
+use Rattle.beep_steps.specs.beep_journal.specs.Log.{put_all}
+use Rattle.beep_steps.specs.beep_session.specs.Lawfully.{terms_of}
+use Rattle.beep_steps.specs.beep_talk.specs.declared.plan.Command.{Command}
 use Rattle.beep_steps.specs.Logs.{moments}
 use Rattle.beep_steps.specs.Refusing.{closing_by}
 use Rattle.beep_steps.specs.Sending.{went_by}
 use Rattle.beep_steps.proofs.CallScripts.{with-terms-scripted}
-use Rattle.beep_talk.specs.Plan.{PlainPlan}
+use Rattle.beep_steps.specs.beep_talk.specs.Plan.{PlainPlan}
 use Rattle.beep_sender.specs.Asking.{AsksSaid}
 use Rattle.beep_sender.specs.Sender.{plan_of, progress_of}
 use Rattle.beep_sender.proofs.AskingLemmas.{said-asking}
 use Rattle.beep_steps.proofs.ResultLemmas.{on-ok}
 use Rattle.beep_sender.proofs.SenderLemmas.{same-terms}
-use Rattle.beep_session.specs.Session.{Held}
-use Rattle.beep_speaking.specs.declared.emit.Emit.{Emit}
+use Rattle.beep_steps.specs.beep_session.specs.Session.{Held}
+use Rattle.beep_steps.specs.beep_speaking.specs.declared.emit.Emit.{Emit}
 use Rattle.beep_steps.specs.Resting.{HasSaidAll, IsAwake, RestsAfter}
 use Rattle.beep_steps.proofs.OnLemmas.{ok-map}
 use Rattle.beep_steps.proofs.RestCalls.{awake-before, still-said}

@@ -1,6 +1,6 @@
 -- What goes out joins what is to be written.
 use Rattle.std.proofs.Common.{◌≡◌, List}
-use Rattle.beep_journal.specs.Log.{Moment, put_all}
+use Rattle.beep_steps.specs.beep_journal.specs.Log.{Moment, put_all}
 use Rattle.beep_sender.specs.Sender.{plan_of, StandsBy}
 use Rattle.beep_sender.proofs.sender.SenderEnd.gather.Given as goal
 

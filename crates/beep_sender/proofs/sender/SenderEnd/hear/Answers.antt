@@ -1,16 +1,16 @@
 -- All octets that were read are used, unless the session stops; nothing is written to the output.
 use Rattle.std.proofs.Common.{◌∷◌, refl}
-use Rattle.beep_talk.specs.declared.plan.Command.{Command}
-use Rattle.beep_wires.specs.Log.{read}
-use Rattle.beep_link.proofs.StandLemmas.{text-none}
+use Rattle.beep_steps.specs.beep_talk.specs.declared.plan.Command.{Command}
+use Rattle.beep_steps.specs.beep_wires.specs.Log.{read}
+use Rattle.beep_steps.specs.beep_link.proofs.StandLemmas.{text-none}
 use Rattle.beep_steps.specs.Logs.{moments}
 use Rattle.beep_steps.specs.Turning.{stop_idle}
-use Rattle.beep_steps.proofs.DeskTold.{told-comes}
+use Rattle.beep_steps.proofs.DeskSaid.{said-comes}
 use Rattle.beep_steps.proofs.EndScripts.{comes-script}
 use Rattle.beep_steps.proofs.EndSends.{tells-stop}
 use Rattle.beep_steps.proofs.ResultLemmas.{err-both, ok-and}
 use Rattle.beep_sender.specs.Sender.{plan_of, progress_of}
-use Rattle.beep_link.specs.declared.ended.Ended.{Ended}
+use Rattle.beep_steps.specs.beep_link.specs.declared.ended.Ended.{Ended}
 use Rattle.beep_sender.proofs.RefusedLemmas.{as-closing, sent-unrefused}
 use Rattle.beep_sender.proofs.sender.SenderEnd.hear.Goals as goal
 
@@ -33,7 +33,7 @@ returns-clause-stopped g c log text s =
         tells = tells-stop (plan_of one) (progress_of one) one.session log c.args.bytes.now stop refl s.0.0.sends (sent-unrefused one log Ended.Released tt s) h r;
         script = comes-script (plan_of one) (progress_of one) one.session c.args.bytes.now (moments log) s.0.0;
       },
-      told-comes (plan_of one) one.session c.args.bytes.now (moments log) s.0.1.0.on s.0.1.0.listed,
+      said-comes (plan_of one) one.session c.args.bytes.now (moments log) s.0.1.0.on s.0.1.0.listed,
       λ short. stop_idle (plan_of one) stop all,
     ))
     (c.hear_all.ensures.stopped (moments log) s.0.0.sends) (c.hear_all.ensures.refuses (moments log) s.0.0.sends s.1)

@@ -2,7 +2,7 @@
 use Rattle.std.proofs.Common.{[]}
 use Rattle.beep_steps.specs.Logs.{moments}
 use Rattle.beep_steps.proofs.OnLemmas.{shows-cut}
-use Rattle.beep_link.specs.declared.ended.Ended.{Ended}
+use Rattle.beep_steps.specs.beep_link.specs.declared.ended.Ended.{Ended}
 use Rattle.beep_sender.proofs.RefusedLemmas.{sent-unrefused}
 use Rattle.beep_steps.proofs.EndScripts.{goes-script}
 use Rattle.beep_sender.specs.Sender.{plan_of, progress_of}

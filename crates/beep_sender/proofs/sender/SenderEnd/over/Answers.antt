@@ -1,13 +1,13 @@
 -- A sender whose session is over without a broken rule has sent all.
 use Rattle.std.proofs.Common.{◌≡◌, [], refl, rules, true}
-use Rattle.beep_peer.specs.Peering.{is_over}
+use Rattle.beep_steps.specs.beep_peer.specs.Peering.{is_over}
 use Rattle.beep_steps.specs.Logs.{moments}
 use Rattle.beep_sender.specs.Sender.{plan_of, progress_of}
 use Rattle.beep_sender.specs.SenderTurning.{ends_asking}
 use Rattle.beep_steps.proofs.EndScripts.{goes-script}
 use Rattle.beep_steps.proofs.EndSends.{over-sent}
 use Rattle.beep_steps.proofs.OnLemmas.{over-on, shows-release}
-use Rattle.beep_link.specs.declared.ended.Ended.{Ended}
+use Rattle.beep_steps.specs.beep_link.specs.declared.ended.Ended.{Ended}
 use Rattle.beep_sender.proofs.RefusedLemmas.{sent-unrefused}
 use Rattle.beep_sender.proofs.sender.SenderEnd.over.Goals as goal
 

@@ -1,7 +1,7 @@
 -- Lines are answered from the next on, and after the last the answers are ended.
 use Rattle.std.proofs.Common.{◌≡◌, ◌∙◌, ◌≤◌, List, ℕ, length, true, false, refl, sym, subst, arith, rules}
 use Rattle.std.proofs.lemmas.Bool.Decides.{nat_tests}
-use Rattle.beep_session.specs.Session.{Held}
+use Rattle.beep_steps.specs.beep_session.specs.Session.{Held}
 use Rattle.beep_steps.specs.Sending.{SendsOn, at_next}
 use Rattle.beep_steps.proofs.CallSends.{still-sends}
 use Rattle.beep_sender.proofs.SenderLemmas.{at-same, gone-sends}
@@ -9,8 +9,8 @@ use Rattle.beep_steps.specs.Scripting.{ScriptedOn}
 use Rattle.beep_steps.proofs.CallScripts.{still-scripts}
 use Rattle.beep_sender.proofs.ScriptedLemmas.{at-same-scripted, gone-scripts}
 use Rattle.std.specs.Prelude.{[]}
-use Rattle.beep_frame.specs.declared.kind.Kind.{Kind}
-use Rattle.beep_journal.proofs.MomentLemmas.{above-zero, positive}
+use Rattle.beep_steps.specs.beep_frame.specs.declared.kind.Kind.{Kind}
+use Rattle.beep_steps.specs.beep_journal.proofs.MomentLemmas.{above-zero, positive}
 use Rattle.beep_sender.specs.declared.sender.TheConstants.{CHANNEL}
 use Rattle.beep_sender.specs.Asking.{AsksOn, KeepsAsking}
 use Rattle.beep_sender.proofs.RestingLemmas.{full-as}

@@ -1,7 +1,7 @@
 -- A close that is given is the sender's own; one that is refused leaves it so far.
 use Rattle.std.proofs.Common.{◌≡◌, ◌∙◌, ap, false, true, sym, subst, rules}
-use Rattle.beep_session.specs.Session.{Held}
-use Rattle.beep_talk.specs.Plan.{PlainPlan}
+use Rattle.beep_steps.specs.beep_session.specs.Session.{Held}
+use Rattle.beep_steps.specs.beep_talk.specs.Plan.{PlainPlan}
 use Rattle.beep_steps.specs.Sending.{KeepsSending, Progress}
 use Rattle.beep_steps.proofs.CallSends.{closes-sends, still-sends}
 use Rattle.beep_steps.specs.Scripting.{KeepsScripting}

@@ -1,12 +1,12 @@
 -- An answer that is given is that of the line; one that finds no room leaves a sender so far.
 use Rattle.std.proofs.Common.{◌≡◌, ◌∷◌, [], rules}
-use Rattle.prof_raw.specs.Entries.{body_of}
+use Rattle.beep_steps.specs.prof_raw.specs.Entries.{body_of}
 use Rattle.beep_steps.proofs.CallSends.{still-sends}
 use Rattle.beep_sender.proofs.SenderLemmas.{answers-sends}
 use Rattle.beep_steps.proofs.CallScripts.{still-scripts}
 use Rattle.beep_sender.proofs.ScriptedLemmas.{answers-scripts}
-use Rattle.beep_journal.proofs.MomentLemmas.{above-zero, positive}
-use Rattle.beep_frame.specs.declared.kind.Kind.{Kind}
+use Rattle.beep_steps.specs.beep_journal.proofs.MomentLemmas.{above-zero, positive}
+use Rattle.beep_steps.specs.beep_frame.specs.declared.kind.Kind.{Kind}
 use Rattle.beep_sender.proofs.AskingLemmas.{gives-asking, still-asking}
 use Rattle.beep_sender.proofs.RestingLemmas.{full-at}
 use Rattle.beep_sender.proofs.sender.giving.give_line.Goals as goal

@@ -4,7 +4,7 @@ use Rattle.std.specs.Prelude.{Ok}
 use Rattle.beep_steps.specs.Sending.{SendsOn, at_next, if_given}
 use Rattle.beep_steps.specs.Scripting.{ScriptedOn}
 use Rattle.beep_sender.proofs.ScriptedLemmas.{at-same-scripted}
-use Rattle.prof_raw.specs.declared.line.TheConstants.{ENTRY_MAX}
+use Rattle.beep_steps.specs.prof_raw.specs.declared.line.TheConstants.{ENTRY_MAX}
 use Rattle.beep_sender.proofs.GivesLemmas.{within-of}
 use Rattle.beep_sender.proofs.RestingLemmas.{full-as}
 use Rattle.beep_sender.proofs.SenderLemmas.{at-same}

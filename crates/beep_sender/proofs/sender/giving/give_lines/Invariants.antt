@@ -1,8 +1,8 @@
 -- Each answer leaves a sender that stands for a log, whose next line is the next.
 use Rattle.std.proofs.Common.{◌≡◌, ◌≤◌, ◌-◌, length}
-use Rattle.beep_session.specs.Lending.{answering_number, answering_session}
-use Rattle.beep_session.specs.Lawfully.{terms_of}
-use Rattle.beep_talk.specs.Plan.{PlainPlan}
+use Rattle.beep_steps.specs.beep_session.specs.Lending.{answering_number, answering_session}
+use Rattle.beep_steps.specs.beep_session.specs.Lawfully.{terms_of}
+use Rattle.beep_steps.specs.beep_talk.specs.Plan.{PlainPlan}
 use Rattle.beep_sender.specs.declared.sender.TheConstants.{CHANNEL}
 use Rattle.beep_steps.specs.Scripting.{KeepsScripting}
 use Rattle.beep_steps.specs.Sending.{at_next, KeepsSending, Progress}

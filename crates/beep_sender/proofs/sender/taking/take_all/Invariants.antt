@@ -1,7 +1,7 @@
 -- What was taken so far leaves what the session stands for.
 use Rattle.std.proofs.Common.{◌≡◌, List, length}
-use Rattle.beep_journal.specs.Log.{Moment}
-use Rattle.beep_talk.specs.Plan.{PlainPlan}
+use Rattle.beep_steps.specs.beep_journal.specs.Log.{Moment}
+use Rattle.beep_steps.specs.beep_talk.specs.Plan.{PlainPlan}
 use Rattle.beep_steps.specs.Desking.{DesksWithin}
 use Rattle.beep_steps.specs.Logs.{StaysOn}
 use Rattle.beep_steps.specs.Scripting.{KeepsScripting, ScriptedOn}

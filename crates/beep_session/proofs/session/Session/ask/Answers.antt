@@ -1,18 +1,18 @@
 -- A request is given by the peer, for each journal for which the session stood.
 use Rattle.std.proofs.Common.{◌≡◌, ℕ, List, false, ap, sym, subst}
 use Rattle.std.specs.Prelude.{OnOk, IfOk}
-use Rattle.beep_frame.specs.declared.kind.Kind.{Kind}
-use Rattle.beep_frame.specs.Frame.{is_msg}
-use Rattle.beep_frame.specs.Modulo.{modulo_2_64}
-use Rattle.beep_history.specs.Journal.{Item}
-use Rattle.beep_channel.specs.Stands.{ends_of}
-use Rattle.beep_standing.specs.Standing.{Marks}
-use Rattle.beep_peer.specs.Peering.{IsPeer, IsGoing, is_over, zero_waits}
+use Rattle.beep_giving.specs.beep_frame.specs.declared.kind.Kind.{Kind}
+use Rattle.beep_giving.specs.beep_frame.specs.Frame.{is_msg}
+use Rattle.beep_giving.specs.beep_frame.specs.Modulo.{modulo_2_64}
+use Rattle.beep_giving.specs.beep_history.specs.Journal.{Item}
+use Rattle.beep_giving.specs.beep_channel.specs.Stands.{ends_of}
+use Rattle.beep_giving.specs.beep_standing.specs.Standing.{Marks}
+use Rattle.beep_giving.specs.beep_peer.specs.Peering.{IsPeer, IsGoing, is_over, zero_waits}
 use Rattle.beep_giving.specs.Giving.{GivesMessage}
 use Rattle.beep_session.specs.Session.{Held}
 use Rattle.beep_session.proofs.ActLemmas.{going-now}
 use Rattle.beep_session.proofs.GiveLemmas.{given-reached, session-gives}
-use Rattle.beep_upright.specs.Upright.{IsUpright}
+use Rattle.beep_giving.specs.beep_upright.specs.Upright.{IsUpright}
 use Rattle.beep_session.specs.Lawfully.{terms_of}
 use Rattle.beep_session.specs.Channels.{is_closing}
 use Rattle.beep_session.proofs.session.Session.ask.Goals as goal

@@ -1,6 +1,6 @@
 use Rattle.std.proofs.Common.{◌≡◌, ◌==◌, sym, subst}
 use Rattle.std.specs.Prelude.{IfSome}
-use Rattle.beep_peer.specs.Peering.{IsPeer, WaitsIn}
+use Rattle.beep_giving.specs.beep_peer.specs.Peering.{IsPeer, WaitsIn}
 use Rattle.beep_session.specs.Session.{Held}
 use Rattle.beep_session.proofs.session.Session.between_frames.Goals as goal
 

@@ -1,6 +1,6 @@
 -- A close that isn't refused may be asked.
 use Rattle.std.proofs.Common.{◌≡◌, None, sym, subst}
-use Rattle.beep_peer.specs.Acts.{close_refusal}
+use Rattle.beep_giving.specs.beep_peer.specs.Acts.{close_refusal}
 use Rattle.beep_session.specs.Session.{Held}
 use Rattle.beep_session.proofs.ActLemmas.{close-may, still-upright}
 use Rattle.beep_session.proofs.session.Session.close.Goals as goal

@@ -1,15 +1,15 @@
 -- What goes out is what the peer says, and the session's parts stand for the journal with it.
 use Rattle.std.proofs.Common.{◌≡◌, ℕ, List, false, sym, subst, arith, ◌∙◌}
-use Rattle.beep_peer.specs.Peering.{is_over, zero_waits}
+use Rattle.beep_giving.specs.beep_peer.specs.Peering.{is_over, zero_waits}
 use Rattle.beep_session.specs.Session.{Held}
 use Rattle.beep_session.proofs.ActLemmas.{going-now}
 use Rattle.beep_session.proofs.EmitLemmas.{spoken-reached}
-use Rattle.beep_history.specs.Journal.{Item}
-use Rattle.beep_standing.specs.Standing.{Marks}
-use Rattle.beep_peer.specs.Lawfully.{SpeaksLawfully}
+use Rattle.beep_giving.specs.beep_history.specs.Journal.{Item}
+use Rattle.beep_giving.specs.beep_standing.specs.Standing.{Marks}
+use Rattle.beep_giving.specs.beep_peer.specs.Lawfully.{SpeaksLawfully}
 use Rattle.beep_session.specs.Lawfully.{terms_of, IsLawfulSession}
 use Rattle.beep_session.proofs.LawfulLemmas.{not-released}
-use Rattle.beep_upright.specs.Frames.{AreFrames, IsFramed}
+use Rattle.beep_giving.specs.beep_upright.specs.Frames.{AreFrames, IsFramed}
 use Rattle.beep_session.proofs.session.Session.emit.Goals as goal
 
 pub invariant_of-self : goal.invariant_of-self

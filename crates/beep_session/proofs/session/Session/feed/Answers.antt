@@ -1,13 +1,13 @@
 -- A feed is one of the ear, and the peer stands for what that leaves.
 use Rattle.std.proofs.Common.{take, sym, ap, subst}
 use Rattle.beep_session.specs.declared.event.Event.{Event}
-use Rattle.beep_peer.specs.Peering.{IsPeer}
+use Rattle.beep_giving.specs.beep_peer.specs.Peering.{IsPeer}
 use Rattle.beep_session.specs.Feeds.{Feeds}
 use Rattle.beep_session.specs.Session.{Held}
 use Rattle.beep_session.proofs.FeedLemmas.{feeds, held-ear, reached-after, to-ear}
 use Rattle.beep_session.specs.Lawfully.{terms_of}
 use Rattle.beep_session.proofs.LawfulLemmas.{feeds-lawfully}
-use Rattle.beep_peer.specs.Waiting.{IsStuck}
+use Rattle.beep_giving.specs.beep_peer.specs.Waiting.{IsStuck}
 use Rattle.beep_session.proofs.StuckLemmas.{stuck-after}
 use Rattle.beep_session.proofs.session.Session.feed.Goals as goal
 

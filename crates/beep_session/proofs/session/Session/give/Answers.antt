@@ -2,18 +2,18 @@
 use Rattle.std.proofs.Common.{◌≡◌, ◌∙◌, ℕ, ◌+◌, ◌≤◌, List, true, false, Some, length, map, is_some, sym, subst}
 use Rattle.std.specs.Prelude.{OnOk}
 use Rattle.std.specs.Option.{option_to_list}
-use Rattle.beep_history.specs.Journal.{Item}
-use Rattle.beep_mgmt.specs.Form.{form_of}
-use Rattle.beep_lives.specs.Lives.{live_at}
-use Rattle.beep_turns.specs.declared.turns.TheConstants.{MAX_CHANNELS}
-use Rattle.beep_decide.specs.Plain.{plain_offer}
-use Rattle.beep_standing.specs.Standing.{Marks}
-use Rattle.beep_management.specs.Managed.{number_started}
-use Rattle.beep_management.specs.Manages.{AreFresh}
-use Rattle.beep_upright.specs.Upright.{IsUpright}
-use Rattle.beep_peer.specs.Asking.{MayAsk}
-use Rattle.beep_peer.specs.Peering.{Holds, IsPeer, IsGoing, is_over, zero_waits}
-use Rattle.beep_peer.specs.Acts.{GivesZero, count_used}
+use Rattle.beep_giving.specs.beep_history.specs.Journal.{Item}
+use Rattle.beep_giving.specs.beep_mgmt.specs.Form.{form_of}
+use Rattle.beep_giving.specs.beep_lives.specs.Lives.{live_at}
+use Rattle.beep_giving.specs.beep_turns.specs.declared.turns.TheConstants.{MAX_CHANNELS}
+use Rattle.beep_giving.specs.beep_decide.specs.Plain.{plain_offer}
+use Rattle.beep_giving.specs.beep_standing.specs.Standing.{Marks}
+use Rattle.beep_giving.specs.beep_management.specs.Managed.{number_started}
+use Rattle.beep_giving.specs.beep_management.specs.Manages.{AreFresh}
+use Rattle.beep_giving.specs.beep_upright.specs.Upright.{IsUpright}
+use Rattle.beep_giving.specs.beep_peer.specs.Asking.{MayAsk}
+use Rattle.beep_giving.specs.beep_peer.specs.Peering.{Holds, IsPeer, IsGoing, is_over, zero_waits}
+use Rattle.beep_giving.specs.beep_peer.specs.Acts.{GivesZero, count_used}
 use Rattle.beep_session.specs.Session.{Held}
 use Rattle.beep_session.specs.Acts.{AsksZero}
 use Rattle.beep_session.specs.Lawfully.{terms_of}

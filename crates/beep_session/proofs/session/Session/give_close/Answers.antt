@@ -1,12 +1,12 @@
 -- There is room for a close, which starts no channel.
 use Rattle.std.proofs.Common.{◌≡◌, ℕ, ◌+◌, ◌≤◌, ◌==◌, not, List, false, Some, sym, subst, arith}
 use Rattle.std.specs.Prelude.{OnOk}
-use Rattle.beep_turns.specs.declared.turns.TheConstants.{MAX_CHANNELS}
-use Rattle.beep_mgmt.specs.Form.{Form}
-use Rattle.beep_peer.specs.Asking.{MayAsk}
-use Rattle.beep_peer.specs.Peering.{is_over, zero_waits}
-use Rattle.beep_peer.specs.Acts.{count_used}
-use Rattle.beep_peer.proofs.AskedLemmas.{few-used}
+use Rattle.beep_giving.specs.beep_turns.specs.declared.turns.TheConstants.{MAX_CHANNELS}
+use Rattle.beep_giving.specs.beep_mgmt.specs.Form.{Form}
+use Rattle.beep_giving.specs.beep_peer.specs.Asking.{MayAsk}
+use Rattle.beep_giving.specs.beep_peer.specs.Peering.{is_over, zero_waits}
+use Rattle.beep_giving.specs.beep_peer.specs.Acts.{count_used}
+use Rattle.beep_giving.specs.beep_peer.proofs.AskedLemmas.{few-used}
 use Rattle.beep_session.specs.Session.{Held}
 use Rattle.beep_session.specs.Acts.{AsksZero}
 use Rattle.beep_session.proofs.ActLemmas.{going-now, held-now}

@@ -1,14 +1,14 @@
 -- A message of a reply is given by the peer, for each journal for which the session stood.
 use Rattle.std.proofs.Common.{◌≡◌, ℕ, List, false, ap, sym, subst}
 use Rattle.std.specs.Prelude.{OnOk}
-use Rattle.beep_history.specs.Journal.{Item}
-use Rattle.beep_standing.specs.Standing.{Marks}
-use Rattle.beep_peer.specs.Peering.{IsPeer, IsGoing, is_over, zero_waits}
+use Rattle.beep_giving.specs.beep_history.specs.Journal.{Item}
+use Rattle.beep_giving.specs.beep_standing.specs.Standing.{Marks}
+use Rattle.beep_giving.specs.beep_peer.specs.Peering.{IsPeer, IsGoing, is_over, zero_waits}
 use Rattle.beep_giving.specs.Giving.{GivesMessage}
 use Rattle.beep_session.specs.Session.{Held}
 use Rattle.beep_session.proofs.ActLemmas.{going-now, held-now}
 use Rattle.beep_session.proofs.GiveLemmas.{given-reached, session-gives}
-use Rattle.beep_upright.specs.Upright.{IsUpright}
+use Rattle.beep_giving.specs.beep_upright.specs.Upright.{IsUpright}
 use Rattle.beep_session.specs.Lawfully.{terms_of}
 use Rattle.beep_session.proofs.session.Session.give_reply.Goals as goal
 

@@ -4,13 +4,13 @@ use Rattle.std.specs.List.{list_all}
 use Rattle.std.proofs.lemmas.Grind.{merely}
 use Rattle.std.proofs.lemmas.List.{length-map}
 use Rattle.std.proofs.lemmas.List.Folds.{list_all-map}
-use Rattle.beep_mgmt.specs.Message.{message_text}
-use Rattle.beep_decide.specs.declared.decision.Offer.{Offer}
-use Rattle.beep_decide.specs.Decide.{PlainOffer}
-use Rattle.beep_decide.specs.Plain.{plain_offer}
-use Rattle.beep_answering.specs.Sent.{is_uri, greeting_of}
-use Rattle.beep_answering.specs.Decided.{NoneTunes}
-use Rattle.beep_peer.specs.Calls.{Begins}
+use Rattle.beep_giving.specs.beep_mgmt.specs.Message.{message_text}
+use Rattle.beep_giving.specs.beep_decide.specs.declared.decision.Offer.{Offer}
+use Rattle.beep_giving.specs.beep_decide.specs.Decide.{PlainOffer}
+use Rattle.beep_giving.specs.beep_decide.specs.Plain.{plain_offer}
+use Rattle.beep_giving.specs.beep_answering.specs.Sent.{is_uri, greeting_of}
+use Rattle.beep_giving.specs.beep_answering.specs.Decided.{NoneTunes}
+use Rattle.beep_giving.specs.beep_peer.specs.Calls.{Begins}
 use Rattle.beep_session.proofs.session.Session.new.Goals as goal
 
 pub begin-requires-clause-greeting : goal.begin-requires-clause-greeting

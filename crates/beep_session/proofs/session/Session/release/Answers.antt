@@ -1,8 +1,8 @@
 -- A release that isn't refused may be asked.
 use Rattle.std.proofs.Common.{◌≡◌, false, None, sym, subst}
-use Rattle.beep_peer.specs.Peering.{zero_waits}
-use Rattle.beep_peer.specs.Acts.{release_refusal}
-use Rattle.beep_peer.proofs.ReleasesLemmas.{may-release}
+use Rattle.beep_giving.specs.beep_peer.specs.Peering.{zero_waits}
+use Rattle.beep_giving.specs.beep_peer.specs.Acts.{release_refusal}
+use Rattle.beep_giving.specs.beep_peer.proofs.ReleasesLemmas.{may-release}
 use Rattle.beep_session.specs.Session.{Held}
 use Rattle.beep_session.proofs.ActLemmas.{going-now, held-now, still-upright}
 use Rattle.beep_session.proofs.session.Session.release.Goals as goal

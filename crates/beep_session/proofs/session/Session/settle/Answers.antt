@@ -1,22 +1,22 @@
 -- The message that waits is settled as a request or as a reply, whichever journal it waits in.
 use Rattle.std.proofs.Common.{◌≡◌, true, map, Some, Ok, Err, option_map, sym, ap, ◌∙◌, subst}
 use Rattle.std.proofs.lemmas.Grind.{merely}
-use Rattle.beep_mgmt.specs.Form.{form_of}
-use Rattle.beep_mgmt.specs.Message.{message_said}
-use Rattle.beep_decide.specs.Plain.{plain_offer}
-use Rattle.beep_peer.specs.declared.settle_error.SettleError.{SettleError}
-use Rattle.beep_peer.specs.Peering.{zero_waits}
+use Rattle.beep_giving.specs.beep_mgmt.specs.Form.{form_of}
+use Rattle.beep_giving.specs.beep_mgmt.specs.Message.{message_said}
+use Rattle.beep_giving.specs.beep_decide.specs.Plain.{plain_offer}
+use Rattle.beep_giving.specs.beep_peer.specs.declared.settle_error.SettleError.{SettleError}
+use Rattle.beep_giving.specs.beep_peer.specs.Peering.{zero_waits}
 use Rattle.beep_session.specs.Session.{Held}
 use Rattle.std.proofs.Common.{ℕ, List, ◌∷◌}
 use Rattle.std.specs.Prelude.{OnOk, OnErr}
-use Rattle.beep_frame.specs.declared.head.Head.{Head}
-use Rattle.beep_history.specs.declared.journal.Side.{Side}
-use Rattle.beep_history.specs.Journal.{Item, passed}
-use Rattle.beep_standing.specs.Standing.{Marks}
-use Rattle.beep_upright.specs.Upright.{IsUpright}
-use Rattle.beep_peer.specs.Peering.{WaitsIn}
+use Rattle.beep_giving.specs.beep_frame.specs.declared.head.Head.{Head}
+use Rattle.beep_giving.specs.beep_history.specs.declared.journal.Side.{Side}
+use Rattle.beep_giving.specs.beep_history.specs.Journal.{Item, passed}
+use Rattle.beep_giving.specs.beep_standing.specs.Standing.{Marks}
+use Rattle.beep_giving.specs.beep_upright.specs.Upright.{IsUpright}
+use Rattle.beep_giving.specs.beep_peer.specs.Peering.{WaitsIn}
 use Rattle.beep_session.specs.Lawfully.{terms_of}
-use Rattle.beep_peer.proofs.UnchangedLemmas.{unchanged-upright}
+use Rattle.beep_giving.specs.beep_peer.proofs.UnchangedLemmas.{unchanged-upright}
 use Rattle.beep_session.proofs.ReachedLemmas.{is-going, for-head}
 use Rattle.beep_session.proofs.SettleLemmas.{held-from, IsRepliedFor, AnsweredFor, FitsFor, BreaksFor, WaitsStill, reply-replied, reply-answered, reply-fits, reply-breaks, reply-waits, reply-reached, request-decided, request-asked, request-waits}
 use Rattle.beep_session.proofs.session.Session.settle.Goals as goal

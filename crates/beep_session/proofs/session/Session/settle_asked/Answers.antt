@@ -1,25 +1,25 @@
 -- A request is settled by what stands, and the peer is reached after it.
 use Rattle.std.proofs.Common.{◌≡◌, ℕ, List, map, Vec, Global, None, Some, OnErr, IfOk, option_map, sym, ap, ◌∙◌, subst}
 use Rattle.std.specs.List.{list_all}
-use Rattle.beep_history.specs.Journal.{Item}
-use Rattle.beep_standing.specs.Standing.{Marks}
-use Rattle.beep_decide.specs.declared.decision.Offer.{Offer}
-use Rattle.beep_mgmt.specs.Form.{form_of}
-use Rattle.beep_decide.specs.Decide.{PlainOffer, PlainStanding}
-use Rattle.beep_decide.specs.Plain.{plain_offer, plain_standing}
-use Rattle.beep_peer.specs.Peering.{WaitsIn, IsWaiting}
-use Rattle.beep_peer.specs.Calls.{SettlesRequest}
-use Rattle.beep_peer.specs.Standing.{standing_of}
-use Rattle.beep_peer.specs.Acts.{IsUnchanged}
-use Rattle.beep_answering.specs.Sent.{is_uri}
+use Rattle.beep_giving.specs.beep_history.specs.Journal.{Item}
+use Rattle.beep_giving.specs.beep_standing.specs.Standing.{Marks}
+use Rattle.beep_giving.specs.beep_decide.specs.declared.decision.Offer.{Offer}
+use Rattle.beep_giving.specs.beep_mgmt.specs.Form.{form_of}
+use Rattle.beep_giving.specs.beep_decide.specs.Decide.{PlainOffer, PlainStanding}
+use Rattle.beep_giving.specs.beep_decide.specs.Plain.{plain_offer, plain_standing}
+use Rattle.beep_giving.specs.beep_peer.specs.Peering.{WaitsIn, IsWaiting}
+use Rattle.beep_giving.specs.beep_peer.specs.Calls.{SettlesRequest}
+use Rattle.beep_giving.specs.beep_peer.specs.Standing.{standing_of}
+use Rattle.beep_giving.specs.beep_peer.specs.Acts.{IsUnchanged}
+use Rattle.beep_giving.specs.beep_answering.specs.Sent.{is_uri}
 use Rattle.beep_session.specs.Session.{Held, AreOffers}
 use Rattle.beep_session.proofs.StandLemmas.{stand-room, uris-plain}
 use Rattle.beep_session.proofs.ReachedLemmas.{zero-waits, reached-asked}
 use Rattle.std.proofs.Common.{◌∷◌, refl}
 use Rattle.std.specs.Prelude.{OnOk}
-use Rattle.beep_history.specs.declared.journal.Side.{Side}
-use Rattle.beep_history.specs.Journal.{passed}
-use Rattle.beep_upright.specs.Upright.{IsUpright}
+use Rattle.beep_giving.specs.beep_history.specs.declared.journal.Side.{Side}
+use Rattle.beep_giving.specs.beep_history.specs.Journal.{passed}
+use Rattle.beep_giving.specs.beep_upright.specs.Upright.{IsUpright}
 use Rattle.beep_session.specs.Lawfully.{terms_of}
 use Rattle.beep_session.proofs.session.Session.settle_asked.Goals as goal
 

@@ -1,11 +1,11 @@
 -- A start is refused by what the peer holds, and its message is that of its profiles.
 use Rattle.std.proofs.Common.{◌≡◌, ◌∙◌, ℕ, List, false, None, Some, sym, ap, subst}
-use Rattle.beep_mgmt.specs.Form.{Form}
-use Rattle.beep_mgmt.specs.Message.{message_text}
-use Rattle.beep_peer.specs.Peering.{zero_waits}
-use Rattle.beep_peer.specs.Acts.{start_refusal}
-use Rattle.beep_peer.specs.Asking.{MayAsk}
-use Rattle.beep_peer.proofs.MayLemmas.{may-start}
+use Rattle.beep_giving.specs.beep_mgmt.specs.Form.{Form}
+use Rattle.beep_giving.specs.beep_mgmt.specs.Message.{message_text}
+use Rattle.beep_giving.specs.beep_peer.specs.Peering.{zero_waits}
+use Rattle.beep_giving.specs.beep_peer.specs.Acts.{start_refusal}
+use Rattle.beep_giving.specs.beep_peer.specs.Asking.{MayAsk}
+use Rattle.beep_giving.specs.beep_peer.proofs.MayLemmas.{may-start}
 use Rattle.beep_session.specs.Session.{Held}
 use Rattle.beep_session.specs.Acts.{AsksZero}
 use Rattle.beep_session.proofs.ActLemmas.{going-now, held-now, still-upright}

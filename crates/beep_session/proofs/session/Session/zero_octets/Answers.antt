@@ -1,7 +1,7 @@
 -- What is held is bounded, by what the session stands for and by the room of the text.
 use Rattle.std.proofs.Common.{◌≡◌, ◌≤◌, List, ℕ, length, ap, sym, subst, arith}
-use Rattle.beep_text.specs.declared.limits.TheConstants.{MAX_TEXT}
-use Rattle.beep_peer.specs.Peering.{IsPeer, WaitsIn}
+use Rattle.beep_giving.specs.beep_text.specs.declared.limits.TheConstants.{MAX_TEXT}
+use Rattle.beep_giving.specs.beep_peer.specs.Peering.{IsPeer, WaitsIn}
 use Rattle.beep_session.specs.Session.{Held}
 use Rattle.beep_session.specs.Bounded.{IsBounded, IsWholeBounded}
 use Rattle.beep_session.proofs.BoundedLemmas.{standing-bounded, standing-all, hears-short, waits-short, sum-bounded}

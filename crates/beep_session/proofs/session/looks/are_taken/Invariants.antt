@@ -1,6 +1,6 @@
 use Rattle.std.proofs.Common.{◌≡◌, ℕ, ◌<◌, Some}
 use Rattle.std.specs.Prelude.{slice_get}
-use Rattle.beep_lives.specs.Lives.{numbers}
+use Rattle.beep_giving.specs.beep_lives.specs.Lives.{numbers}
 use Rattle.beep_session.specs.Looks.{IsTakenAt}
 use Rattle.beep_session.proofs.session.looks.are_taken.Given as goal
 

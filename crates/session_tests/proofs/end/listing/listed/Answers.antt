@@ -1,7 +1,7 @@
 -- A profile without content is read as it was written.
 use Rattle.std.proofs.Common.{true, refl}
-use Rattle.beep_chars.proofs.BoolLemmas.{both}
-use Rattle.beep_answering.proofs.LengthLemmas.{plain-back}
+use Rattle.beep_session.specs.beep_chars.proofs.BoolLemmas.{both}
+use Rattle.beep_session.specs.beep_answering.proofs.LengthLemmas.{plain-back}
 use Rattle.session_tests.proofs.end.listing.listed.Goals as goal
 
 pub returns-clause-back : goal.returns-clause-back
