@@ -14,7 +14,7 @@ use Rattle.beep_runs.specs.beep_steps.specs.Refusing.{GoesUnrefused, ReadsOnlyGo
 use Rattle.beep_runs.specs.beep_steps.specs.EachEnd.{EachEndOn}
 use Rattle.beep_runs.specs.beep_steps.specs.Logs.{moments, Shows, terms_by}
 use Rattle.beep_runs.specs.beep_listener.specs.Listening.{is_whole, listener_plan, AreLinesOf}
-use Rattle.beep_cmd.specs.Ends.{ended_line, ended_status, ends_run, Tells, whole_line}
+use Rattle.beep_cmd.specs.Ends.{ended_line, ended_status, ends_run, WritesLast, whole_line}
 use Rattle.beep_cmd.specs.Listening.{AreKnown, EndsBy, first_of, run_cause, Session, SessionsOver, text_of, WritesLines, WritesOf}
 use Rattle.beep_cmd.specs.Serving.{GoesOn, WritesSession, WritesSessions}
 
@@ -132,7 +132,7 @@ all_lines settings before after cause old new all w = record { sessions = w.sess
 -- ---- the last line
 
 pub last_line : (settings : Settings) (before after : Seen) (cause : Ended) (status : ℕ) (old middle new : SinkState) → old.faults ≤ middle.faults
-    → WritesSessions settings before after (EndsBy settings before after cause) old.written middle.written → Tells (ended_status cause) (ended_line cause) status middle new → WritesLines settings before after status old new
+    → WritesSessions settings before after (EndsBy settings before after cause) old.written middle.written → WritesLast (ended_status cause) (ended_line cause) status middle new → WritesLines settings before after status old new
 last_line settings before after cause status old middle new kept w last =
     record { sessions = w.sessions; over = w.over; cause = cause; ends = w.ends; middle = middle; kept = kept; lines = w.lines; last = last }
 

@@ -25,7 +25,7 @@ use Rattle.beep_show.specs.beep_input.specs.Lines.{AreLines}
 use Rattle.beep_show.specs.Show.{Run, run_of}
 use Rattle.beep_cmd.specs.Recorded.{IsEnding, lined, recorded}
 use Rattle.beep_cmd.specs.Recording.{EndsRecorded, KeepsListening, ListenRecorded, SendRecorded, record_written, record_starved, TellsRecord, TellsWhole, whole_record, no_record}
-use Rattle.beep_cmd.specs.Ends.{AcceptsAtMost, AsksOnly, DialsOnce, ended_line, ended_status, IsAcceptOf, IsDialOf, ListenCause, Listened, listen_starved, listen_written, listen_unwritten, over, SendCause, SendsLines, Sent, send_starved, session, SessionCause, Tells, whole_line, line_begun, WritesLawfully}
+use Rattle.beep_cmd.specs.Ends.{AcceptsAtMost, AsksOnly, DialsOnce, ended_line, ended_status, IsAcceptOf, IsDialOf, ListenCause, Listened, listen_starved, listen_written, listen_unwritten, over, SendCause, SendsLines, Sent, send_starved, session, SessionCause, WritesLast, whole_line, line_begun, WritesLawfully}
 use Rattle.beep_cmd.proofs.EndsLemmas.{sent}
 use Rattle.beep_cmd.proofs.ServingLemmas.{asks_once, each_none, each_of_it, each_one, session_cause}
 
@@ -35,7 +35,7 @@ regroup : (b s d e : List ℕ) → ((b ++ s) ++ d) ++ e ≡ b ++ ((s ++ d) ++ e)
 regroup b s d e = ap (λ x. x ++ e) (append_assoc b s d) ∙ append_assoc b (s ++ d) e
 
 pub record_tells : (role : Role) (link : Link) (status result : ℕ) (front text : List ℕ) (old new : SinkState) → status ≤ MAX_STATUS → RecordsLink link role [] front
-    → text ≡ (front ++ codes "S " ++ decimal status) ++ 10 ∷ [] → Tells status text result old new → TellsWhole role link status result old new
+    → text ≡ (front ++ codes "S " ++ decimal status) ++ 10 ∷ [] → WritesLast status text result old new → TellsWhole role link status result old new
 record_tells role link status result front text old new within r is tells =
     let body = first_line role ++ log_text r.writes.lines in
     let whole : front ≡ body = r.writes.text_is ∙ append-nil body in
@@ -115,19 +115,19 @@ module _ (Cause : Ended → Type 0) (role : Role) (before after : Seen) (result 
   ends_recorded (Ended.Idle reads) n c one t = whole_of (Ended.Idle reads) n (λ e. cc) c one t
   ends_recorded (Ended.Spent octets) n c one t = whole_of (Ended.Spent octets) n (λ e. cc) c one t
 
-  unsaid : result ≡ 7 → Tells 7 [] result old new → Appends old.written new.written []
+  unsaid : result ≡ 7 → WritesLast 7 [] result old new → Appends old.written new.written []
   unsaid is (whole_line e appended) = appended
   unsaid is (line_begun e rose prefix) = absurd (seven_five result is e)
 
   -- no link was given
-  pub ends_unlinked : (cause : Ended) (a b : ℕ) → NotGiven cause a b before after → (Rose a b → Cause Ended.WireFault) → Cause Ended.NoMemory → Tells (ended_status cause) (ended_line cause) result old new
+  pub ends_unlinked : (cause : Ended) (a b : ℕ) → NotGiven cause a b before after → (Rose a b → Cause Ended.WireFault) → Cause Ended.NoMemory → WritesLast (ended_status cause) (ended_line cause) result old new
       → (ended_line cause ≡ [] → (result ≡ ended_status cause) × (new.faults ≡ old.faults)) → EndsRecorded Cause role before after result old new
   ends_unlinked cause a b g asked starved tells none = elim g.why as (λ _. EndsRecorded Cause role before after result old new) [
     | inl wire ↦ record_written Ended.WireFault (λ e. cc) (λ e. cc) (asked wire.1) (ended_line Ended.WireFault) (lined (inr g.given) refl)
-        (subst (λ (c : Ended). Tells (ended_status c) (ended_line c) result old new) wire.0 tells)
+        (subst (λ (c : Ended). WritesLast (ended_status c) (ended_line c) result old new) wire.0 tells)
     | inr short ↦
         let is : result ≡ 7 = (subst (λ (c : Ended). ended_line c ≡ [] → (result ≡ ended_status c) × (new.faults ≡ old.faults)) short none refl).0 in
-        record_starved Ended.NoMemory starved is (unsaid is (subst (λ (c : Ended). Tells (ended_status c) (ended_line c) result old new) short tells))
+        record_starved Ended.NoMemory starved is (unsaid is (subst (λ (c : Ended). WritesLast (ended_status c) (ended_line c) result old new) short tells))
   ]
 
 -- the record of a run, whose octets began with none

@@ -230,8 +230,8 @@ pub data Listened (settings : Settings) (before after : Seen) (status : ℕ) (ru
 -- ---- last lines
 
 -- a last line was written, and the status is its own; or its write failed, and the status is 5
-pub data Tells (status : ℕ) (line : List ℕ) (result : ℕ) (old new : SinkState) : Type 0 where
+pub data WritesLast (status : ℕ) (line : List ℕ) (result : ℕ) (old new : SinkState) : Type 0 where
   whole_line : result ≡ status → Appends old.written new.written line
-      → Tells status line result old new
+      → WritesLast status line result old new
   line_begun : result ≡ 5 → Rose old.faults new.faults → AppendsPrefix old.written new.written line
-      → Tells status line result old new
+      → WritesLast status line result old new

@@ -1,4 +1,4 @@
--- The last line and the status of each verdict, and what is told of an input.
+-- The last line and the status of each verdict, and what is said of an input.
 -- No contract of a public call cites it.
 use Rattle.std.specs.Prelude.{ℕ, List, []}
 use Rattle.std.specs.Io.KnownBytes.{Consumes}

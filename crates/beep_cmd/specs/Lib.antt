@@ -5,7 +5,7 @@ pub mod Ends
 pub mod Recording
 pub mod Listening
 pub mod Pair
--- What proofs alone need: what each part told of an input.
+-- What proofs alone need: what each part says of an input.
 pub mod Judging
 pub mod Pairing
 pub mod Serving

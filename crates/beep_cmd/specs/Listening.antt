@@ -16,7 +16,7 @@ use Rattle.beep_runs.specs.beep_steps.specs.Refusing.{GoesUnrefused, ReadsOnlyGo
 use Rattle.beep_runs.specs.beep_steps.specs.EachEnd.{EachEndOn}
 use Rattle.beep_runs.specs.beep_steps.specs.Logs.{moments, Shows, terms_by}
 use Rattle.beep_runs.specs.beep_listener.specs.Listening.{is_whole, listener_plan, AreLinesOf}
-use Rattle.beep_cmd.specs.Ends.{ended_line, ended_status, ends_run, EachOf, Tells}
+use Rattle.beep_cmd.specs.Ends.{ended_line, ended_status, ends_run, EachOf, WritesLast}
 
 -- ---- what ends a run
 
@@ -96,4 +96,4 @@ pub record WritesLines (settings : Settings) (before after : Seen) (status : ℕ
   pub middle : SinkState
   pub kept : old.faults ≤ middle.faults
   pub lines : Appends old.written middle.written (text_of sessions)
-  pub last : Tells (ended_status cause) (ended_line cause) status middle new
+  pub last : WritesLast (ended_status cause) (ended_line cause) status middle new

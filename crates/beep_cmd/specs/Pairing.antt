@@ -1,4 +1,4 @@
--- What is told of an input of `pair`, or of a seed.
+-- What is said of an input of `pair`, or of a seed.
 -- No contract of a public call cites it.
 use Rattle.std.specs.Prelude.{ℕ, List}
 use Rattle.std.specs.Io.KnownBytes.{Consumes}

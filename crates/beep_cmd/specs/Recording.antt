@@ -13,7 +13,7 @@ use Rattle.beep_runs.specs.beep_listener.specs.Listening.{listener_plan}
 use Rattle.beep_runs.specs.beep_settings.specs.declared.settings.Settings.{Settings}
 use Rattle.beep_runs.specs.beep_wires.specs.Links.{Link}
 use Rattle.beep_cmd.specs.Recorded.{IsEnding, IsRecordOf}
-use Rattle.beep_cmd.specs.Ends.{ended_line, ended_status, EachOf, ListenCause, SendCause, SendsLines, Tells}
+use Rattle.beep_cmd.specs.Ends.{ended_line, ended_status, EachOf, ListenCause, SendCause, SendsLines, WritesLast}
 
 -- a run that is recorded was ended by a cause that holds, and what is due at its end was written,
 -- or begun where the write failed; or it was out of memory, and wrote nothing, whatever ended it
@@ -22,7 +22,7 @@ pub data EndsRecorded (Cause : Ended → Type 0) (role : Role) (before after : S
   record_written : (cause : Ended) → cause ≢ Ended.WriteFault → cause ≢ Ended.NoMemory → Cause cause
       → (text : List ℕ)
       → IsEnding true role before after (ended_status cause) (ended_line cause) text
-      → Tells (ended_status cause) text status old new
+      → WritesLast (ended_status cause) text status old new
       → EndsRecorded Cause role before after status old new
   record_starved : (cause : Ended) → Cause cause → status ≡ 7
       → Appends old.written new.written []
@@ -32,7 +32,7 @@ pub data EndsRecorded (Cause : Ended → Type 0) (role : Role) (before after : S
 pub data TellsWhole (role : Role) (link : Link) (status result : ℕ) (old new : SinkState)
     : Type 0 where
   whole_record : (text : List ℕ) → IsRecordOf role link status text
-      → Tells status text result old new → TellsWhole role link status result old new
+      → WritesLast status text result old new → TellsWhole role link status result old new
   no_record : result ≡ 7 → Appends old.written new.written []
       → TellsWhole role link status result old new
 

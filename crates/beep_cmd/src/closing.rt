@@ -1,6 +1,6 @@
 //! How a run of `send` or `listen` ends: the last line and the status (docs/COMMANDS.md).
 ghost use Rattle.std.specs.Prelude.{◌≡◌, ◌≤◌, ◌++◌, []};
-ghost use Rattle.beep_cmd.specs.Ends.{ended_line, ended_status, Tells};
+ghost use Rattle.beep_cmd.specs.Ends.{ended_line, ended_status, WritesLast};
 ghost use Rattle.beep_cmd.specs.Serving.{unlisted_line, unlisted_status};
 
 use beep_runs::beep_listener::Ended;
@@ -14,7 +14,7 @@ use beep_show::{LAST_ROOM, append_broken, append_idle, append_numbered, append_r
 pub(crate) fn finish<O: Sink>(last: &mut Octets, ended: Ended, output: &mut O) -> u8
     requires empty { last.old.octets ≡ [] }
     requires room { LAST_ROOM ≤ last.old.spare }
-    ensures written { Tells (ended_status ended) (ended_line ended) result (O.state output.old)
+    ensures written { WritesLast (ended_status ended) (ended_line ended) result (O.state output.old)
         (O.state output.new) }
     ensures none { ended_line ended ≡ [] → (result ≡ ended_status ended)
         × ((O.state output.new).faults ≡ (O.state output.old).faults) }
@@ -28,7 +28,7 @@ pub(crate) fn finish<O: Sink>(last: &mut Octets, ended: Ended, output: &mut O) -
 pub(crate) fn finish_unlisted<O: Sink>(last: &mut Octets, why: Unlisted, output: &mut O) -> u8
     requires empty { last.old.octets ≡ [] }
     requires room { LAST_ROOM ≤ last.old.spare }
-    ensures written { Tells (unlisted_status why) (unlisted_line why) result (O.state output.old)
+    ensures written { WritesLast (unlisted_status why) (unlisted_line why) result (O.state output.old)
         (O.state output.new) }
     ensures none { unlisted_line why ≡ [] → (result ≡ unlisted_status why)
         × ((O.state output.new).faults ≡ (O.state output.old).faults) }
@@ -39,7 +39,7 @@ pub(crate) fn finish_unlisted<O: Sink>(last: &mut Octets, why: Unlisted, output:
 
 /// Writes a last line, and answers the status.
 pub(crate) fn tell<O: Sink>(last: &Octets, status: u8, output: &mut O) -> u8
-    ensures written { Tells status last.now.octets result (O.state output.old)
+    ensures written { WritesLast status last.now.octets result (O.state output.old)
         (O.state output.new) }
     ensures none { last.now.octets ≡ [] → (result ≡ status) × (output.new ≡ output.old) }
     ensures kept { (O.state output.old).faults ≤ (O.state output.new).faults }

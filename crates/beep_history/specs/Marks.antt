@@ -1,4 +1,4 @@
--- The requests, replies, answers and marks of one life, told by its frames (RFC 3080, sections 2.1
+-- The requests, replies, answers and marks of one life, by its frames (RFC 3080, sections 2.1
 -- and 2.2.1.1).
 -- The code keeps a few counts of one life; here each word looks back over the whole history, the
 -- latest item first.

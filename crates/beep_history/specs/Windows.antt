@@ -1,4 +1,4 @@
--- The windows of one life, told by its items: what passed and what each SEQ said (RFC 3081, section
+-- The windows of one life, by its items: what passed and what each SEQ said (RFC 3081, section
 -- 3.1).
 -- The code of a window keeps small differences of these counts; here each word looks back over the
 -- whole history.

@@ -15,7 +15,7 @@ use Rattle.beep_report.specs.Summary.{summary_of}
 use Rattle.beep_report.specs.Texts.{account_lines, still_line, ending_text}
 use Rattle.beep_pair.specs.Sessions.{Sessions}
 use Rattle.beep_pair.specs.World.{World, kept_of, IsWorld, Leads}
-use Rattle.beep_pair.specs.Report.{Steps, Runs, begins, goes, Tells, Reported, IsStill}
+use Rattle.beep_pair.specs.Report.{Steps, Runs, begins, goes, ReportsEvent, Reported, IsStill}
 use Rattle.beep_pair.specs.Command.{AreFresh, Summed, SumsEvents, schedule_of, Sums}
 use Rattle.beep_pair.proofs.ListLemmas.{some_at, taken_all}
 use Rattle.beep_pair.proofs.BeginLemmas.{fresh-world}
@@ -29,7 +29,7 @@ pub record SoFar (events : List PairEvent) (i : ℕ) (before after : List ℕ) (
 pub none_made : (events : List PairEvent) (first : World) (before : List ℕ) → SoFar events 0 before before first first
 none_made events first before = record { text = []; runs = begins; after_is = sym (append-nil before) }
 
-pub one_made : (events : List PairEvent) (first : World) (i : ℕ) (event : PairEvent) (before between after : List ℕ) (now next : World) (line : List ℕ) → slice_get events i ≡ Some event → SoFar events i before between first now → Tells event [] line now next → after ≡ between ++ line → SoFar events (i + 1) before after first next
+pub one_made : (events : List PairEvent) (first : World) (i : ℕ) (event : PairEvent) (before between after : List ℕ) (now next : World) (line : List ℕ) → slice_get events i ≡ Some event → SoFar events i before between first now → ReportsEvent event [] line now next → after ≡ between ++ line → SoFar events (i + 1) before after first next
 one_made events first i event before between after now next line at so_far gained e =
     let items : take (i + 1) events ≡ take i events ++ event ∷ [] = ap (λ n. take n events) (add-one i) ∙ (some_at events i event at).1 in
     record {
@@ -39,7 +39,7 @@ one_made events first i event before between after now next line at so_far gaine
     }
 
 pub steps-so : (event same : PairEvent) (before after : List ℕ) (old new : World) (line : List ℕ) → event ≡ same → Steps event old line new → after ≡ before ++ line
-    → Tells same before after old new
+    → ReportsEvent same before after old new
 steps-so event same before after old new line e s k = record { line = line; steps = subst (λ x. Steps x old line new) e s; after_is = k }
 
 pub event_valid : (events : List PairEvent) (i : ℕ) (event : PairEvent) → AreEvents events → slice_get events i ≡ Some event → IsTrue (is_event event)

@@ -66,7 +66,7 @@ pub record IsStill (both : Sessions) : Type 0 where
 -- ---- what is appended
 
 -- the line of a step, or the lines of a drain
-pub record Tells (event : PairEvent) (before after : List ℕ) (old new : World) : Type 0 where
+pub record ReportsEvent (event : PairEvent) (before after : List ℕ) (old new : World) : Type 0 where
   pub line : List ℕ
   pub steps : Steps event old line new
   pub after_is : after ≡ before ++ line

@@ -185,7 +185,7 @@ goes_on Event.Released used = false
 goes_on (Event.Broken rule place) used = false
 goes_on Event.NoMemory used = false
 
--- memory was wanting
+-- memory ran out
 abbrev pub is_short : Event → Bool
 is_short Event.More = false
 is_short (Event.Arrived number) = false

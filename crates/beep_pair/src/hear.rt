@@ -57,7 +57,7 @@ fn goes_on(event: &Event, used: usize) -> bool
     }
 }
 
-/// Whether memory was wanting.
+/// Whether memory ran out.
 fn is_short(event: &Event) -> bool
     ensures { result ≡ was_short event.now }
 {

@@ -79,7 +79,7 @@ impl Pair {
     ghost use Rattle.beep_pair.specs.Sessions.{AreReady, IsLess};
     ghost use Rattle.beep_pair.specs.World.{Leads, held_at, octets_to};
     ghost use Rattle.beep_pair.specs.Steps.{DoesStep, SendsStep, GetsStep, TakesStep};
-    ghost use Rattle.beep_pair.specs.Report.{Tells, Reported, IsStill};
+    ghost use Rattle.beep_pair.specs.Report.{ReportsEvent, Reported, IsStill};
 
     /// Two ends with these limits, and nothing between them.
     pub fn new(alloc: Global, limits: Limits) -> Result<Pair, NoMemory>
@@ -249,7 +249,7 @@ impl Pair {
     fn step(&mut self, event: PairEvent, line: &mut Octets) -> Result<(), NoMemory>
         requires ready { AreReady self.old }
         requires valid { IsTrue (is_event event) }
-        ensures appended { OnOk result (Leads (Tells event line.old.octets line.new.octets) self.old
+        ensures appended { OnOk result (Leads (ReportsEvent event line.old.octets line.new.octets) self.old
             self.new) }
         ensures ready { OnOk result (AreReady self.new) }
     {

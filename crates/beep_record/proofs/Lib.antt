@@ -8,7 +8,7 @@ pub mod ReachedLemmas
 pub mod ReadLemmas
 pub mod ReplayLemmas
 pub mod SizeLemmas
-pub mod TellLemmas
+pub mod TextReplayLemmas
 pub mod RunLemmas
 pub mod StepLemmas
 pub mod WrittenLemmas

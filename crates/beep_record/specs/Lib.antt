@@ -9,4 +9,4 @@ pub mod Machine
 pub mod Reading
 pub mod Following
 pub mod Replaying
-pub mod Telling
+pub mod TextReplaying

@@ -57,14 +57,14 @@ abbrev pub first_line : Role → List ℕ
 first_line Role.Initiator = codes "beep-record 1 initiator\n"
 first_line Role.Listener = codes "beep-record 1 listener\n"
 
--- the last line, where a status is told
+-- the last line, where there is a status
 abbrev pub status_text : Option ℕ → List ℕ
 status_text None = []
 status_text (Some status) = codes "S " ++ decimal status ++ 10 ∷ []
 
 -- ---- a record
 
--- whose log it is, the log, and the status with which a run ended, where it is told
+-- whose log it is, the log, and the status with which a run ended, where there is one
 pub record Record : Type 0 where
   pub role : Role
   pub log : List Entry

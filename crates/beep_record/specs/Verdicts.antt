@@ -37,11 +37,11 @@ pub record Replays (log : List Entry) (verdict : Verdict) (old new : List ℕ) :
   pub text_is : new ≡ old ++ report past
 
 -- the text says a log, and the report of its session is this, with this verdict
-pub record ReplaysText (text : List ℕ) (verdict : Verdict) (told : List ℕ) : Type 0 where
+pub record ReplaysText (text : List ℕ) (verdict : Verdict) (said : List ℕ) : Type 0 where
   pub role : Role
   pub log : List Entry
   pub says : Says text role log
-  pub replays : Replays log verdict [] told
+  pub replays : Replays log verdict [] said
 
 -- the octets gained begin the text
 pub record Begins (text old new : List ℕ) : Type 0 where

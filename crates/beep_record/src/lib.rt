@@ -17,7 +17,7 @@ mod reader;
 mod replayer;
 mod report;
 mod step;
-mod teller;
+mod text_replayer;
 mod text;
 mod verdict;
 mod wire;

@@ -5,7 +5,7 @@ ghost use Rattle.beep_journal.specs.Log.{Entry, flat};
 ghost use Rattle.beep_record.specs.Machine.{run, start};
 ghost use Rattle.beep_record.specs.Reading.{state_of, IsNumbered};
 ghost use Rattle.beep_record.specs.Replaying.{Follows};
-ghost use Rattle.beep_record.specs.Telling.{HasEntries, Tells};
+ghost use Rattle.beep_record.specs.TextReplaying.{HasEntries, ReplaysOn};
 ghost use Rattle.beep_record.specs.Verdicts.{Replays, ReplaysText};
 ghost use Rattle.beep_record.specs.Refused.{Refuses};
 
@@ -13,7 +13,7 @@ use crate::log::LogEntries;
 use crate::read::{RecordError, may_end};
 use crate::reader::Reader;
 use crate::replayer::Replayer;
-use crate::teller::Teller;
+use crate::text_replayer::TextReplayer;
 use crate::verdict::Verdict;
 use beep_octets::{NoMemory, Octets};
 use std::alloc::Global;
@@ -22,33 +22,33 @@ use std::alloc::Global;
 /// them of its log. It goes over the text once, and takes memory for one line of it and for the
 /// report.
 pub fn replay_text(alloc: Global, text: &[u8]) -> Result<(Verdict, Octets), RecordError>
-    ensures value { IfOk result (λ told. ReplaysText text.now told.0 told.1.octets) }
+    ensures value { IfOk result (λ answer. ReplaysText text.now answer.0 answer.1.octets) }
     ensures refused { IfErr result (λ error. Refuses text.now error) }
 {
-    let Ok(mut teller) = Teller::new(alloc) else {
+    let Ok(mut text_replayer) = TextReplayer::new(alloc) else {
         return Err(RecordError::NoMemory);
     };
     let mut i = 0;
     while i < text.len() {
-        match teller.take(&text[i..]) {
+        match text_replayer.take(&text[i..]) {
             Ok(0) => return Err(RecordError::BadRecord(i as u64)),
             Ok(count) => i += count,
             Err(_) => return Err(RecordError::NoMemory),
         }
     }
-    if !may_end(teller.reader.mode) {
+    if !may_end(text_replayer.reader.mode) {
         return Err(RecordError::BadRecord(text.len() as u64));
     }
-    teller.end()
+    text_replayer.end()
 }
 
-impl Teller {
+impl TextReplayer {
     /// Before any octet.
-    fn new(alloc: Global) -> Result<Teller, NoMemory>
+    fn new(alloc: Global) -> Result<TextReplayer, NoMemory>
         ensures reader { IfOk result (λ t. state_of t.reader ≡ start) }
         ensures follows { IfOk result (λ t. Follows t.replayer [] [] t.out.octets) }
     {
-        Ok(Teller {
+        Ok(TextReplayer {
             reader: Reader::new(alloc),
             replayer: Replayer::new(alloc)?,
             out: Octets::new(alloc),
@@ -63,13 +63,13 @@ impl Teller {
         requires some { 0 < length octets.now }
         ensures within { IfOk result (λ count. count ≤ length octets.now) }
         ensures went { IfOk result (λ count. 0 < count
-            → Tells self.old self.new (take count octets.now)) }
+            → ReplaysOn self.old self.new (take count octets.now)) }
         ensures stuck { IfOk result (λ count. count ≡ 0
             → run (Some (state_of self.old.reader)) (take 1 octets.now) ≡ None) }
     {
         let count = self.reader.take(octets)?;
         if !self.reader.entries.is_empty() {
-            tell_entries(&mut self.replayer, &self.reader.entries, &mut self.out)?;
+            replay_entries(&mut self.replayer, &self.reader.entries, &mut self.out)?;
             self.reader.entries.clear();
         }
         Ok(count)
@@ -79,10 +79,10 @@ impl Teller {
     fn end(self) -> Result<(Verdict, Octets), RecordError>
         ensures value { (log : List Entry) → Follows self.replayer (flat log) [] self.out.octets
             → length (flat log) < numbers_128
-            → IfOk result (λ told. Replays log told.0 [] told.1.octets) }
+            → IfOk result (λ answer. Replays log answer.0 [] answer.1.octets) }
         ensures refused { IfErr result (λ error. error ≡ RecordError.NoMemory) }
     {
-        let Teller {
+        let TextReplayer {
             replayer,
             mut out,
             ..
@@ -95,7 +95,7 @@ impl Teller {
 }
 
 /// Takes the entries of a log.
-fn tell_entries(
+fn replay_entries(
     replayer: &mut Replayer,
     entries: &LogEntries,
     out: &mut Octets,

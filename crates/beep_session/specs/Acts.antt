@@ -29,7 +29,7 @@ pub record AsksZero (size : ℕ) (fed rest : List ℕ) (journal : List Item) (gi
 abbrev pub start_text : ℕ → List PlainProfile → List ℕ
 start_text number profiles = message_text (start number None profiles)
 
--- a start is refused where its message has more octets than are read; so many are told, or
+-- a start is refused where its message has more octets than are read; so many are answered, or
 -- `GREATEST_SIZE` where there are more
 abbrev pub long_refusal : ℕ → Option StartError
 long_refusal size =

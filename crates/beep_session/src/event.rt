@@ -17,7 +17,7 @@ pub enum Event {
     Released,
     /// This rule was broken at this octet, counted from 0.
     Broken(Rule, u64),
-    /// Memory was wanting. The octets before the count were used; the others may be fed again.
+    /// Out of memory. The octets before the count were used; the others may be fed again.
     NoMemory,
 }
 

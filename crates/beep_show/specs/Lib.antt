@@ -1,7 +1,7 @@
 -- What public clauses cite.
 pub mod Texts
 pub mod Show
--- What proofs alone need: what each part told of an input.
+-- What proofs alone need: what each part says of an input.
 pub mod LastLine
 pub mod Listing
 pub mod Passing

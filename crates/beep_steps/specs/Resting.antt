@@ -1,5 +1,5 @@
 -- Where a listener has nothing more to say by itself: no frame and no SEQ may go out, and on each
--- channel what is owed is refused, or waits behind what may not go out either (RFC 3080, section
+-- channel what is owed is refused, or waits after what may not go out either (RFC 3080, section
 -- 2.6.1; RFC 3081, section 3.1).
 -- The code looks at each live channel, and keeps no list of what it owes.
 use Rattle.std.specs.Prelude.{◌≡◌, ◌≤◌, ℕ, nat_lt, Bool, true, false, not, ◌||◌, List, length, Some, slice_get}

@@ -1,4 +1,4 @@
-//! The rules that a header of one direction can break, told from what both directions keep.
+//! The rules that a header of one direction can break, by what both directions keep.
 ghost use Rattle.std.specs.Prelude.{◌≡◌};
 ghost use Rattle.beep_history.specs.Broken.{first_of, breaks_nul_shape};
 ghost use Rattle.beep_exchange.specs.Kept.{breaks_not_continued, goes_on_request, changes_message, changes_reply, breaks_kind_changed, breaks_number_in_use, breaks_never_asked, breaks_early_reply, breaks_already_answered, breaks_out_of_turn, breaks_nul_not_after_ans, breaks_nul_too_soon, breaks_empty_answer, breaks_too_many_requests, breaks_too_many_answers, shape_tests, limit_tests, judged};

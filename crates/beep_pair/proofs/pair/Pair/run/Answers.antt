@@ -3,7 +3,7 @@ use Rattle.std.specs.List.{flat_map}
 use Rattle.beep_report.specs.Texts.{account_lines, still_line}
 use Rattle.beep_pair.specs.Sessions.{Sessions}
 use Rattle.beep_pair.specs.World.{Leads}
-use Rattle.beep_pair.specs.Report.{Tells, Reported}
+use Rattle.beep_pair.specs.Report.{ReportsEvent, Reported}
 use Rattle.beep_pair.proofs.LeadLemmas.{none-leads, leads-then, leads-as}
 use Rattle.beep_pair.proofs.RunLemmas.{SoFar, none_made, one_made, event_valid, all_made}
 use Rattle.beep_pair.proofs.pair.Pair.run.Goals as goal
@@ -19,9 +19,9 @@ step-requires-clause-valid c = event_valid c.args.schedule.now c.loop-i.i c.in-S
 
 pub loop-i-preserved : goal.loop-i-preserved
 loop-i-preserved c =
-    let step_led = subst (λ before. Leads (Tells c.in-Some.event.now before c.step.new.line.octets) c.loop-i.self c.step.new.self) c.clear.ensures.emptied c.in_ok-step.ensures.appended in
+    let step_led = subst (λ before. Leads (ReportsEvent c.in-Some.event.now before c.step.new.line.octets) c.loop-i.self c.step.new.self) c.clear.ensures.emptied c.in_ok-step.ensures.appended in
     record {
-      led = leads-then (SoFar c.args.schedule.now c.loop-i.i c.args.out.now.octets c.loop-i.out.octets) (Tells c.in-Some.event.now _ c.step.new.line.octets)
+      led = leads-then (SoFar c.args.schedule.now c.loop-i.i c.args.out.now.octets c.loop-i.out.octets) (ReportsEvent c.in-Some.event.now _ c.step.new.line.octets)
           (SoFar c.args.schedule.now _ c.args.out.now.octets c.extend.new.self.octets) c.args.self.now c.loop-i.self c.step.new.self c.loop-i.invariant.led step_led
           (λ first now next wa ka wb kb wc kc s t. one_made c.args.schedule.now first c.loop-i.i c.in-Some.event.now c.args.out.now.octets c.loop-i.out.octets c.extend.new.self.octets now next
           c.step.new.line.octets (sym c.in-Some.ensures) s t (c.in_ok-extend.ensures.appended ∙ ap (λ t. c.loop-i.out.octets ++ t) c.as_slice.ensures));

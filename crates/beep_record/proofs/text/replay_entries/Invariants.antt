@@ -2,8 +2,8 @@ use Rattle.std.proofs.Common.{ℕ, List, ◌++◌, take}
 use Rattle.beep_journal.specs.Log.{Entry, flat}
 use Rattle.beep_record.specs.Logged.{log_of}
 use Rattle.beep_record.specs.Replaying.{Follows}
-use Rattle.beep_record.specs.Telling.{HasEntries}
-use Rattle.beep_record.proofs.text.tell_entries.Given as goal
+use Rattle.beep_record.specs.TextReplaying.{HasEntries}
+use Rattle.beep_record.proofs.text.replay_entries.Given as goal
 
 abbrev pub invariant-loop-entry : goal.invariant-loop-entry
 invariant-loop-entry l = record {

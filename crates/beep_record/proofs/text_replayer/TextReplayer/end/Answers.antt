@@ -1,6 +1,6 @@
 use Rattle.std.proofs.Common.{[]}
 use Rattle.beep_journal.specs.Log.{flat}
-use Rattle.beep_record.proofs.teller.Teller.end.Goals as goal
+use Rattle.beep_record.proofs.text_replayer.TextReplayer.end.Goals as goal
 
 pub returns-in-Ok-clause-value : goal.returns-in-Ok-clause-value
 returns-in-Ok-clause-value c log follows few = record {

@@ -8,12 +8,12 @@ use Rattle.beep_journal.specs.Log.{Entry, flat}
 use Rattle.beep_record.specs.declared.limits.TheConstants.{MAX_ENTRY}
 use Rattle.beep_record.specs.declared.mode.Mode.{Mode}
 use Rattle.beep_record.specs.declared.mode.Part.{Part}
-use Rattle.beep_record.specs.declared.teller.Teller.{Teller}
+use Rattle.beep_record.specs.declared.text_replayer.TextReplayer.{TextReplayer}
 use Rattle.beep_record.specs.Record.{first_line, is_plain, are_octets}
 use Rattle.beep_record.specs.Machine.{State, is_hex, is_high, is_hexed, digit_of, start, step_in, step, run}
 use Rattle.beep_record.specs.Reading.{state_of}
 use Rattle.beep_record.specs.Replaying.{Follows}
-use Rattle.beep_record.specs.Telling.{rebased, Tells}
+use Rattle.beep_record.specs.TextReplaying.{rebased, ReplaysOn}
 use Rattle.beep_record.proofs.ReadLemmas.{Read, start_read, read_more}
 
 -- ---- the machine after an earlier log
@@ -63,36 +63,36 @@ module _ (before : List Entry) where
   run_later None (octet ∷ octets) = run_later None octets
   run_later (Some s) (octet ∷ octets) = ap (λ (x : Option State). run x octets) (step_later s octet) ∙ run_later (step s octet) octets
 
--- ---- what a teller has read
+-- ---- what a replayer of a text has read
 
 -- the octets before a place say these entries, which were replayed
-pub record Told (text : List ℕ) (i : ℕ) (t : Teller) : Type 0 where
+pub record HasReplayed (text : List ℕ) (i : ℕ) (t : TextReplayer) : Type 0 where
   pub log : List Entry
   pub read : Read text i (rebased log (state_of t.reader))
   pub none : t.reader.entries ≡ []
   pub follows : Follows t.replayer (flat log) [] t.out.octets
 
-pub told_start : (text : List ℕ) (t : Teller) → state_of t.reader ≡ start → Follows t.replayer [] [] t.out.octets → Told text 0 t
-told_start text t is follows = record {
+pub replayed_start : (text : List ℕ) (t : TextReplayer) → state_of t.reader ≡ start → Follows t.replayer [] [] t.out.octets → HasReplayed text 0 t
+replayed_start text t is follows = record {
   log = [];
   read = start_read text (rebased [] (state_of t.reader)) (ap (rebased []) is);
   none = ap (λ (s : State). s.log) is;
   follows = follows;
 }
 
-pub told_more : (text : List ℕ) (i count : ℕ) (old new : Teller) → are_octets text ≡ true → i ≤ length text → Told text i old → Tells old new (take count (drop i text)) → Told text (i + count) new
-told_more text i count old new are within told tells =
-    let goes = run_later told.log (Some (state_of old.reader)) (take count (drop i text)) ∙ ap (option_map (rebased told.log)) tells.ran
-    ∙ ap (λ (e : List Entry). Some (record (state_of new.reader) { log = e ++ (tells.entries ++ told.log) })) (sym tells.none) in
+pub replayed_more : (text : List ℕ) (i count : ℕ) (old new : TextReplayer) → are_octets text ≡ true → i ≤ length text → HasReplayed text i old → ReplaysOn old new (take count (drop i text)) → HasReplayed text (i + count) new
+replayed_more text i count old new are within replayed tells =
+    let goes = run_later replayed.log (Some (state_of old.reader)) (take count (drop i text)) ∙ ap (option_map (rebased replayed.log)) tells.ran
+    ∙ ap (λ (e : List Entry). Some (record (state_of new.reader) { log = e ++ (tells.entries ++ replayed.log) })) (sym tells.none) in
     record {
-      log = tells.entries ++ told.log;
-      read = read_more text i count (rebased told.log (state_of old.reader)) (rebased (tells.entries ++ told.log) (state_of new.reader)) are within told.read goes;
+      log = tells.entries ++ replayed.log;
+      read = read_more text i count (rebased replayed.log (state_of old.reader)) (rebased (tells.entries ++ replayed.log) (state_of new.reader)) are within replayed.read goes;
       none = tells.none;
-      follows = tells.follows told.log [] told.follows;
+      follows = tells.follows replayed.log [] replayed.follows;
     }
 
-pub told_stuck : (log : List Entry) (s : State) (octets : List ℕ) → run (Some s) octets ≡ None → run (Some (rebased log s)) octets ≡ None
-told_stuck log s octets none = run_later log (Some s) octets ∙ ap (option_map (rebased log)) none
+pub replayed_stuck : (log : List Entry) (s : State) (octets : List ℕ) → run (Some s) octets ≡ None → run (Some (rebased log s)) octets ≡ None
+replayed_stuck log s octets none = run_later log (Some s) octets ∙ ap (option_map (rebased log)) none
 
 pub if_more : {A E : Type 0} {P Q : A → Type 0} (r : Result A E) → ((x : A) → P x → Q x) → IfOk r P → IfOk r Q
 if_more (Ok x) more is = more x is

@@ -3,7 +3,7 @@
 use Rattle.std.specs.Prelude.{◌≡◌, ℕ, List, [], ◌++◌, Some}
 use Rattle.beep_journal.specs.Log.{Entry, flat}
 use Rattle.beep_record.specs.declared.replayer.Replayer.{Replayer}
-use Rattle.beep_record.specs.declared.teller.Teller.{Teller}
+use Rattle.beep_record.specs.declared.text_replayer.TextReplayer.{TextReplayer}
 use Rattle.beep_record.specs.Machine.{State, run}
 use Rattle.beep_record.specs.Reading.{state_of}
 use Rattle.beep_record.specs.Replaying.{Follows}
@@ -19,7 +19,7 @@ pub record HasEntries (r : Replayer) (now : List ℕ) : Type 0 where
   pub follows : Follows r (flat log) old now
 
 -- the octets lead from one to the other with these entries, which were replayed and dropped
-pub record Tells (old new : Teller) (octets : List ℕ) : Type 0 where
+pub record ReplaysOn (old new : TextReplayer) (octets : List ℕ) : Type 0 where
   pub entries : List Entry
   pub ran : run (Some (state_of old.reader)) octets
       ≡ Some (record (state_of new.reader) { log = entries })

@@ -4,7 +4,7 @@ use Rattle.beep_record.specs.declared.log.Entry.{Entry as Kept}
 use Rattle.beep_record.specs.Logged.{entry_of, log_of}
 use Rattle.beep_record.specs.Replaying.{Follows}
 use Rattle.beep_record.proofs.LogLemmas.{log_of-more}
-use Rattle.beep_record.proofs.text.tell_entries.Goals as goal
+use Rattle.beep_record.proofs.text.replay_entries.Goals as goal
 
 pub loop-entry-preserved : goal.loop-entry-preserved
 loop-entry-preserved c =
