@@ -136,6 +136,3 @@ impl Decoder {
         self.tracker.left()
     }
 }
-
-#[cfg(test)]
-mod tests;

@@ -136,6 +136,3 @@ fn part(alloc: Global, octets: &[u8], from: usize, size: usize) -> Result<Octets
     part.extend(&octets[from..from + size])?;
     Ok(part)
 }
-
-#[cfg(test)]
-mod tests;

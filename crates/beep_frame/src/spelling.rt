@@ -141,6 +141,3 @@ fn append_answer(out: &mut Octets, kind: Kind, ansno: u32)
         Kind::Msg | Kind::Rpy | Kind::Err | Kind::Nul => {}
     }
 }
-
-#[cfg(test)]
-mod tests;

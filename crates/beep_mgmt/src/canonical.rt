@@ -248,6 +248,3 @@ fn text_of(alloc: Global, octets: &[u8]) -> Result<Text, NoMemory>
         Err(_) => unreachable!(),
     }
 }
-
-#[cfg(test)]
-mod tests;

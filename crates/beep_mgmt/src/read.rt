@@ -96,6 +96,3 @@ fn error_of(error: TextError) -> MgmtError
         TextError::NoMemory => MgmtError::NoMemory,
     }
 }
-
-#[cfg(test)]
-mod tests;

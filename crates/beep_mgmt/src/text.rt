@@ -33,6 +33,3 @@ pub(crate) fn base64_text(alloc: Global, octets: &[u8]) -> Result<Text, NoMemory
     let symbols = STANDARD.encode(alloc, octets)?;
     Text::of(alloc, symbols.as_str())
 }
-
-#[cfg(test)]
-mod tests;

@@ -48,6 +48,3 @@ pub fn write_mgmt_element(m: &Mgmt, out: &mut Octets) -> Result<(), NoMemory>
     let element = element_as(out.alloc(), m)?;
     write_element(&element, out)
 }
-
-#[cfg(test)]
-mod tests;

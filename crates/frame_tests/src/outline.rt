@@ -2,8 +2,9 @@
 //! the grammar (RFC 3080, section 2.2.1; RFC 3081, section 3.1): a place is the number, from 0, of
 //! the first octet that nothing in the grammar has there.
 
-use super::*;
-use crate::kind::Kind;
+use beep_frame::{Head, Kind, Outline, PlainFrame, Rule, Seq};
+use beep_octets::NoMemory;
+use std::alloc::Global;
 
 /// The keyword of a kind.
 fn word(kind: Kind) -> &'static str {

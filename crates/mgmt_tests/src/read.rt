@@ -1,7 +1,7 @@
-use super::*;
-use crate::profile::Encoding;
-use crate::write::write_mgmt_element;
+//! What each payload says, or why it isn't read (RFC 3080, section 2.3.1).
+use beep_mgmt::{Encoding, Mgmt, MgmtError, read_mgmt, write_mgmt_element};
 use beep_octets::{NoMemory, Octets};
+use std::alloc::Global;
 use std::test::Fail;
 
 // What each element says, written as one element, worked out by hand from RFC 3080, section 2.3.1.
@@ -207,7 +207,7 @@ fn has_content(alloc: Global, payload: &[u8], encoding: Encoding, octets: Option
 }
 
 /// Whether a profile with this end of a tag and content is read so.
-fn is_content(
+pub(crate) fn is_content(
     alloc: Global,
     tag: &[u8],
     content: &[u8],

@@ -1,10 +1,8 @@
 //! One stream, cut in every way. The steps and the place are worked out by hand from the grammar
 //! (RFC 3080, section 2.2.1; RFC 3081, section 3.1).
 
-use super::*;
-use crate::limits::MAX_PAYLOAD;
-use crate::rule::Rule;
-use crate::seq::Seq;
+use beep_frame::{Decoder, Head, Kind, MAX_PAYLOAD, Rule, Seq, Step};
+use beep_octets::{NoMemory, Octets};
 
 // Frames of 22, 11 and 25 octets, and then one octet and its dead successor.
 static STREAM: &[u8] = b"RPY 0 1 . 307 0\r\nEND\r\nSEQ 1 2 3\r\nANS 1 0 * 0 3 7\r\nabcEND\r\nENX";

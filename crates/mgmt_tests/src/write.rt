@@ -1,10 +1,8 @@
+//! What is written of each value (RFC 3080, section 2.3.1).
 ghost use Rattle.std.specs.Prelude.{◌≡◌, codes, IfOk};
 
-use super::*;
-use crate::profile::{Encoding, Profile};
-use crate::profiles::Profiles;
-use crate::read::read_mgmt;
 use beep_chars::Text;
+use beep_mgmt::{Encoding, Mgmt, Profile, Profiles, read_mgmt, write_mgmt, write_mgmt_element};
 use beep_octets::{NoMemory, Octets};
 use std::alloc::Global;
 use std::test::Fail;
@@ -93,7 +91,7 @@ fn profile(alloc: Global, content: &[u8]) -> Result<Profile, NoMemory>
 }
 
 /// Whether a profile of this content is written as this element.
-fn is_written(alloc: Global, content: &[u8], element: &[u8]) -> Result<bool, NoMemory> {
+pub(crate) fn is_written(alloc: Global, content: &[u8], element: &[u8]) -> Result<bool, NoMemory> {
     let profile = profile(alloc, content)?;
     let mut out = Octets::new(alloc);
     write_mgmt_element(&Mgmt::Chosen { profile }, &mut out)?;

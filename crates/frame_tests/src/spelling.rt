@@ -1,12 +1,11 @@
 //! Texts worked out by hand from the grammar (RFC 3080, section 2.2.1; RFC 3081, section 3.1), each
 //! written into exactly its room, and read again.
 
-use super::*;
-use crate::decoder::Decoder;
-use crate::head::MAX_NUMBER;
-use crate::limits::MAX_PAYLOAD;
-use crate::step::Step;
-use beep_octets::NoMemory;
+use beep_frame::{
+    Decoder, Head, Kind, MAX_HEADER, MAX_HEADER_LINE, MAX_NUMBER, MAX_PAYLOAD, SEQ_ROOM,
+    SPELL_ROOM, Seq, Step, spell, spell_header_line, spell_seq,
+};
+use beep_octets::{NoMemory, Octets};
 use std::alloc::Global;
 
 // The request that asks for a channel (RFC 3080, section 2.3.1.2), 120 octets, and the shortest
@@ -182,17 +181,18 @@ fn each_seq_has_its_text(rt: HostRuntime) -> Result<(), NoMemory> {
     Ok(())
 }
 
-// 62 octets: the longest payload is too long for a test, and its size isn't.
+// 60 octets and CRLF: the longest payload is too long for a test, and its size isn't.
 #[test]
 fn the_longest_header_fills_its_room(rt: HostRuntime) -> Result<(), NoMemory> {
     let most = MAX_NUMBER;
     let longest = head(Kind::Ans, most, most, true, u32::MAX, most, most);
     let mut out = Octets::new(rt.alloc());
-    out.reserve(62)?;
-    append_header(&mut out, &longest);
-    let text = b"ANS 2147483647 2147483647 * 4294967295 2147483647 2147483647\r\n";
+    out.reserve(MAX_HEADER_LINE)?;
+    spell_header_line(&longest, &mut out);
+    let text = b"ANS 2147483647 2147483647 * 4294967295 2147483647 2147483647";
     assert_eq!(rt; out.as_slice(), text.as_slice());
     assert_eq!(rt; out.spare(), 0);
+    assert_eq!(rt; (out.len(), MAX_HEADER), (60, 62));
     Ok(())
 }
 

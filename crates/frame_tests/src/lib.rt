@@ -1,0 +1,10 @@
+//! The tests of beep_frame, in a crate of their own, so that they are proved by the contracts of
+//! that library and its own functions are proved once.
+#![tactic(auto)]
+
+#[cfg(test)]
+mod decoder;
+#[cfg(test)]
+mod outline;
+#[cfg(test)]
+mod spelling;

@@ -1,0 +1,12 @@
+//! The tests of beep_mgmt, in a crate of their own, so that they are proved by the contracts of
+//! that library and its own functions are proved once.
+#![tactic(auto)]
+
+#[cfg(test)]
+mod canonical;
+#[cfg(test)]
+mod read;
+#[cfg(test)]
+mod text;
+#[cfg(test)]
+mod write;
