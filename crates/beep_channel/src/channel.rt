@@ -137,6 +137,3 @@ fn limit_of(number: u32) -> Option<u32>
 {
     if number == 0 { None } else { Some(MAX_MESSAGE) }
 }
-
-#[cfg(test)]
-mod tests;

@@ -282,6 +282,3 @@ impl Exchange {
         self.given.answers
     }
 }
-
-#[cfg(test)]
-mod tests;

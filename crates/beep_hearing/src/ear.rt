@@ -393,6 +393,3 @@ impl Ear {
         (at, Heard::More)
     }
 }
-
-#[cfg(test)]
-mod tests;

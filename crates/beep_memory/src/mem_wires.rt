@@ -356,6 +356,3 @@ impl Wires for MemWires {
         self.shut_link(link);
     }
 }
-
-#[cfg(test)]
-mod tests;

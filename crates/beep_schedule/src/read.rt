@@ -70,6 +70,3 @@ fn line_in(text: &[u8]) -> Option<Line>
     let event = event_in(&text[..at])?;
     Some(Line { event, len: at + 1 })
 }
-
-#[cfg(test)]
-mod tests;

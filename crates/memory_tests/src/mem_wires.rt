@@ -1,9 +1,11 @@
+//! Links in memory: what reads give and writes take, with calls that are planned to fail.
 ghost use Rattle.std.specs.Prelude.{◌≡◌, true, false, IfOk};
 ghost use Rattle.beep_wires.specs.Got.{GotWithin, gives_end};
 
-use super::*;
-use crate::gives::Give;
-use beep_wires::write_link;
+use beep_memory::{Give, Gives, MemWires};
+use beep_octets::{NoMemory, Octets};
+use beep_wires::{Failed, Fails, Got, WireError, Wires, write_link};
+use std::alloc::Global;
 
 fn text(alloc: Global, bytes: &[u8]) -> Result<Octets, NoMemory> {
     let mut octets = Octets::new(alloc);

@@ -1,8 +1,6 @@
 //! One channel by itself, and two that drive each other through every kind of message.
-use super::Channel;
-use crate::ask_error::AskError;
-use beep_frame::{Head, Kind, Rule, Seq, Tag};
-use beep_inbox::Part;
+use beep_channel::{AskError, Channel};
+use beep_frame::{Head, Kind, Rule, Seq};
 use beep_octets::Octets;
 use beep_seq::BadAck;
 use std::alloc::Global;

@@ -1,6 +1,8 @@
-ghost use Rattle.std.specs.Prelude.{◌≡◌};
+//! An exchange beside the plain program of beep_history, on the same examples, and what is owed and
+//! asked.
+ghost use Rattle.std.specs.Prelude.{◌≡◌, None};
 
-use super::Exchange;
+use beep_exchange::Exchange;
 use beep_frame::{Head, Kind, Rule, Tag};
 use beep_history::{JournalItem, Side, exchange_rule};
 use beep_octets::Octets;
@@ -8,10 +10,12 @@ use history_examples::{
     EXAMPLES, ExampleStep, LIMIT_EXAMPLES, request, step_of, unfinished_answer,
 };
 use std::alloc::Global;
+use std::marker::Model;
 use std::process::Abort;
 use std::test::Fail;
 
-/// A history under way in an exchange and as a list of items, the earliest first.
+/// A history under way in an exchange and as a list of items, the earliest first. No frame that
+/// goes out is under way.
 #[derive(Drop)]
 struct Twice {
     exchange: Exchange,
@@ -19,10 +23,22 @@ struct Twice {
     exchanged: bool,
 }
 
+impl Model for Twice {
+    ghost use Rattle.std.specs.Prelude.{◌≡◌, None};
+    ghost use Rattle.beep_exchange.specs.Exchange.{Life};
+
+    ghost Value = { Life };
+
+    ghost view = { λ t. t.exchange };
+
+    ghost invariant = { λ t. t.exchange.sent.under_way ≡ None };
+}
+
 impl Twice {
     fn new(alloc: Global, exchanged: bool) -> Result<Twice, Fail> {
+        let exchange = Exchange::new(alloc, false)?;
         Ok(Twice {
-            exchange: Exchange::new(alloc, false)?,
+            exchange,
             items: Vec::new(alloc),
             exchanged,
         })
@@ -72,7 +88,10 @@ impl Twice {
 }
 
 /// Notes a whole frame, which must break no rule.
-fn note(rt: &impl Abort, exchange: &mut Exchange, side: Side, head: &Head) {
+fn note(rt: &impl Abort, exchange: &mut Exchange, side: Side, head: &Head)
+    requires whole { exchange.old.sent.under_way ≡ None }
+    ensures whole { exchange.new.sent.under_way ≡ None }
+{
     match side {
         Side::Received => {
             assert!(rt; exchange.receiving().is_none());
@@ -81,7 +100,6 @@ fn note(rt: &impl Abort, exchange: &mut Exchange, side: Side, head: &Head) {
             exchange.note_whole();
         }
         Side::Sent => {
-            assert!(rt; exchange.sent.under_way().is_none());
             assert!(rt; exchange.judge_out(head).is_none());
             exchange.note_out(head);
             exchange.note_sent();

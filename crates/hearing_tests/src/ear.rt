@@ -4,12 +4,11 @@
 ghost use Rattle.std.specs.Prelude.{◌≤◌, length, IfOk};
 ghost use Rattle.beep_hearing.specs.Answers.{IsReached, IsWaiting};
 
-use super::Ear;
-use crate::heard::Heard;
-use crate::laws::a_new_ear_stands;
-use beep_standing::beep_frame::{Head, Kind, Rule};
-use beep_standing::beep_lives::Lives;
-use beep_standing::beep_octets::NoMemory;
+use beep_frame::{Head, Kind, Rule};
+use beep_hearing::laws::a_new_ear_stands;
+use beep_hearing::{Ear, Heard};
+use beep_lives::Lives;
+use beep_octets::NoMemory;
 use std::alloc::Global;
 use std::marker::Model;
 

@@ -1,10 +1,8 @@
 //! Schedules as texts. The expected events and lines follow from docs/FORMATS.md, "Schedules".
 
-use crate::event::{Act, End, PairEvent};
-use crate::generate::generated;
-use crate::limits::MAX_SCHEDULE;
-use crate::line::is_event;
-use crate::read::{ScheduleError, read_schedule};
+use beep_schedule::{
+    Act, End, MAX_SCHEDULE, PairEvent, ScheduleError, generated, is_event, read_schedule,
+};
 use std::alloc::Global;
 use std::process::Abort;
 use std::test::Fail;

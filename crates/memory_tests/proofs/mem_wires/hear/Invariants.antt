@@ -1,6 +1,6 @@
 -- The link is open, and hasn't ended.
 use Rattle.std.proofs.Common.{◌≡◌, true, false}
-use Rattle.beep_memory.proofs.mem_wires.tests.hear.Given as goal
+use Rattle.memory_tests.proofs.mem_wires.hear.Given as goal
 
 abbrev pub invariant-loop : goal.invariant-loop
 invariant-loop g l = record {
