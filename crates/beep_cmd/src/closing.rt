@@ -14,8 +14,8 @@ use beep_show::{LAST_ROOM, append_broken, append_idle, append_numbered, append_r
 pub(crate) fn finish<O: Sink>(last: &mut Octets, ended: Ended, output: &mut O) -> u8
     requires empty { last.old.octets ≡ [] }
     requires room { LAST_ROOM ≤ last.old.spare }
-    ensures written { WritesLast (ended_status ended) (ended_line ended) result (O.state output.old)
-        (O.state output.new) }
+    ensures written { WritesLast (ended_status ended) (ended_line ended) result
+        (O.state output.old) (O.state output.new) }
     ensures none { ended_line ended ≡ [] → (result ≡ ended_status ended)
         × ((O.state output.new).faults ≡ (O.state output.old).faults) }
     ensures kept { (O.state output.old).faults ≤ (O.state output.new).faults }
@@ -28,8 +28,8 @@ pub(crate) fn finish<O: Sink>(last: &mut Octets, ended: Ended, output: &mut O) -
 pub(crate) fn finish_unlisted<O: Sink>(last: &mut Octets, why: Unlisted, output: &mut O) -> u8
     requires empty { last.old.octets ≡ [] }
     requires room { LAST_ROOM ≤ last.old.spare }
-    ensures written { WritesLast (unlisted_status why) (unlisted_line why) result (O.state output.old)
-        (O.state output.new) }
+    ensures written { WritesLast (unlisted_status why) (unlisted_line why) result
+        (O.state output.old) (O.state output.new) }
     ensures none { unlisted_line why ≡ [] → (result ≡ unlisted_status why)
         × ((O.state output.new).faults ≡ (O.state output.old).faults) }
 {

@@ -249,8 +249,8 @@ impl Pair {
     fn step(&mut self, event: PairEvent, line: &mut Octets) -> Result<(), NoMemory>
         requires ready { AreReady self.old }
         requires valid { IsTrue (is_event event) }
-        ensures appended { OnOk result (Leads (ReportsEvent event line.old.octets line.new.octets) self.old
-            self.new) }
+        ensures appended { OnOk result (Leads
+            (ReportsEvent event line.old.octets line.new.octets) self.old self.new) }
         ensures ready { OnOk result (AreReady self.new) }
     {
         match event {

@@ -14,7 +14,7 @@ use std::test::Fail;
 /// The URI of the profile RAW (RFC 3195, section 6.2).
 const RAW_URI: &str = "http://xml.resource.org/profiles/syslog/RAW";
 
-/// The lines.
+/// The lines that a sender is to send.
 const LINES: [&str; 3] = [
     "<34>Oct 11 22:14:15 mymachine su: 'su root' failed for lonvick on /dev/pts/8",
     "<13>Oct 11 22:14:16 mymachine sshd: session opened",
