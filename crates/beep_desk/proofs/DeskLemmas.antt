@@ -30,7 +30,7 @@ use Rattle.beep_desk.specs.Listed.{ArePlacedFrom, AreInTurn, IsListed}
 use Rattle.beep_desk.specs.Waiting.{AllWait, OnlyGrantsWait}
 use Rattle.beep_desk.proofs.OwedLemmas.{owed-true}
 use Rattle.beep_desk.proofs.OwnLemmas.{kinds-count}
-use Rattle.beep_desk.proofs.StandLemmas.{first-count, fit-count, parted, replies-of}
+use Rattle.beep_desk.proofs.StandLemmas.{AreThose, StandInTurn, first-count, fit-count, parted, replies-of, those-of, turn-of}
 use Rattle.beep_desk.proofs.WaitLemmas.{AreKeptFrom, all-wait, kept-from}
 
 -- ---- lists
@@ -77,7 +77,7 @@ drop-count zero xs = omega arith
 drop-count (suc m) [] = omega arith
 drop-count (suc m) (x ∷ xs) = let rest = drop-count m xs in omega (arith, rest)
 
-prepared-count : (answers : List Prepared) (ones : List Spoken) → ArePrepared answers ones → length answers ≡ length ones
+pub prepared-count : (answers : List Prepared) (ones : List Spoken) → ArePrepared answers ones → length answers ≡ length ones
 prepared-count [] [] p = refl
 prepared-count [] (one ∷ ones) p = absurd p
 prepared-count (answer ∷ answers) [] p = absurd p
@@ -129,14 +129,16 @@ module _ (plan : PlainPlan) (terms : Terms) (size : ℕ) (journal : List Item) (
       let back = replies_among (unsent spoken journal) in
       let front = replies_among (take (length (contents Side.Sent journal)) spoken) in
       let ours = (desk plan journal).listed in
+      let those : AreThose (desk plan journal) spoken prepared = those-of plan journal spoken prepared listed in
+      let turn : StandInTurn (desk plan journal) journal = turn-of plan journal turns in
       let owed = (desk plan journal).owed in
       let unsent-count : length kinds ≡ length back = ap (λ ks. length (reply_kinds ks)) zero-kinds ∙ reply-count (unsent spoken journal) in
       let fit : length (back ++ prepared) ≡ length requests = fit-count (back ++ prepared) requests managed.fit in
       let split : length (back ++ prepared) ≡ length back + length prepared = length-append back prepared in
       let answers-count : length peer.management.answers ≡ length prepared = prepared-count peer.management.answers prepared managed.answers in
-      let first-is : first ≡ length front = first-count plan size journal given taken peer spoken prepared keeps live managed listed turns in
+      let first-is : first ≡ length front = first-count plan size journal given taken peer spoken prepared keeps live managed (desk plan journal) those turn in
       let parts : length (replies_among spoken) ≡ length front + length back =
-      ap length (parted plan size journal given taken peer spoken prepared keeps live managed listed turns) ∙ length-append front back in
+      ap length (parted plan size journal given taken peer spoken prepared keeps live managed (desk plan journal) those turn) ∙ length-append front back in
       let said : length (replied_positions ours) ≡ length (replies_among spoken) = sym (replies-of ours) ∙ ap (λ l. length (replies_among l)) listed.listed in
       let here : 0 + length (replied_positions ours) ≡ first + length kinds = omega (arith, unsent-count, first-is, parts, said) in
       let left : length (drop (length kinds) requests) ≡ length requests - length kinds = drop-count (length kinds) requests in

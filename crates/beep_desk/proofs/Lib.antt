@@ -22,3 +22,4 @@ pub mod TagLemmas
 pub mod OnceLemmas
 pub mod LifeLemmas
 pub mod SaysLemmas
+pub mod PlacedLemmas

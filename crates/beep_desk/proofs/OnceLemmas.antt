@@ -110,7 +110,7 @@ module _ (p : ℕ) (head : Head) (payload : List ℕ) (zero : List Item) (keeps 
 
 -- ---- what a sender's requests come after
 
-keeps-where : (b : Bool) (item : Item) (past : List Item) → KeepsExchangeRules (if b then item ∷ past else past) → KeepsExchangeRules past
+pub keeps-where : (b : Bool) (item : Item) (past : List Item) → KeepsExchangeRules (if b then item ∷ past else past) → KeepsExchangeRules past
 keeps-where true (began by head) past k = k.2
 keeps-where true (passed by head payload) past k = k.2
 keeps-where true (told by seq) past k = k

@@ -1,4 +1,4 @@
--- What a session keeps of channel zero stands alike with what its script lists.
+-- What a session keeps of channel zero stands alike with what was given and prepared there.
 use Rattle.std.proofs.Common.{◌≡◌, ◌∙◌, refl, sym, ap, subst, ℕ, suc, ◌+◌, ◌-◌, ◌==◌, Bool, true, false, not, ◌&&◌, ◌||◌, if◌then◌else◌, List, [], ◌∷◌, ◌++◌, length, map, take, drop, filter, reverse, Option, arith, append_assoc, length-append, take-append-drop}
 use Rattle.std.specs.Prelude.{nat_lt}
 use Rattle.std.proofs.lemmas.Bool.Decides.{nat_tests}
@@ -25,12 +25,12 @@ use Rattle.beep_peer.specs.beep_management.specs.Managed.{numbers_of, numbers_gr
 use Rattle.beep_peer.specs.beep_management.specs.Manages.{AllFit, IsManaged, unsent}
 use Rattle.beep_peer.specs.declared.peer.Peer.{Peer}
 use Rattle.beep_peer.specs.Standing.{standing_of, live_above, closing_in}
-use Rattle.beep_script.specs.beep_talk.specs.AtZero.{ZeroMessage, Answer, answer_message}
+use Rattle.beep_script.specs.beep_talk.specs.AtZero.{ZeroMessage, Answer, Desk, answer_message}
 use Rattle.beep_script.specs.beep_talk.specs.Plan.{PlainPlan}
 use Rattle.beep_script.specs.Desk.{desk, standing, live_numbers, own_starting, peer_starting, is_closing}
 use Rattle.beep_script.specs.Laws.{replied_positions, answered_positions}
 use Rattle.beep_desk.specs.Alike.{StandsAlike}
-use Rattle.beep_desk.specs.Listed.{ArePlacedFrom, AreInTurn, IsListed, spoken_of, spoken_as}
+use Rattle.beep_desk.specs.Listed.{ArePlacedFrom, AreInTurn, IsListed, asked_positions, spoken_of, spoken_as}
 use Rattle.beep_desk.proofs.NumberLemmas.{among-append, among-filter, rest-distinct, rest-live, rest-zero, same-length}
 use Rattle.beep_desk.proofs.LiveLemmas.{among-numbers, numbers-distinct}
 use Rattle.beep_desk.proofs.OwnLemmas.{waiting-said}
@@ -69,9 +69,28 @@ answers-of : (answers : List Answer) → replies_among (map spoken_of (map answe
 answers-of [] = refl
 answers-of (answer ∷ answers) = rw (reply-kind answer.form) (ap (λ l. spoken_as answer ∷ l) (answers-of answers))
 
+-- ---- a desk
+
+-- the messages that were given are those that a desk lists, and those that are prepared are those that it owes
+pub record AreThose (d : Desk) (spoken prepared : List Spoken) : Type 0 where
+  pub listed : map spoken_of d.listed ≡ spoken
+  pub owed : map spoken_as d.owed ≡ prepared
+
+-- its requests have the positions after the implied one, and each request of the peer has one answer, in turn
+pub record StandInTurn (d : Desk) (journal : List Item) : Type 0 where
+  pub requests : ArePlacedFrom 1 (asked_positions d.listed)
+  pub replies : ArePlacedFrom 0 (answered_positions d)
+  pub each : length (answered_positions d) ≡ length (asked Side.Received (zero_history journal))
+
+pub those-of : (plan : PlainPlan) (journal : List Item) (spoken prepared : List Spoken) → IsListed plan journal spoken prepared → AreThose (desk plan journal) spoken prepared
+those-of plan journal spoken prepared l = record { listed = l.listed; owed = l.owed }
+
+pub turn-of : (plan : PlainPlan) (journal : List Item) → AreInTurn plan journal → StandInTurn (desk plan journal) journal
+turn-of plan journal t = record { requests = t.requests; replies = t.replies; each = t.each }
+
 module _ (plan : PlainPlan) (size : ℕ) (journal : List Item) (given taken : Marks) (peer : Peer) (spoken prepared : List Spoken) (keeps : KeepsExchangeRules (zero_history journal))
-    (live : AreLiveBy size journal given taken peer.lives) (managed : IsManaged size journal given peer.management spoken prepared) (listed : IsListed plan journal spoken prepared)
-    (turns : AreInTurn plan journal) where
+    (live : AreLiveBy size journal given taken peer.lives) (managed : IsManaged size journal given peer.management spoken prepared) (d : Desk) (those : AreThose d spoken prepared)
+    (turns : StandInTurn d journal) where
   abbrev pub past : List Item
   past = zero_history journal
 
@@ -88,10 +107,10 @@ module _ (plan : PlainPlan) (size : ℕ) (journal : List Item) (given taken : Ma
   theirs = peer.management.theirs.requests
 
   abbrev pub ours : List ZeroMessage
-  ours = (desk plan journal).listed
+  ours = d.listed
 
   abbrev pub owed : List Answer
-  owed = (desk plan journal).owed
+  owed = d.owed
 
   abbrev pub forms : List (Option Form)
   forms = asked Side.Received past
@@ -112,7 +131,7 @@ module _ (plan : PlainPlan) (size : ℕ) (journal : List Item) (given taken : Ma
   -- ---- own requests
 
   asked-same : requests_among (map spoken_of ours) ≡ requests_among spoken
-  asked-same = ap requests_among listed.listed
+  asked-same = ap requests_among those.listed
 
   -- ---- the peer's requests
 
@@ -122,15 +141,15 @@ module _ (plan : PlainPlan) (size : ℕ) (journal : List Item) (given taken : Ma
   abbrev all : List ZeroMessage
   all = ours ++ map answer_message owed
 
-  positions : replied_positions all ≡ answered_positions (desk plan journal)
+  positions : replied_positions all ≡ answered_positions d
   positions = replied-append ours (map answer_message owed) ∙ ap (λ l. replied_positions ours ++ l) (replied-answers owed)
 
   replies : replies_among (map spoken_of all) ≡ replies_among spoken ++ prepared
   replies =
       ap replies_among (map-append spoken_of ours (map answer_message owed))
       ∙ filter-append (λ (one : Spoken). not (is_msg one.kind)) (map spoken_of ours) (map spoken_of (map answer_message owed))
-      ∙ ap (λ l. replies_among l ++ replies_among (map spoken_of (map answer_message owed))) listed.listed
-      ∙ ap (λ l. replies_among spoken ++ l) (answers-of owed ∙ listed.owed)
+      ∙ ap (λ l. replies_among l ++ replies_among (map spoken_of (map answer_message owed))) those.listed
+      ∙ ap (λ l. replies_among spoken ++ l) (answers-of owed ∙ those.owed)
 
   -- the replies that are sent, and those that aren't
   pub parted : replies_among spoken ≡ replies_among (take (length (contents Side.Sent journal)) spoken) ++ replies_among (unsent spoken journal)
@@ -264,8 +283,8 @@ module _ (plan : PlainPlan) (size : ℕ) (journal : List Item) (given taken : Ma
 
   -- ---- all of it
 
-  pub stands-alike : StandsAlike (standing plan (desk plan journal) journal) (standing_of plan.terms.role plan.offers peer)
-  stands-alike =
+  pub desk-alike : StandsAlike (standing plan d journal) (standing_of plan.terms.role plan.offers peer)
+  desk-alike =
       let starting : (own_starting past ours ++ peer_starting past forms ours) ++ peer_starting past forms (map answer_message owed)
       ≡ numbers_of peer.management.starting ++ numbers_of peer.management.granted =
       append_assoc (own_starting past ours) (peer_starting past forms ours) (peer_starting past forms (map answer_message owed))
@@ -283,3 +302,10 @@ module _ (plan : PlainPlan) (size : ℕ) (journal : List Item) (given taken : Ma
         closing = closing-same;
         leaving = ap (λ b. b || is_closing 0 journal) (sym (own-leaving size journal given taken peer spoken prepared keeps live managed ours asked-same turns.requests)) ∙ ap (λ b. (is_leaving mine || is_leaving acts) || b) (close-same 0 refl ∙ closes-zero theirs);
       }
+
+-- what the script lists and owes
+pub stands-alike : (plan : PlainPlan) (size : ℕ) (journal : List Item) (given taken : Marks) (peer : Peer) (spoken prepared : List Spoken) → KeepsExchangeRules (zero_history journal)
+    → AreLiveBy size journal given taken peer.lives → IsManaged size journal given peer.management spoken prepared → IsListed plan journal spoken prepared → AreInTurn plan journal
+    → StandsAlike (standing plan (desk plan journal) journal) (standing_of plan.terms.role plan.offers peer)
+stands-alike plan size journal given taken peer spoken prepared keeps live managed listed turns =
+    desk-alike plan size journal given taken peer spoken prepared keeps live managed (desk plan journal) (those-of plan journal spoken prepared listed) (turn-of plan journal turns)

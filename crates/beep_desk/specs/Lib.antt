@@ -1,6 +1,7 @@
 -- What public clauses cite.
 pub mod Alike
 pub mod Listed
+pub mod Placed
 pub mod Waiting
 pub mod Desks
 -- Crates below, which are named through this one.

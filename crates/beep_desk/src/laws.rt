@@ -37,6 +37,7 @@ ghost use Rattle.beep_script.specs.beep_talk.specs.declared.plan.Command.{Comman
 ghost use Rattle.beep_desk.specs.Alike.{StandsAlike};
 ghost use Rattle.beep_desk.specs.Desks.{asks_none, is_part, AreDoneFor, AreGivenFor, IsCalledFor, IsDeskOf, IsDeskWithin, StandsIn};
 ghost use Rattle.beep_desk.specs.Listed.{asked_positions, spoken_of, AreInTurn, ArePlacedFrom, AskInTurn, IsListed};
+ghost use Rattle.beep_desk.specs.Placed.{desk_of};
 ghost use Rattle.beep_desk.specs.Waiting.{AllTaken, AllWait, IsSettledFor, OnlyGrantsWait, SaysAll, WaitsFor};
 
 /// What stands alike is decided alike, and a decision has the same answer.
@@ -67,6 +68,25 @@ pub fn what_a_session_keeps_stands_as_its_script_says()
         → IsListed plan journal spoken prepared → AreInTurn plan journal
         → StandsAlike (standing plan (desk plan journal) journal)
         (standing_of plan.terms.role plan.offers peer) }
+{}
+
+/// A request of the peer is decided by the journal and by what was given and prepared on channel
+/// zero, whatever gave it: a session keeps nothing else that decides.
+pub fn a_session_decides_by_its_journal()
+    ensures decided { (plan : PlainPlan) (size : ℕ) (journal : List Item) (given taken : Marks)
+        (peer : PeerValue) (spoken prepared : List Spoken) (said : Option Form)
+        → KeepsExchangeRules (zero_history journal)
+        → AreLiveBy size journal given taken peer.lives
+        → IsManaged size journal given peer.management spoken prepared
+        → decide (standing_of plan.terms.role plan.offers peer) said
+        ≡ decide (standing plan (desk_of spoken prepared) journal) said }
+    ensures answered { (plan : PlainPlan) (size : ℕ) (journal : List Item)
+        (given taken : Marks) (peer : PeerValue) (spoken prepared : List Spoken)
+        (decision : Decision) → KeepsExchangeRules (zero_history journal)
+        → AreLiveBy size journal given taken peer.lives
+        → IsManaged size journal given peer.management spoken prepared
+        → answer_of (standing_of plan.terms.role plan.offers peer) decision
+        ≡ answer_of (standing plan (desk_of spoken prepared) journal) decision }
 {}
 
 /// What each answer waits for that a session hasn't given is what the script says of the one that
