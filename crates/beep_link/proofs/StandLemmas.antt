@@ -1,13 +1,14 @@
 -- What an end stands for, as its link is read and written.
-use Rattle.std.proofs.Common.{◌≡◌, ◌⊎◌, inl, inr, ◌∙◌, sym, ap, subst, ℕ, Option, Some, None, List, [], ◌∷◌, ◌++◌, length, take, append-nil, append_assoc}
+use Rattle.std.proofs.Common.{◌≡◌, ◌⊎◌, inl, inr, ◌∙◌, sym, ap, subst, ℕ, ◌≤◌, ◌<◌, Option, Some, None, List, [], ◌∷◌, ◌++◌, length, take, append-nil, append_assoc, arith}
 use lib.Seq.{take-append_seam}
 use Rattle.beep_wires.specs.Log.{Entry, read, wrote, quiet, ended, Logs}
 use Rattle.beep_wires.specs.Writing.{AreWrites}
 use Rattle.std.proofs.KnownBytes.{Appends-nil, Appends-trans}
-use Rattle.beep_link.specs.Causes.{GrewByWrites, IsOfReads, IsSpent, ReadsWhere, WhereKnown, WithText}
+use Rattle.beep_link.specs.Causes.{octets_read, GrewByWrites, IsBounded, IsOfReads, IsSpent, IsWithin, MayRead, ReadsWhere, SameLogReads, TellsLeft, WhereKnown, WithText}
 use Rattle.beep_link.specs.declared.ended.Ended.{Ended}
 use Rattle.beep_link.specs.declared.left.Reads.{Reads}
 use Rattle.beep_link.specs.declared.left.Left.{Left}
+use Rattle.beep_link.proofs.KeepLemmas.{octets_read-writes}
 
 -- what stands for octets that are to be written stands for the log of those that were, and for the rest
 pub stands-writes : (S : List Entry → List ℕ → Type 0) → ((log : List Entry) (front octets : List ℕ) → S log (front ++ octets) → S (wrote front ∷ log) octets)
@@ -153,3 +154,53 @@ reads-map P Q f (read octets ∷ log) r = (f log r.0, reads-map P Q f log r.1)
 reads-map P Q f (wrote octets ∷ log) r = reads-map P Q f log r
 reads-map P Q f (quiet ∷ log) r = (f log r.0, reads-map P Q f log r.1)
 reads-map P Q f (ended ∷ log) r = (f log r.0, reads-map P Q f log r.1)
+
+-- ---- how much was read
+
+-- nothing was read
+pub unread-bounded : (reads : Reads) (log : Option (List Entry)) → (log ≡ None) ⊎ (log ≡ Some []) → IsBounded reads log
+unread-bounded reads log unread = known-empty (IsWithin reads) log (record { octets = omega arith; each = tt }) unread
+
+within-writes : (reads : Reads) (more log : List Entry) (octets : List ℕ) → AreWrites more octets → IsWithin reads log → IsWithin reads (more ++ log)
+within-writes reads more log octets h w = record {
+  octets = subst (λ (n : ℕ). n ≤ reads.octets) (sym (octets_read-writes more log octets h)) w.octets;
+  each = reads-after (MayRead reads) more log octets h w.each;
+}
+
+-- writes are no reads
+pub bounded-grown : (reads : Reads) (old new : Option (List Entry)) → GrewByWrites old new → IsBounded reads old → IsBounded reads new
+bounded-grown reads None None g w = tt
+bounded-grown reads None (Some new) (more, octets, logs, writes) w = absurd logs
+bounded-grown reads (Some old) None (more, octets, logs, writes) w = absurd logs
+bounded-grown reads (Some old) (Some new) (more, octets, logs, writes) w = subst (IsWithin reads) (sym logs) (within-writes reads more old octets writes w)
+
+-- the same reads leave the same
+pub tells-same : (reads : Reads) (left : Left) (old new : Option (List Entry)) → SameLogReads old new → TellsLeft reads left old → TellsLeft reads left new
+tells-same reads left None None same tells = tt
+tells-same reads left None (Some new) same tells = absurd same
+tells-same reads left (Some old) None same tells = absurd same
+tells-same reads left (Some old) (Some new) same tells = (omega (arith, same.0, tells.0), same.1 ∙ tells.1)
+
+-- what may still be read and what was are no more than may be
+pub most-read : (reads : Reads) (left : Left) (log : Option (List Entry)) → TellsLeft reads left log → WhereKnown (λ known. octets_read known ≤ reads.octets) log
+most-read reads left None tells = tt
+most-read reads left (Some log) tells = omega (arith, tells.0)
+
+-- where something may still be read once more may be
+may-read : (reads : Reads) (left : Left) (log : List Entry) → TellsLeft reads left (Some log) → 0 < left.octets → left.quiets < reads.idle → MayRead reads log
+may-read reads left log tells some few = record {
+  octets = omega (arith, tells.0, some);
+  quiets = omega (arith, tells.1, few);
+}
+
+-- so it was
+pub bounded-read : (reads : Reads) (left : Left) (entry : Entry) (old new : Option (List Entry))
+    → ((log : List Entry) → MayRead reads log × ReadsWhere (MayRead reads) log → ReadsWhere (MayRead reads) (entry ∷ log)) → Logs old new (entry ∷ []) → TellsLeft reads left old
+    → 0 < left.octets → left.quiets < reads.idle → IsBounded reads old → WhereKnown (λ known. octets_read known ≤ reads.octets) new → IsBounded reads new
+bounded-read reads left entry None None is logs tells some few w most = tt
+bounded-read reads left entry None (Some new) is logs tells some few w most = absurd logs
+bounded-read reads left entry (Some old) None is logs tells some few w most = absurd logs
+bounded-read reads left entry (Some old) (Some new) is logs tells some few w most = record {
+  octets = most;
+  each = subst (ReadsWhere (MayRead reads)) (sym logs) (is old (may-read reads left old tells some few, w.each));
+}

@@ -153,11 +153,23 @@ reads_left reads left = left.octets * (reads.idle + 1) + (reads.idle - left.quie
 abbrev pub TellsLeft : Reads → Left → Option (List Entry) → Type 0
 TellsLeft reads left None = Unit {0}
 TellsLeft reads left (Some log) =
-    (octets_read log + left.octets ≡ reads.octets) × (left.quiets ≤ quiet_reads log)
+    (octets_read log + left.octets ≡ reads.octets) × (quiet_reads log ≡ left.quiets)
 
--- a log that is known shows no more octets read than may be
+-- a log shows that once more may be read: fewer octets were read than may be, and of the latest
+-- reads fewer were quiet, one after another
+pub record MayRead (reads : Reads) (log : List Entry) : Type 0 where
+  pub octets : octets_read log < reads.octets
+  pub quiets : quiet_reads log < reads.idle
+
+-- no more octets were read than may be, and wherever a log shows a read, a quiet one or the end of
+-- the link among them, once more might be read there
+pub record IsWithin (reads : Reads) (log : List Entry) : Type 0 where
+  pub octets : octets_read log ≤ reads.octets
+  pub each : ReadsWhere (MayRead reads) log
+
+-- so it is of a log that is known
 abbrev pub IsBounded : Reads → Option (List Entry) → Type 0
-IsBounded reads log = WhereKnown (λ known. octets_read known ≤ reads.octets) log
+IsBounded reads log = WhereKnown (IsWithin reads) log
 
 -- since there were so many quiet reads the count rose, where one of the latest reads was quiet
 pub record CountsQuiet (before : ℕ) (left : Left) (quiets : ℕ) : Type 0 where

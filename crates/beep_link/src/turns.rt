@@ -102,7 +102,8 @@ fn turn<E: End, W: Wires, O: Sink>(
     ensures going { OnOk result ((W.state wires.new link).has_ended ≡ false) }
     ensures falls { OnOk result (reads_left reads left.new < reads_left reads left.old) }
     ensures shown { OnOk result (TellsLeft reads left.new (W.state wires.new link).log) }
-    ensures bounded { IsBounded reads (W.state wires.new link).log }
+    ensures bounded { IsBounded reads (W.state wires.old link).log
+        → IsBounded reads (W.state wires.new link).log }
     ensures counted { (before : ℕ) → CountsQuiet before left.old (W.counts wires.old).quiets
         → OnOk result (CountsQuiet before left.new (W.counts wires.new).quiets) }
     ensures caused { (before : Link) (quiets : ℕ) → before.faults ≤ (W.state wires.old link).faults

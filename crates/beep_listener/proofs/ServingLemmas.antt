@@ -1,5 +1,5 @@
 -- All that comes to a listener is served, so what it wrote is the lines of the session that its log shows.
-use Rattle.std.proofs.Common.{◌≡◌, ◌<◌, ◌^◌, ℕ, Bool, List, [], ◌∷◌, Option, None, Some, ◌⊎◌, inl, inr, subst, sym, ap, arith}
+use Rattle.std.proofs.Common.{◌≡◌, ◌<◌, ◌^◌, ℕ, Bool, List, [], ◌∷◌, Option, None, Some, sym, ap, arith}
 use Rattle.beep_steps.specs.beep_journal.specs.Broken.{none_tunes}
 use Rattle.beep_steps.specs.beep_journal.specs.Journal.{Past, Shows}
 use Rattle.beep_steps.specs.beep_decide.specs.Decide.{PlainOffer}
@@ -34,9 +34,4 @@ pub known-lines : (plan : PlainPlan) (terms : Terms) (whole : Bool) (reads : Rea
     → WhereKnown (λ known. WithText before now (λ text. (past : Past) → Shows none_tunes (moments known) past → AreWritten whole (lines plan past.journal) text)) log
 known-lines plan terms whole reads before now None few shown lawful bounded = tt
 known-lines plan terms whole reads before now (Some log) few (text, grew, shown) lawful bounded =
-    (text, grew, writes-lines plan terms whole log text shown.0 lawful shown.1 (omega (arith, few, bounded)))
-
--- nothing was read
-pub unread-bounded : (reads : Reads) (log : Option (List Entry)) → log ≡ None ⊎ log ≡ Some [] → IsBounded reads log
-unread-bounded reads log (inl e) = subst (IsBounded reads) (sym e) tt
-unread-bounded reads log (inr e) = subst (IsBounded reads) (sym e) (omega arith)
+    (text, grew, writes-lines plan terms whole log text shown.0 lawful shown.1 (omega (arith, few, bounded.octets)))

@@ -257,4 +257,4 @@ pub known-whole : (plan : PlainPlan) (terms : Terms) (reads : Reads) (log : Opti
     → WhereKnown (λ known. ShowsWhole plan (moments known)) log
 known-whole plan terms reads None listens none few shown lawful bounded = tt
 known-whole plan terms reads (Some log) listens none few shown lawful bounded =
-    shown-whole plan terms (moments log) listens none lawful (let same = moments-octets log in omega (arith, few, bounded, same)) shown.0 shown.1
+    shown-whole plan terms (moments log) listens none lawful (let same = moments-octets log in omega (arith, few, bounded.octets, same)) shown.0 shown.1

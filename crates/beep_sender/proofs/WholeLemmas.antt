@@ -63,4 +63,4 @@ pub known-whole : (plan : PlainPlan) (terms : Terms) (reads : Reads) (log : Opti
     → WhereKnown (λ known. KeepsScriptOn plan known × ShowsSaidZero plan (moments known)) log → WhereKnown (IsLawfulOn terms) log → IsBounded reads log → WhereKnown (KeepsWholeOn plan) log
 known-whole plan terms reads None sends none few shown lawful bounded = tt
 known-whole plan terms reads (Some log) sends none few shown lawful bounded =
-    sender-whole plan terms (moments log) sends none lawful (let same = moments-octets log in omega (arith, few, bounded, same)) shown.0.above shown.1
+    sender-whole plan terms (moments log) sends none lawful (let same = moments-octets log in omega (arith, few, bounded.octets, same)) shown.0.above shown.1

@@ -3,7 +3,7 @@ use Rattle.std.proofs.Common.{rules, ℕ, List, ◌∙◌, [], arith, subst, sym
 use Rattle.beep_link.specs.Causes.{ReadsWhere, WhereKnown, WithText}
 use Rattle.beep_link.specs.declared.ended.Ended.{Ended}
 use Rattle.beep_link.proofs.KeepLemmas.{Keeps-trans}
-use Rattle.beep_link.proofs.StandLemmas.{text-none, known-empty}
+use Rattle.beep_link.proofs.StandLemmas.{text-none, known-empty, unread-bounded}
 use Rattle.beep_link.proofs.turns.run_turns.Goals as goal
 
 pub returns-in-Err-clause-shown : goal.returns-in-Err-clause-shown
@@ -34,6 +34,12 @@ returns-in_default-clause-shown g c begun =
     (text-none now (E.tells (E.terms c.args.end.now) Ended.NoMemory []) (g.met.E.End.stops c.args.end.now [] [] [] Ended.NoMemory tt begun)) c.requires.unused.unread in
     search (rules, h)
 
+pub returns-in_default-clause-bounded : goal.returns-in_default-clause-bounded
+returns-in_default-clause-bounded g c = unread-bounded c.args.reads (g.W.Wires.state c.args.wires.now c.args.link).log c.requires.unused.unread
+
+pub returns-in-Err-clause-bounded : goal.returns-in-Err-clause-bounded
+returns-in-Err-clause-bounded g c = c.turn.ensures.bounded c.loop-ended.invariant.bounded
+
 pub loop-ended-preserved : goal.loop-ended-preserved
 loop-ended-preserved g c = record {
   empty = c.in-Ok-turn.ensures.empty;
@@ -47,6 +53,7 @@ loop-ended-preserved g c = record {
   going = c.in-Ok-turn.ensures.going;
   buffer = c.turn.ensures.buffer;
   shown = c.in-Ok-turn.ensures.shown;
+  bounded = c.turn.ensures.bounded c.loop-ended.invariant.bounded;
   counted = c.in-Ok-turn.ensures.counted _ c.loop-ended.invariant.counted;
   keeps = Keeps-trans c.args.link _ _ _ c.loop-ended.invariant.keeps c.turn.ensures.keeps;
   kept = omega (arith, c.loop-ended.invariant.kept, c.turn.ensures.kept);

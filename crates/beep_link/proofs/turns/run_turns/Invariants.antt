@@ -1,6 +1,6 @@
 -- The log shows what may still be read, and so do the reads; and the end stands for the log.
 use Rattle.std.proofs.Common.{◌≡◌, ℕ, List, ◌≤◌, ◌+◌, ◌*◌, false, [], vec_len}
-use Rattle.beep_link.specs.Causes.{CountsQuiet, Keeps, reads_left, ReadsWhere, TellsLeft, WhereKnown, WithText}
+use Rattle.beep_link.specs.Causes.{CountsQuiet, IsBounded, Keeps, reads_left, ReadsWhere, TellsLeft, WhereKnown, WithText}
 use Rattle.beep_link.specs.declared.buffers.TheConstants.{BUFFER}
 use Rattle.beep_link.specs.declared.ended.Ended.{Ended}
 use Rattle.beep_link.proofs.turns.run_turns.Given as goal
@@ -16,6 +16,7 @@ invariant-loop-ended g l =
       going : (W.state l.wires l.link).has_ended ≡ false;
       buffer : vec_len l.buffers.coming ≡ BUFFER;
       shown : TellsLeft l.reads l.left (W.state l.wires l.link).log;
+      bounded : IsBounded l.reads (W.state l.wires l.link).log;
       counted : CountsQuiet (W.counts l.fn.wires).quiets l.left (W.counts l.wires).quiets;
       keeps : Keeps l.link (record { state = W.state l.fn.wires; counts = W.counts l.fn.wires; asked = W.asked l.fn.wires; lent = W.lent l.fn.wires })
           (record { state = W.state l.wires; counts = W.counts l.wires; asked = W.asked l.wires; lent = W.lent l.wires });

@@ -1,10 +1,10 @@
 -- What a turn says and hears joins the log, and what it writes joins the output.
-use Rattle.std.proofs.Common.{rules, ◌≡◌, ◌∷◌, [], ◌++◌, ℕ, List, take, subst, sym, ◌∙◌}
+use Rattle.std.proofs.Common.{rules, ◌≡◌, ◌≤◌, ◌∷◌, [], ◌++◌, ℕ, List, take, subst, sym, ◌∙◌}
 use Rattle.beep_wires.specs.Log.{Logs, read, quiet, ended}
 use Rattle.beep_wires.specs.Links.{Counts}
-use Rattle.beep_link.specs.Causes.{CountsQuiet, IsOfReads, ReadsWhere, WhereKnown, WithText, ended_by}
+use Rattle.beep_link.specs.Causes.{octets_read, CountsQuiet, IsOfReads, IsWithin, ReadsWhere, TellsLeft, WhereKnown, WithText, ended_by}
 use Rattle.beep_link.specs.declared.ended.Ended.{Ended}
-use Rattle.beep_link.proofs.StandLemmas.{entered, kept, reads-grown, spent-is, take-front, text-map, text-more, known-map, known-pair}
+use Rattle.beep_link.proofs.StandLemmas.{bounded-grown, bounded-read, entered, kept, most-read, reads-grown, spent-is, take-front, tells-same, text-map, text-more, known-map, known-pair}
 use Rattle.beep_link.proofs.turns.turn.Goals as goal
 
 pub returns-in_err-say-clause-stopped : goal.returns-in_err-say-clause-stopped
@@ -166,3 +166,60 @@ returns-in-Ok-End-clause-waits g c before s r =
 pub returns-in-Err-clause-waits : goal.returns-in-Err-clause-waits
 returns-in-Err-clause-waits g c before s r =
     kept _ (g.W.Wires.state c.say.new.wires c.args.link).log (g.W.Wires.state c.read_once.new.wires c.args.link).log (search rules) (reads-grown _ _ _ c.say.ensures.writes r)
+
+pub returns-in_err-say-clause-bounded : goal.returns-in_err-say-clause-bounded
+returns-in_err-say-clause-bounded g c w = bounded-grown c.args.reads _ _ c.say.ensures.writes w
+
+pub returns-in-Some-clause-bounded : goal.returns-in-Some-clause-bounded
+returns-in-Some-clause-bounded g c w = bounded-grown c.args.reads _ _ c.say.ensures.writes w
+
+pub returns-in-Some-is_spent-clause-bounded : goal.returns-in-Some-is_spent-clause-bounded
+returns-in-Some-is_spent-clause-bounded g c w = bounded-grown c.args.reads _ _ c.say.ensures.writes w
+
+pub returns-in-Err-clause-bounded : goal.returns-in-Err-clause-bounded
+returns-in-Err-clause-bounded g c w =
+    kept (IsWithin c.args.reads) (g.W.Wires.state c.say.new.wires c.args.link).log (g.W.Wires.state c.read_once.new.wires c.args.link).log (search rules) (bounded-grown c.args.reads _ _ c.say.ensures.writes w)
+
+pub returns-in-Ok-clause-bounded : goal.returns-in-Ok-clause-bounded
+returns-in-Ok-clause-bounded g c w =
+    let old = (g.W.Wires.state c.args.wires.now c.args.link).log in
+    let mid = (g.W.Wires.state c.say.new.wires c.args.link).log in
+    let new = (g.W.Wires.state c.read_once.new.wires c.args.link).log in
+    let logged : Logs mid new (read (take c.in-Ok-Bytes.count c.read_once.new.coming) ∷ []) = search rules in
+    let tells : TellsLeft c.args.reads c.args.left.now mid = tells-same c.args.reads c.args.left.now old mid c.say.ensures.same_reads.logs c.requires.shown in
+    let after : TellsLeft c.args.reads c.read_once.new.left new = search (rules, tells) in
+    bounded-read c.args.reads c.args.left.now (read (take c.in-Ok-Bytes.count c.read_once.new.coming)) mid new (λ log h. h) logged tells (search rules) (search rules) (bounded-grown c.args.reads old mid c.say.ensures.writes w)
+    (most-read c.args.reads c.read_once.new.left new after)
+
+pub returns-in-Err-hear-clause-bounded : goal.returns-in-Err-hear-clause-bounded
+returns-in-Err-hear-clause-bounded g c w =
+    let old = (g.W.Wires.state c.args.wires.now c.args.link).log in
+    let mid = (g.W.Wires.state c.say.new.wires c.args.link).log in
+    let new = (g.W.Wires.state c.read_once.new.wires c.args.link).log in
+    let logged : Logs mid new (read (take c.in-Ok-Bytes.count c.read_once.new.coming) ∷ []) = search rules in
+    let tells : TellsLeft c.args.reads c.args.left.now mid = tells-same c.args.reads c.args.left.now old mid c.say.ensures.same_reads.logs c.requires.shown in
+    let after : TellsLeft c.args.reads c.read_once.new.left new = search (rules, tells) in
+    bounded-read c.args.reads c.args.left.now (read (take c.in-Ok-Bytes.count c.read_once.new.coming)) mid new (λ log h. h) logged tells (search rules) (search rules) (bounded-grown c.args.reads old mid c.say.ensures.writes w)
+    (most-read c.args.reads c.read_once.new.left new after)
+
+pub returns-in-Ok-Quiet-clause-bounded : goal.returns-in-Ok-Quiet-clause-bounded
+returns-in-Ok-Quiet-clause-bounded g c w =
+    let old = (g.W.Wires.state c.args.wires.now c.args.link).log in
+    let mid = (g.W.Wires.state c.say.new.wires c.args.link).log in
+    let new = (g.W.Wires.state c.read_once.new.wires c.args.link).log in
+    let logged : Logs mid new (quiet ∷ []) = search rules in
+    let tells : TellsLeft c.args.reads c.args.left.now mid = tells-same c.args.reads c.args.left.now old mid c.say.ensures.same_reads.logs c.requires.shown in
+    let after : TellsLeft c.args.reads c.read_once.new.left new = search (rules, tells) in
+    bounded-read c.args.reads c.args.left.now quiet mid new (λ log h. h) logged tells (search rules) (search rules) (bounded-grown c.args.reads old mid c.say.ensures.writes w)
+    (most-read c.args.reads c.read_once.new.left new after)
+
+pub returns-in-Ok-End-clause-bounded : goal.returns-in-Ok-End-clause-bounded
+returns-in-Ok-End-clause-bounded g c w =
+    let old = (g.W.Wires.state c.args.wires.now c.args.link).log in
+    let mid = (g.W.Wires.state c.say.new.wires c.args.link).log in
+    let new = (g.W.Wires.state c.read_once.new.wires c.args.link).log in
+    let logged : Logs mid new (ended ∷ []) = search rules in
+    let tells : TellsLeft c.args.reads c.args.left.now mid = tells-same c.args.reads c.args.left.now old mid c.say.ensures.same_reads.logs c.requires.shown in
+    let grown = bounded-grown c.args.reads old mid c.say.ensures.writes w in
+    bounded-read c.args.reads c.args.left.now ended mid new (λ log h. h) logged tells (search rules) (search rules) grown
+    (entered (IsWithin c.args.reads) (λ log. octets_read log ≤ c.args.reads.octets) ended (λ log h. h.octets) mid new logged grown)

@@ -1,7 +1,7 @@
 -- The log of the link shows what ended the session, and what was written then.
 use Rattle.std.proofs.Common.{[], false, subst, refl}
 use Rattle.beep_steps.specs.beep_journal.specs.declared.role.Role.{Role}
-use Rattle.beep_steps.specs.beep_link.proofs.StandLemmas.{reads-map, text-map, text-none, known-map}
+use Rattle.beep_steps.specs.beep_link.proofs.StandLemmas.{reads-map, text-map, text-none, known-map, unread-bounded}
 use Rattle.beep_steps.specs.beep_link.specs.Causes.{IsBounded, WhereKnown, WithText}
 use Rattle.beep_steps.specs.beep_link.specs.declared.ended.Ended.{Ended}
 use Rattle.beep_steps.specs.beep_talk.specs.Plan.{PlainPlan}
@@ -11,7 +11,7 @@ use Rattle.beep_steps.specs.Ends.{reads_of}
 use Rattle.beep_steps.specs.Refusing.{GoesAlong, GoesUnrefused, ReadsOnlyGoing}
 use Rattle.beep_steps.specs.Serving.{ShowsServing}
 use Rattle.beep_listener.specs.Listening.{AreLinesOf, WritesLines, is_whole, listener_plan, plan_of}
-use Rattle.beep_listener.proofs.ServingLemmas.{known-lines, unread-bounded}
+use Rattle.beep_listener.proofs.ServingLemmas.{known-lines}
 use Rattle.beep_steps.specs.Desking.{ShowsSaidZero}
 use Rattle.beep_steps.specs.beep_script.specs.Prompt.{IsIdle}
 use Rattle.beep_steps.specs.Resting.{IsPromptOn}

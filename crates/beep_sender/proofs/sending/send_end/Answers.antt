@@ -1,15 +1,16 @@
 -- The log of the link shows what ended the session.
-use Rattle.std.proofs.Common.{◌≤◌, refl, sym, subst, arith}
+use Rattle.std.proofs.Common.{refl, sym, subst}
 use Rattle.beep_steps.specs.beep_journal.specs.declared.role.Role.{Role}
-use Rattle.beep_steps.specs.beep_link.proofs.StandLemmas.{reads-map, known-map}
+use Rattle.beep_steps.specs.beep_link.proofs.StandLemmas.{reads-map, known-map, unread-bounded}
 use Rattle.beep_steps.specs.beep_talk.specs.Plan.{PlainPlan}
-use Rattle.beep_steps.specs.beep_link.specs.Causes.{octets_read, IsBounded, WhereKnown}
+use Rattle.beep_steps.specs.beep_link.specs.Causes.{IsBounded, WhereKnown}
 use Rattle.beep_steps.specs.beep_link.specs.declared.ended.Ended.{Ended}
 use Rattle.beep_steps.specs.Logs.{moments, Shows, terms_by}
 use Rattle.beep_steps.specs.beep_script.specs.Prompt.{IsIdle}
 use Rattle.beep_steps.specs.Refusing.{GoesAlong, GoesUnrefused, ReadsOnlyGoing}
 use Rattle.beep_steps.specs.Resting.{AreShort, IsPromptOn}
 use Rattle.beep_steps.specs.Desking.{ShowsSaidZero}
+use Rattle.beep_steps.specs.Ends.{reads_of}
 use Rattle.beep_steps.specs.Scripting.{KeepsScriptOn, KeepsWholeOn}
 use Rattle.beep_steps.specs.Sending.{SendsAll, sender_plan}
 use Rattle.beep_steps.proofs.EndSends.{sends-all}
@@ -86,7 +87,7 @@ returns-clause-unrefused g c =
 
 pub returns-in_default-clause-bounded : goal.returns-in_default-clause-bounded
 returns-in_default-clause-bounded g c =
-    none-known (λ known. octets_read known ≤ c.args.settings.now.octets) (g.W.Wires.state c.args.wires.now c.args.link).log (omega arith) c.requires.unused.unread
+    unread-bounded (reads_of c.args.settings.now) (g.W.Wires.state c.args.wires.now c.args.link).log c.requires.unused.unread
 
 pub returns-clause-bounded : goal.returns-clause-bounded
 returns-clause-bounded g c = subst (λ r. IsBounded r (g.W.Wires.state c.run_turns.new.wires c.args.link).log) c.reads_of.ensures c.run_turns.ensures.bounded
