@@ -49,9 +49,10 @@ use Rattle.beep_steps.proofs.SendsLemmas.{keeps-zero, texts-are}
 use Rattle.beep_steps.proofs.OnLemmas.{begins-on, over-on, released-on, stopped-on}
 use Rattle.beep_steps.proofs.HeardSends.{FedSending, fed-sending}
 
-shows-all : (plan : PlainPlan) (terms : Terms) (log : List Moment) → plan.terms ≡ terms → (sound : IsSound terms log) → HasSentAll plan sound.past.journal → ShowsSent plan log
-shows-all plan terms log same sound all =
-    let r = subst (λ (t : Terms). (one : IsSound t log) × HasSentAll plan one.past.journal) (sym same) (sound, all) in record { sound = r.0; all = r.1 }
+shows-all : (plan : PlainPlan) (terms : Terms) (log : List Moment) → plan.terms ≡ terms → (sound : IsSound terms log) → sound.past.rest Side.Sent ≡ [] → HasSentAll plan sound.past.journal → ShowsSent plan log
+shows-all plan terms log same sound whole all =
+    let r = subst (λ (t : Terms). (one : IsSound t log) × (one.past.rest Side.Sent ≡ []) × HasSentAll plan one.past.journal) (sym same) (sound, whole, all) in
+    record { sound = r.0; whole = r.1; all = r.2 }
 
 module _ (plan : PlainPlan) (p : Progress) (session : Held) (log : List Moment) (s : SendsOn plan p session log) where
   abbrev journal : List Item
@@ -111,7 +112,7 @@ module _ (plan : PlainPlan) (p : Progress) (session : Held) (log : List Moment) 
     pub over-sent : is_over session.peer ≡ true → ShowsNoRefusal (terms_of session) log → ShowsSent plan log
     over-sent e none =
         let shown = s.on.logged.shown in
-        shows-all plan (terms_of session) log same (record { past = shown.past; shows = shown.shows; going = shown.going; lawful = s.on.logged.lawful })
+        shows-all plan (terms_of session) log same (record { past = shown.past; shows = shown.shows; going = shown.going; lawful = s.on.logged.lawful }) shown.whole
         (subst (HasSentAll plan) (sym shown.journal_is) (all-sent (none-shown log shown.past shown.shows shown.journal_is none) (over-on session log s.on e)))
 
     -- octets that come after the release
@@ -119,7 +120,7 @@ module _ (plan : PlainPlan) (p : Progress) (session : Held) (log : List Moment) 
     behind-sent octets e none =
         let released = released-on session log s.on e in
         let l = released-gots (terms_of session) s.on.rest octets journal log released s.on.logged in
-        shows-all plan (terms_of session) (got_all octets log) same (record { past = l.shown.past; shows = l.shown.shows; going = l.shown.going; lawful = l.lawful })
+        shows-all plan (terms_of session) (got_all octets log) same (record { past = l.shown.past; shows = l.shown.shows; going = l.shown.going; lawful = l.lawful }) l.shown.whole
         (subst (HasSentAll plan) (sym l.shown.journal_is) (all-sent (none-shown (got_all octets log) l.shown.past l.shown.shows l.shown.journal_is none) released))
 
 -- and so of each session that the log shows
@@ -204,7 +205,7 @@ tells-stop plan p session log octets stop same s none h r = of stop h r
 
     of : (stop : Stop) → StopsSending plan stop (got_all octets (moments log)) → RefusesOn (terms_of session) stop (got_all octets (moments log)) → TellsSent plan (ended_by stop) (read octets ∷ log)
     of Stop.Released h r = let sent = h (subst (λ (t : Terms). ShowsNoRefusal t (got_all octets (moments log))) (sym same) r) in record {
-      shows = record { sound = sent.sound; released = sent.all.released };
+      shows = record { sound = sent.sound; whole = sent.whole; released = sent.all.released };
       sent = λ is. sent;
       unrefused = goes Stop.Released r;
     }
@@ -214,5 +215,5 @@ tells-stop plan p session log octets stop same s none h r = of stop h r
       unrefused = goes (Stop.Broken rule place) tt;
     }
     of Stop.WriteFault h r = record { shows = shown Stop.WriteFault tt tt; sent = λ is. absurd (cc is); unrefused = goes Stop.WriteFault tt }
-    of Stop.NoMemory h r = record { shows = shown Stop.NoMemory tt tt; sent = λ is. absurd (cc is); unrefused = tt }
+    of Stop.NoMemory h r = record { shows = shown Stop.NoMemory tt tt; sent = λ is. absurd (cc is); unrefused = goes Stop.NoMemory tt }
     of (Stop.Refused code) h r = record { shows = shown (Stop.Refused code) tt r; sent = λ is. absurd (cc is); unrefused = goes (Stop.Refused code) r }

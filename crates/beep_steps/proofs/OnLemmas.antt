@@ -66,6 +66,7 @@ module _ (session : Held) (log : List Moment) (s : StandsOn session log) where
   pub shows-release : is_released s.journal ≡ true → ShowsRelease (terms_of session) log
   shows-release e = record {
     sound = record { past = s.logged.shown.past; shows = s.logged.shown.shows; going = s.logged.shown.going; lawful = s.logged.lawful };
+    whole = s.logged.shown.whole;
     released = ap is_released s.logged.shown.journal_is ∙ e;
   }
 
@@ -75,6 +76,7 @@ module _ (session : Held) (log : List Moment) (s : StandsOn session log) where
       let l = released-gots (terms_of session) s.rest octets s.journal log e s.logged in
       record {
         sound = record { past = l.shown.past; shows = l.shown.shows; going = l.shown.going; lawful = l.lawful };
+        whole = l.shown.whole;
         released = ap is_released l.shown.journal_is ∙ e;
       }
 
@@ -85,6 +87,7 @@ module _ (session : Held) (log : List Moment) (s : StandsOn session log) where
       → left ≡ modulo_2_64 (length rest)) → is_over session.peer ≡ false → ShowsCut (terms_of session) left log
   shows-cut left f going = record {
     sound = record { past = s.logged.shown.past; shows = s.logged.shown.shows; going = s.logged.shown.going; lawful = s.logged.lawful };
+    whole = s.logged.shown.whole;
     unreleased = ap is_released s.logged.shown.journal_is ∙ unreleased-on going;
     left_is = f s.fed s.rest s.journal s.given s.taken s.stands.stands ∙ ap (λ (x : List ℕ). modulo_2_64 (length x)) (sym s.logged.shown.rest_is);
   }

@@ -50,9 +50,10 @@ IsLawfulOn terms log = IsLawfulLog terms none_tunes (moments log)
 
 -- ---- what ended a session
 
--- a log shows a released session, in which no rule was broken
+-- a log shows a released session, in which no rule was broken and each written frame is whole
 pub record ShowsRelease (terms : Terms) (log : List Moment) : Type 0 where
   pub sound : IsSound terms log
+  pub whole : sound.past.rest Side.Sent ≡ []
   pub released : is_released sound.past.journal ≡ true
 
 -- a log shows that the peer broke this rule first, at the octet of this place modulo 2^64
@@ -72,14 +73,17 @@ abbrev pub ShowsRefused : Terms → ℕ → List Moment → Type 0
 ShowsRefused terms code log = (past : Past) → ShowsPast none_tunes log past
     → refusal (command_of terms.role) past.journal ≡ Some code
 
--- a log shows a session that isn't released, in which no rule was broken
+-- a log shows a session that isn't released, in which no rule was broken and each written frame is
+-- whole
 pub record ShowsGoing (terms : Terms) (log : List Moment) : Type 0 where
   pub sound : IsSound terms log
+  pub whole : sound.past.rest Side.Sent ≡ []
   pub unreleased : is_released sound.past.journal ≡ false
 
 -- the same, and so many octets modulo 2^64 of a frame that isn't whole
 pub record ShowsCut (terms : Terms) (left : ℕ) (log : List Moment) : Type 0 where
   pub sound : IsSound terms log
+  pub whole : sound.past.rest Side.Sent ≡ []
   pub unreleased : is_released sound.past.journal ≡ false
   pub left_is : left ≡ modulo_2_64 (length (sound.past.rest Side.Received))
 

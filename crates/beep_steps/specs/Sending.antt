@@ -2,6 +2,7 @@
 -- once and in order (RFC 3195, section 3.1).
 -- The code keeps the place of the next line, how far it has asked, and a flag.
 use Rattle.std.specs.Prelude.{◌≡◌, ℕ, ◌+◌, ◌≤◌, ◌==◌, Bool, true, false, ◌||◌, ◌&&◌, List, [], take, Result, Ok, Err}
+use Rattle.beep_session.specs.beep_history.specs.declared.journal.Side.{Side}
 use Rattle.beep_session.specs.beep_frame.specs.Frame.{is_nul}
 use Rattle.beep_session.specs.beep_speaking.specs.declared.emit.Emit.{Emit}
 use Rattle.beep_session.specs.beep_history.specs.Journal.{Item}
@@ -120,9 +121,11 @@ if_closed (Err error) progress = progress
 
 -- ---- what ended it
 
--- a log shows that all was sent: the session is released, and the close was granted
+-- a log shows that all was sent: the session is released, each written frame is whole, and the
+-- close was granted
 pub record ShowsSent (plan : PlainPlan) (log : List Moment) : Type 0 where
   pub sound : IsSound plan.terms log
+  pub whole : sound.past.rest Side.Sent ≡ []
   pub all : HasSentAll plan sound.past.journal
 
 -- the same of each session that the log of a link shows

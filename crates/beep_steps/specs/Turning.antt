@@ -98,6 +98,7 @@ going_on session log going s =
         going = shown.going;
         lawful = s.logged.lawful;
       };
+      whole = shown.whole;
       unreleased = ap is_released shown.journal_is ∙ sym s.stands.stands.released
           ∙ unreleased peer.released (is_some peer.ear.broken) going;
     }
