@@ -10,7 +10,7 @@ ghost use Rattle.beep_listener.specs.Listening.{is_whole, listener_plan, plan_of
 ghost use Rattle.beep_listener.specs.Speaking.{notes_of};
 ghost use Rattle.beep_listener.specs.SpeakingTurning.{ListensScripted};
 ghost use Rattle.beep_steps.specs.EachEnd.{EachEndOn};
-ghost use Rattle.beep_steps.specs.Resting.{IsPromptOn};
+ghost use Rattle.beep_steps.specs.Resting.{IsPromptOn, TellsIdle};
 ghost use Rattle.beep_steps.specs.Scripting.{KeepsWholeOn};
 ghost use Rattle.beep_steps.specs.Ends.{AreFit, reads_of};
 ghost use Rattle.beep_steps.specs.Refusing.{GoesUnrefused, ReadsOnlyGoing};
@@ -66,9 +66,12 @@ pub fn listen_end<W: Wires, O: Sink>(
     ensures scripted { WhereKnown (KeepsWholeOn (listener_plan settings.now))
         (W.state wires.new link).log }
 
-    // Wherever it read, nothing of its script was due. So it kept its whole part: the definition of
-    // one end.
+    // Wherever it read, nothing of its script was due, and nothing is where the settings ended it.
+    // So it kept its whole part: the definition of one end.
     ensures prompt { WhereKnown (IsPromptOn (listener_plan settings.now))
+        (W.state wires.new link).log }
+    ensures rested { WhereKnown (λ log.
+        TellsIdle (listener_plan settings.now) result (moments log))
         (W.state wires.new link).log }
     ensures each { WhereKnown (EachEndOn (listener_plan settings.now) result)
         (W.state wires.new link).log }

@@ -4,10 +4,10 @@ ghost use Rattle.beep_steps.specs.beep_journal.specs.declared.role.Role.{Role as
 ghost use Rattle.beep_steps.specs.beep_link.specs.Causes.{IsBounded, IsCaused, IsUnused, Keeps, WhereKnown};
 ghost use Rattle.beep_steps.specs.beep_link.specs.declared.ended.Ended.{Ended as EndedValue};
 ghost use Rattle.beep_steps.specs.Ends.{AreFit, reads_of};
-ghost use Rattle.beep_steps.specs.Logs.{IsLawfulOn, Shows, terms_by};
+ghost use Rattle.beep_steps.specs.Logs.{moments, IsLawfulOn, Shows, terms_by};
 ghost use Rattle.beep_steps.specs.Refusing.{GoesUnrefused, ReadsOnlyGoing};
 ghost use Rattle.beep_steps.specs.EachEnd.{EachEndOn};
-ghost use Rattle.beep_steps.specs.Resting.{AreShort, IsPromptOn};
+ghost use Rattle.beep_steps.specs.Resting.{AreShort, IsPromptOn, TellsIdle};
 ghost use Rattle.beep_steps.specs.Scripting.{KeepsWholeOn};
 ghost use Rattle.beep_steps.specs.Sending.{sender_plan, SendsAll};
 ghost use Rattle.beep_sender.specs.Sender.{plan_of, SendsBy, StandsBy};
@@ -59,10 +59,13 @@ pub fn send_end<W: Wires>(
     ensures scripted { WhereKnown (KeepsWholeOn (sender_plan settings.now lines.now))
         (W.state wires.new link).log }
 
-    // Where its lines are short, nothing of its script was due wherever it read. So it kept its
-    // whole part: the definition of one end.
+    // Where its lines are short, nothing of its script was due wherever it read, and nothing is
+    // where the settings ended it. So it kept its whole part: the definition of one end.
     ensures prompt { AreShort lines.now → WhereKnown
         (IsPromptOn (sender_plan settings.now lines.now)) (W.state wires.new link).log }
+    ensures rested { AreShort lines.now → WhereKnown (λ log.
+        TellsIdle (sender_plan settings.now lines.now) result (moments log))
+        (W.state wires.new link).log }
     ensures each { AreShort lines.now → WhereKnown
         (EachEndOn (sender_plan settings.now lines.now) result) (W.state wires.new link).log }
 

@@ -14,7 +14,7 @@ use Rattle.beep_listener.specs.Listening.{AreLinesOf, WritesLines, is_whole, lis
 use Rattle.beep_listener.proofs.ServingLemmas.{known-lines}
 use Rattle.beep_steps.specs.Desking.{ShowsSaidZero}
 use Rattle.beep_steps.specs.beep_script.specs.Prompt.{IsIdle}
-use Rattle.beep_steps.specs.Resting.{IsPromptOn}
+use Rattle.beep_steps.specs.Resting.{IsPromptOn, TellsIdle}
 use Rattle.beep_steps.specs.Scripting.{KeepsWholeOn}
 use Rattle.beep_steps.specs.Speaking.{ShowsSaid}
 use Rattle.beep_listener.proofs.SpeakingLemmas.{none-whole, known-whole}
@@ -123,6 +123,17 @@ returns-clause-prompt g c =
     let plan = plan_of c.in-Ok.listener.session in
     subst (λ (x : PlainPlan). WhereKnown (IsPromptOn x) log) c.in-Ok.ensures.plan
     (known-map _ (IsPromptOn plan) (λ l r. reads-map _ (λ before. IsIdle plan (moments before)) (λ before t. t.1.2) l r) log (c.run_turns.ensures.waits c.in-Ok.ensures.stands))
+
+pub returns-in_default-clause-rested : goal.returns-in_default-clause-rested
+returns-in_default-clause-rested g c =
+    none-known (λ log. TellsIdle (listener_plan c.args.settings.now) Ended.NoMemory (moments log)) (g.W.Wires.state c.args.wires.now c.args.link).log tt c.requires.unused.unread
+
+pub returns-clause-rested : goal.returns-clause-rested
+returns-clause-rested g c =
+    let log = (g.W.Wires.state c.run_turns.new.wires c.args.link).log in
+    let plan = plan_of c.in-Ok.listener.session in
+    subst (λ (x : PlainPlan). WhereKnown (λ known. TellsIdle x c.run_turns.result (moments known)) log) c.in-Ok.ensures.plan
+    (known-map _ (λ known. TellsIdle plan c.run_turns.result (moments known)) (λ l t. t.2.2) log (c.run_turns.ensures.shown c.in-Ok.ensures.stands))
 
 pub returns-in_default-clause-each : goal.returns-in_default-clause-each
 returns-in_default-clause-each g c =

@@ -8,7 +8,7 @@ use Rattle.beep_steps.specs.beep_link.specs.declared.ended.Ended.{Ended}
 use Rattle.beep_steps.specs.Logs.{moments, Shows, terms_by}
 use Rattle.beep_steps.specs.beep_script.specs.Prompt.{IsIdle}
 use Rattle.beep_steps.specs.Refusing.{GoesAlong, GoesUnrefused, ReadsOnlyGoing}
-use Rattle.beep_steps.specs.Resting.{AreShort, IsPromptOn}
+use Rattle.beep_steps.specs.Resting.{AreShort, IsPromptOn, TellsIdle}
 use Rattle.beep_steps.specs.Desking.{ShowsSaidZero}
 use Rattle.beep_steps.specs.Ends.{reads_of}
 use Rattle.beep_steps.specs.Scripting.{KeepsScriptOn, KeepsWholeOn}
@@ -114,6 +114,18 @@ returns-clause-prompt g c short =
     let lines : AreShort plan.lines = subst (λ (x : PlainPlan). AreShort x.lines) (sym c.in-Ok.ensures.plan) short in
     subst (λ (x : PlainPlan). WhereKnown (IsPromptOn x) log) c.in-Ok.ensures.plan
     (known-map _ (IsPromptOn plan) (λ l r. reads-map _ (λ before. IsIdle plan (moments before)) (λ before t. t.1.2 lines) l r) log (c.run_turns.ensures.waits c.in-Ok.ensures.stands))
+
+pub returns-in_default-clause-rested : goal.returns-in_default-clause-rested
+returns-in_default-clause-rested g c short =
+    none-known (λ log. TellsIdle (sender_plan c.args.settings.now c.args.lines.now) Ended.NoMemory (moments log)) (g.W.Wires.state c.args.wires.now c.args.link).log tt c.requires.unused.unread
+
+pub returns-clause-rested : goal.returns-clause-rested
+returns-clause-rested g c short =
+    let log = (g.W.Wires.state c.run_turns.new.wires c.args.link).log in
+    let plan = plan_of c.in-Ok.sender in
+    let lines : AreShort plan.lines = subst (λ (x : PlainPlan). AreShort x.lines) (sym c.in-Ok.ensures.plan) short in
+    subst (λ (x : PlainPlan). WhereKnown (λ known. TellsIdle x c.run_turns.result (moments known)) log) c.in-Ok.ensures.plan
+    (known-map _ (λ known. TellsIdle plan c.run_turns.result (moments known)) (λ l t. t.2.2 lines) log (c.run_turns.ensures.shown c.in-Ok.ensures.stands))
 
 pub returns-in_default-clause-each : goal.returns-in_default-clause-each
 returns-in_default-clause-each g c short =
