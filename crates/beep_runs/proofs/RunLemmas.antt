@@ -13,6 +13,7 @@ use Rattle.beep_listener.specs.beep_steps.specs.Refusing.{GoesUnrefused, ReadsOn
 use Rattle.beep_listener.specs.beep_steps.specs.EachEnd.{EachEndOn}
 use Rattle.beep_listener.specs.beep_steps.specs.Resting.{AreShort}
 use Rattle.beep_listener.specs.beep_steps.proofs.EachLemmas.{each-then}
+use Rattle.beep_listener.specs.beep_steps.proofs.RefusesLemmas.{starved-refuses}
 use Rattle.beep_listener.specs.beep_steps.specs.Sending.{sender_plan, SendsAll}
 use Rattle.beep_listener.specs.Listening.{listener_plan}
 use Rattle.beep_recorder.specs.Kept.{Recording, RecordsKnown}
@@ -71,16 +72,16 @@ module _ (role : Role) (settings : Settings) (cause : Ended) (before given used 
     none = none_of;
   }
 
--- a run that is out of memory says nothing of refusals, and any other says what ended its session
-starved-unrefused : (terms : Terms) (log : Option (List Entry)) → WhereKnown (GoesUnrefused terms Ended.NoMemory) log
-starved-unrefused terms None = tt
-starved-unrefused terms (Some log) = tt
+-- what ended a session tells of refusals what a run that is out of memory tells
+starved-unrefused : (terms : Terms) (cause : Ended) (log : Option (List Entry)) → WhereKnown (GoesUnrefused terms cause) log → WhereKnown (GoesUnrefused terms Ended.NoMemory) log
+starved-unrefused terms cause None u = tt
+starved-unrefused terms cause (Some log) u = starved-refuses terms cause log u
 
 goes-unrefused : (terms : Terms) (cause result : Ended) (log : Option (List Entry)) → WhereKnown (GoesUnrefused terms cause) log → (result ≡ cause) ⊎ (result ≡ Ended.NoMemory)
     → WhereKnown (GoesUnrefused terms result) log
 goes-unrefused terms cause result log unrefused =
     ⊎_elim (λ same. subst (λ (e : Ended). WhereKnown (GoesUnrefused terms e) log) (sym same) unrefused)
-    (λ short. subst (λ (e : Ended). WhereKnown (GoesUnrefused terms e) log) (sym short) (starved-unrefused terms log))
+    (λ short. subst (λ (e : Ended). WhereKnown (GoesUnrefused terms e) log) (sym short) (starved-unrefused terms cause log unrefused))
 
 -- what was sent by the end of the session was sent by the end of the run
 pub sent_all : (settings : Settings) (lines : List (List ℕ)) (cause result : Ended) (before used after : Seen) (link : ℕ) → link ≡ before.counts.given → after.state link ≡ record (used.state link) { is_open = false }

@@ -40,6 +40,7 @@ use Rattle.beep_session.specs.Lawfully.{terms_of}
 use Rattle.beep_logged.proofs.EndLemmas.{released-gots}
 use Rattle.beep_link.specs.beep_wires.specs.Log.{Entry, read}
 use Rattle.beep_link.specs.Causes.{ended_by}
+use Rattle.beep_link.specs.declared.ended.Ended.{Ended}
 use Rattle.beep_link.specs.declared.ended.Stop.{Stop}
 use Rattle.beep_desk.specs.beep_talk.specs.declared.plan.Command.{Command}
 use Rattle.beep_desk.specs.beep_script.specs.Refused.{fault_code, close_code, refused_by, refused_at, refusal}
@@ -293,5 +294,17 @@ pub stop-refuses : (terms : Terms) (stop : Stop) (log : List Entry) (octets : Li
 stop-refuses terms Stop.Released log octets none r = r
 stop-refuses terms (Stop.Broken rule place) log octets none r = none
 stop-refuses terms Stop.WriteFault log octets none r = none
-stop-refuses terms Stop.NoMemory log octets none r = tt
+stop-refuses terms Stop.NoMemory log octets none r = inr none
 stop-refuses terms (Stop.Refused code) log octets none r = none
+
+-- an end that is out of memory tells less of refusals than any other
+pub starved-refuses : (terms : Terms) (cause : Ended) (log : List Entry) → GoesUnrefused terms cause log → GoesUnrefused terms Ended.NoMemory log
+starved-refuses terms Ended.Released log u = inl u
+starved-refuses terms (Ended.Broken rule place) log u = inr u
+starved-refuses terms Ended.WriteFault log u = inr u
+starved-refuses terms Ended.WireFault log u = inl u
+starved-refuses terms Ended.NoMemory log u = u
+starved-refuses terms (Ended.Refused code) log u = inr u
+starved-refuses terms (Ended.Cut left) log u = inl u
+starved-refuses terms (Ended.Idle count) log u = inl u
+starved-refuses terms (Ended.Spent count) log u = inl u

@@ -1,7 +1,7 @@
 -- What shows that the peer refused an end: the first refusal of the journal, by what is settled
 -- (RFC 3080, sections 2.3.1.1 to 2.3.1.3).
 -- The code keeps neither a journal nor a refusal: it ends at the first.
-use Rattle.std.specs.Prelude.{◌≡◌, ℕ, ◌==◌, nat_le, Bool, not, ◌&&◌, ◌||◌, if◌then◌else◌, List, [], ◌∷◌, Option, None, Some}
+use Rattle.std.specs.Prelude.{◌≡◌, ◌⊎◌, ℕ, ◌==◌, nat_le, Bool, not, ◌&&◌, ◌||◌, if◌then◌else◌, List, [], ◌∷◌, Option, None, Some}
 use Rattle.beep_session.specs.beep_frame.specs.Frame.{is_msg}
 use Rattle.beep_session.specs.beep_history.specs.Journal.{Item}
 use Rattle.beep_session.specs.beep_journal.specs.Broken.{none_tunes}
@@ -125,13 +125,14 @@ UnrefusedBefore terms (entry ∷ log) = ShowsNoRefusal terms (moments log)
 
 -- where an end was released, its link failed or came to its end, or the settings ended it, the peer
 -- refused nothing; where a rule was broken, it was refused or a write of its output failed, nothing
--- before the latest read
+-- before the latest read; where memory ran out, one or the other
 abbrev pub GoesUnrefused : Terms → Ended → List Entry → Type 0
 GoesUnrefused terms Ended.Released log = ShowsNoRefusal terms (moments log)
 GoesUnrefused terms (Ended.Broken rule place) log = UnrefusedBefore terms log
 GoesUnrefused terms Ended.WriteFault log = UnrefusedBefore terms log
 GoesUnrefused terms Ended.WireFault log = ShowsNoRefusal terms (moments log)
-GoesUnrefused terms Ended.NoMemory log = Unit {0}
+GoesUnrefused terms Ended.NoMemory log =
+    ShowsNoRefusal terms (moments log) ⊎ UnrefusedBefore terms log
 GoesUnrefused terms (Ended.Refused code) log = UnrefusedBefore terms log
 GoesUnrefused terms (Ended.Cut left) log = ShowsNoRefusal terms (moments log)
 GoesUnrefused terms (Ended.Idle count) log = ShowsNoRefusal terms (moments log)

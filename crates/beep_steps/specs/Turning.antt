@@ -147,20 +147,20 @@ none_refused terms closing Ended.Released log calm u = λ past shows. (u past sh
 none_refused terms closing (Ended.Broken rule place) log calm u = absurd calm
 none_refused terms closing Ended.WriteFault log calm u = absurd calm
 none_refused terms closing Ended.WireFault log calm u = λ past shows. (u past shows).none
-none_refused terms closing Ended.NoMemory log calm u = tt
+none_refused terms closing Ended.NoMemory log calm u = inl (λ past shows. (u past shows).none)
 none_refused terms closing (Ended.Refused code) log calm u = absurd calm
 none_refused terms closing (Ended.Cut left) log calm u = λ past shows. (u past shows).none
 none_refused terms closing (Ended.Idle count) log calm u = λ past shows. (u past shows).none
 none_refused terms closing (Ended.Spent count) log calm u = λ past shows. (u past shows).none
 
--- the same where the link fails; a lack of memory says nothing of it
+-- the same where the link fails and where memory ran out
 pub faults_refused : (terms : Terms) (cause : Ended) (log : List Entry) → IsOfFaults cause
     → ShowsNoRefusal terms (moments log) → GoesUnrefused terms cause log
 faults_refused terms Ended.Released log is u = absurd is
 faults_refused terms (Ended.Broken rule place) log is u = absurd is
 faults_refused terms Ended.WriteFault log is u = absurd is
 faults_refused terms Ended.WireFault log is u = u
-faults_refused terms Ended.NoMemory log is u = tt
+faults_refused terms Ended.NoMemory log is u = inl u
 faults_refused terms (Ended.Refused code) log is u = absurd is
 faults_refused terms (Ended.Cut left) log is u = absurd is
 faults_refused terms (Ended.Idle count) log is u = absurd is

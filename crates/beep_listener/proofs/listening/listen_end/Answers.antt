@@ -1,5 +1,5 @@
 -- The log of the link shows what ended the session, and what was written then.
-use Rattle.std.proofs.Common.{[], false, subst, refl}
+use Rattle.std.proofs.Common.{[], false, inr, subst, refl}
 use Rattle.beep_steps.specs.beep_journal.specs.declared.role.Role.{Role}
 use Rattle.beep_steps.specs.beep_link.proofs.StandLemmas.{reads-map, text-map, text-none, known-map, unread-bounded}
 use Rattle.beep_steps.specs.beep_link.specs.Causes.{IsBounded, WhereKnown, WithText}
@@ -78,7 +78,7 @@ returns-clause-lines g c =
 pub returns-in_default-clause-unrefused : goal.returns-in_default-clause-unrefused
 returns-in_default-clause-unrefused g c =
     let terms = terms_by Role.Listener c.args.settings.now in
-    none-known (GoesUnrefused terms Ended.NoMemory) (g.W.Wires.state c.args.wires.now c.args.link).log tt c.requires.unused.unread
+    none-known (GoesUnrefused terms Ended.NoMemory) (g.W.Wires.state c.args.wires.now c.args.link).log (inr tt) c.requires.unused.unread
 
 pub returns-clause-unrefused : goal.returns-clause-unrefused
 returns-clause-unrefused g c =
