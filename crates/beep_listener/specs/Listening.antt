@@ -2,7 +2,7 @@
 -- octets so far of each answer that has come in part, and the lines of those that are whole (RFC
 -- 3195, section 3).
 -- The code keeps no journal, no marks, and no list of the answers that are whole.
-use Rattle.std.specs.Prelude.{◌≡◌, ℕ, ◌+◌, ◌≤◌, ◌==◌, Bool, true, false, ◌&&◌, List, [], ◌∷◌, ◌++◌, flat_map, length, map}
+use Rattle.std.specs.Prelude.{◌≡◌, ◌⊎◌, ℕ, ◌+◌, ◌≤◌, ◌==◌, Bool, true, false, ◌&&◌, List, [], ◌∷◌, ◌++◌, flat_map, length, map}
 use Rattle.beep_steps.specs.beep_frame.specs.declared.head.Head.{Head}
 use Rattle.beep_steps.specs.beep_frame.specs.declared.head.TheConstants.{MAX_NUMBER}
 use Rattle.beep_steps.specs.beep_frame.specs.declared.kind.Kind.{Kind}
@@ -27,12 +27,14 @@ use Rattle.beep_steps.specs.beep_talk.specs.Plan.{PlainPlan}
 pub use Rattle.beep_steps.specs.beep_served.specs.Served.{ServedAt, IsServed}
 use Rattle.beep_steps.specs.beep_script.specs.EachEnd.{AreWritten}
 use Rattle.beep_steps.specs.beep_script.specs.Lines.{lines}
+use Rattle.beep_steps.specs.beep_script.specs.Script.{BeginsWith}
+use Rattle.beep_steps.specs.beep_lawful.specs.Lawful.{IsLawfulLog}
 use Rattle.beep_lines.specs.declared.bodies.Body.{Body}
 use Rattle.beep_lines.specs.Bodies.{body_of}
 use Rattle.beep_lines.specs.Lines.{lines_of}
 use Rattle.beep_steps.specs.beep_link.specs.declared.ended.Ended.{Ended}
 use Rattle.beep_steps.specs.beep_settings.specs.declared.settings.Settings.{Settings}
-use Rattle.beep_steps.specs.beep_wires.specs.Log.{Entry}
+use Rattle.beep_steps.specs.beep_wires.specs.Log.{Entry, read, wrote, quiet, ended}
 use Rattle.beep_steps.specs.Logs.{moments, terms_by, AreTaken, Shows as ShowsEnd, StandsOn, WaitsOn}
 use Rattle.beep_steps.specs.Refusing.{GoesUnrefused, IsUnrefused, Unrefused}
 use Rattle.beep_steps.specs.Serving.{ServesOn, ShowsServing}
@@ -98,6 +100,39 @@ TellsServed plan cause log text = TellsLines plan cause log text
 abbrev pub AreLinesOf : PlainPlan → Bool → List Moment → List ℕ → Type 0
 AreLinesOf plan whole log text = (past : Past) → Shows none_tunes log past
     → AreWritten whole (lines plan past.journal) text
+
+-- what was written begins with the lines of the session that a log shows
+abbrev pub HasLinesOf : PlainPlan → List ℕ → List Moment → Type 0
+HasLinesOf plan text log = (past : Past) → Shows none_tunes log past
+    → BeginsWith text (lines plan past.journal)
+
+-- the same of a lawful log, of an end that served its profile alone
+pub record WritesAtLeast (plan : PlainPlan) (text : List ℕ) (log : List Moment) : Type 0 where
+  pub lawful : IsLawfulLog plan.terms none_tunes log
+  pub serving : ShowsServing plan log
+  pub begins : (past : Past) → Shows none_tunes log past → IsServed plan past.journal
+      → BeginsWith text (lines plan past.journal)
+
+-- the latest entry of the log of a link is a read, and of the log before it this holds
+abbrev pub HoldsBefore : (List Moment → Type 0) → List Entry → Type 0
+HoldsBefore P [] = ⊥
+HoldsBefore P (read octets ∷ log) = P (moments log)
+HoldsBefore P (wrote octets ∷ log) = ⊥
+HoldsBefore P (quiet ∷ log) = ⊥
+HoldsBefore P (ended ∷ log) = ⊥
+
+-- where a session ended so that not all lines need be written, this holds of the log before its
+-- latest read, or, where memory ran out, of the whole log
+abbrev pub KeepsWhere : (List Moment → Type 0) → Ended → List Entry → Type 0
+KeepsWhere P Ended.Released log = Unit {0}
+KeepsWhere P (Ended.Broken rule place) log = Unit {0}
+KeepsWhere P Ended.WriteFault log = HoldsBefore P log
+KeepsWhere P Ended.WireFault log = Unit {0}
+KeepsWhere P Ended.NoMemory log = P (moments log) ⊎ HoldsBefore P log
+KeepsWhere P (Ended.Refused code) log = HoldsBefore P log
+KeepsWhere P (Ended.Cut left) log = Unit {0}
+KeepsWhere P (Ended.Idle count) log = Unit {0}
+KeepsWhere P (Ended.Spent count) log = Unit {0}
 
 -- ---- what is kept
 

@@ -27,9 +27,9 @@ use Rattle.beep_steps.proofs.ServeLemmas.{shows-served}
 use Rattle.beep_steps.proofs.SpeakCalls.{serving-at}
 use Rattle.beep_steps.proofs.DeskSaid.{said-goes}
 use Rattle.beep_steps.proofs.SpeakShown.{shows-goes}
-use Rattle.beep_listener.specs.Listening.{plan_of, ListensServed, TellsServed}
+use Rattle.beep_listener.specs.Listening.{plan_of, KeepsWhere, ListensServed, TellsServed, WritesAtLeast}
 use Rattle.beep_listener.specs.Speaking.{RestsOn, SpeaksAll}
-use Rattle.beep_listener.specs.Turning.{closes_served, quiets_served, spends_served, stops_served, writes_served}
+use Rattle.beep_listener.specs.Turning.{closes_served, quiets_served, spends_keeping, spends_served, stops_keeping, stops_served, writes_served}
 
 -- a listener stands for what a log shows, and keeps its script
 abbrev pub ListensScripted : Held → List Body → List ℕ → Notes → List Moment → List ℕ → Type 0
@@ -37,11 +37,12 @@ ListensScripted session bodies buffer notes log text =
     ListensServed session bodies buffer log text
     × SpeaksAll (plan_of session) notes session log
 
--- what the log of a link shows of a listener that ended so, and what it wrote and said
+-- what the log of a link shows of a listener that ended so, what it wrote and said, and which lines
+-- are surely written
 abbrev pub TellsScripted : PlainPlan → Ended → List Entry → List ℕ → Type 0
 TellsScripted plan cause log text = TellsServed plan cause log text
     × (ShowsSaid plan (moments log) × ShowsSaidZero plan (moments log))
-    × TellsIdle plan cause (moments log)
+    × TellsIdle plan cause (moments log) × KeepsWhere (WritesAtLeast plan text) cause log
 
 module _ (session : Held) (bodies : List Body) (buffer : List ℕ) (notes : Notes) where
   pub writes_scripted : (log : List Entry) (front octets text : List ℕ)
@@ -113,6 +114,7 @@ module _ (session : Held) (bodies : List Body) (buffer : List ℕ) (notes : Note
       said-goes (plan_of session) session octets (moments log) s.1.1.on s.1.1.listed,
     ),
     faults_idle (plan_of session) cause (moments log) is,
+    stops_keeping session bodies buffer log octets text s.0 cause is,
   )
 
   -- where it rests nothing of its script is due
@@ -142,4 +144,5 @@ module _ (session : Held) (bodies : List Body) (buffer : List ℕ) (notes : Note
       said-goes (plan_of session) session [] (moments log) s.1.1.on s.1.1.listed,
     ),
     reads_idle (plan_of session) cause (moments log) is (idle_on log text s going rests),
+    spends_keeping session bodies buffer log text cause is,
   )

@@ -14,7 +14,7 @@ use Rattle.beep_steps.specs.beep_journal.specs.Log.{Moment, put, put_all}
 use Rattle.beep_steps.specs.beep_journal.proofs.ShownLemmas.{one-shown}
 use Rattle.beep_steps.specs.beep_session.specs.Session.{Held}
 use Rattle.beep_steps.specs.beep_session.specs.Lawfully.{terms_of}
-use Rattle.beep_steps.specs.beep_logged.specs.Logged.{IsLogged}
+use Rattle.beep_steps.specs.beep_logged.specs.Logged.{IsLogged, IsSound}
 use Rattle.beep_steps.specs.beep_logged.proofs.EndLemmas.{put-append}
 use Rattle.beep_steps.specs.beep_logged.proofs.ReadLemmas.{quiet-logged, over-logged}
 use Rattle.beep_steps.specs.beep_peer.specs.Peering.{is_over}
@@ -30,7 +30,7 @@ use Rattle.beep_steps.specs.Refusing.{GoesUnrefused, IsUnrefused}
 use Rattle.beep_steps.specs.Turning.{shown_on, spends_on, stops_on, none_on, none_refused, calm_reads, IsCalm, faults_refused, writes_on, quiets_on, closes_on, closes_serving, quiets_serving, writes_serving, writes_unrefused, quiets_unrefused, closes_unrefused}
 use Rattle.beep_steps.proofs.ServeLemmas.{shows-served}
 use Rattle.beep_steps.proofs.StepLemmas.{same-lines}
-use Rattle.beep_listener.specs.Listening.{plan_of, IsServed, ListensDry, ListensServed, TellsLines, TellsServed, UnrefusedOn, WritesLines, is_whole}
+use Rattle.beep_listener.specs.Listening.{plan_of, IsServed, KeepsWhere, ListensDry, ListensServed, TellsLines, TellsServed, UnrefusedOn, WritesAtLeast, WritesLines, is_whole}
 
 -- ---- what is written brings no line
 
@@ -296,6 +296,49 @@ module _ (session : Held) (bodies : List Body) (buffer : List ℕ) where
     faults_refused (terms_of session) cause log is (none_on false session log octets s.2.on
         (as_shown s.2.role (put_all octets (moments log)) s.2.unrefused)),
   )
+
+  -- all lines were written before
+  stops_kept : (log : List Entry) (octets text : List ℕ)
+      → ListensServed session bodies buffer (put_all octets (moments log)) text
+      → WritesAtLeast (plan_of session) text (moments log)
+  stops_kept log octets text s =
+      let sound : IsSound (terms_of session) (moments log) =
+      stops_on session log octets Ended.WireFault tt s.0.listens.on in
+      record {
+        lawful = sound.lawful;
+        serving = shows-served (plan_of session) session octets (moments log) s.1;
+        begins = λ past shows served. record {
+          rest = [];
+          whole_is = stops_whole log octets text s.0 past shows served
+              ∙ sym (append-nil (lines (plan_of session) past.journal));
+        };
+      }
+
+  pub stops_keeping : (log : List Entry) (octets text : List ℕ)
+      → ListensServed session bodies buffer (put_all octets (moments log)) text
+      → (cause : Ended) → IsOfFaults cause
+      → KeepsWhere (WritesAtLeast (plan_of session) text) cause log
+  stops_keeping log octets text s Ended.Released is = absurd is
+  stops_keeping log octets text s (Ended.Broken rule place) is = absurd is
+  stops_keeping log octets text s Ended.WriteFault is = absurd is
+  stops_keeping log octets text s Ended.WireFault is = tt
+  stops_keeping log octets text s Ended.NoMemory is = inl (stops_kept log octets text s)
+  stops_keeping log octets text s (Ended.Refused code) is = absurd is
+  stops_keeping log octets text s (Ended.Cut left) is = absurd is
+  stops_keeping log octets text s (Ended.Idle count) is = absurd is
+  stops_keeping log octets text s (Ended.Spent count) is = absurd is
+
+  pub spends_keeping : (log : List Entry) (text : List ℕ) (cause : Ended) → IsOfReads cause
+      → KeepsWhere (WritesAtLeast (plan_of session) text) cause log
+  spends_keeping log text Ended.Released is = absurd is
+  spends_keeping log text (Ended.Broken rule place) is = absurd is
+  spends_keeping log text Ended.WriteFault is = absurd is
+  spends_keeping log text Ended.WireFault is = absurd is
+  spends_keeping log text Ended.NoMemory is = absurd is
+  spends_keeping log text (Ended.Refused code) is = absurd is
+  spends_keeping log text (Ended.Cut left) is = absurd is
+  spends_keeping log text (Ended.Idle count) is = tt
+  spends_keeping log text (Ended.Spent count) is = tt
 
   pub spends_served : (log : List Entry) (text : List ℕ)
       → ListensServed session bodies buffer (moments log) text

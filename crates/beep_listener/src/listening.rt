@@ -6,7 +6,7 @@ ghost use Rattle.beep_steps.specs.beep_answering.specs.Sent.{is_uri};
 ghost use Rattle.beep_steps.specs.beep_decide.specs.Plain.{plain_offer};
 ghost use Rattle.beep_steps.specs.beep_journal.specs.declared.role.Role.{Role as RoleValue};
 ghost use Rattle.beep_steps.specs.beep_link.specs.Causes.{IsBounded, IsCaused, IsUnused, IsWritten, Keeps, WhereKnown, WithText};
-ghost use Rattle.beep_listener.specs.Listening.{is_whole, listener_plan, plan_of, AreLinesOf};
+ghost use Rattle.beep_listener.specs.Listening.{is_whole, listener_plan, plan_of, AreLinesOf, HasLinesOf, KeepsWhere};
 ghost use Rattle.beep_listener.specs.Speaking.{notes_of};
 ghost use Rattle.beep_listener.specs.SpeakingTurning.{ListensScripted};
 ghost use Rattle.beep_steps.specs.EachEnd.{EachEndOn};
@@ -56,10 +56,15 @@ pub fn listen_end<W: Wires, O: Sink>(
     ensures waits { WhereKnown (ReadsOnlyGoing (terms_by RoleValue.Listener settings.now))
         (W.state wires.new link).log }
 
-    // What was written is the lines that came, or a beginning of them.
+    // What was written is the lines that came, or a beginning of them that has the lines of the log
+    // before its latest read.
     ensures lines { WhereKnown (λ log.
         WithText (O.state output.old).written (O.state output.new).written
         (AreLinesOf (listener_plan settings.now) (is_whole result) (moments log)))
+        (W.state wires.new link).log }
+    ensures flushed { WhereKnown (λ log.
+        WithText (O.state output.old).written (O.state output.new).written
+        (λ text. KeepsWhere (HasLinesOf (listener_plan settings.now) text) result log))
         (W.state wires.new link).log }
 
     // What was sent in each life, channel zero among them, is the beginning of its script.

@@ -10,8 +10,8 @@ use Rattle.beep_steps.proofs.OnLemmas.{none-shown, none-known, known-lawful}
 use Rattle.beep_steps.specs.Ends.{reads_of}
 use Rattle.beep_steps.specs.Refusing.{GoesAlong, GoesUnrefused, ReadsOnlyGoing}
 use Rattle.beep_steps.specs.Serving.{ShowsServing}
-use Rattle.beep_listener.specs.Listening.{AreLinesOf, WritesLines, is_whole, listener_plan, plan_of}
-use Rattle.beep_listener.proofs.ServingLemmas.{known-lines}
+use Rattle.beep_listener.specs.Listening.{AreLinesOf, HasLinesOf, KeepsWhere, WritesAtLeast, WritesLines, is_whole, listener_plan, plan_of}
+use Rattle.beep_listener.proofs.ServingLemmas.{known-kept, known-lines, none-kept}
 use Rattle.beep_steps.specs.Desking.{ShowsSaidZero}
 use Rattle.beep_steps.specs.beep_script.specs.Prompt.{IsIdle}
 use Rattle.beep_steps.specs.Resting.{IsPromptOn, TellsIdle}
@@ -74,6 +74,25 @@ returns-clause-lines g c =
     (known-map _ (Shows (plan_of c.in-Ok.listener.session).terms c.run_turns.result) (λ l t. t.2.0.0.shows) log (c.run_turns.ensures.shown c.in-Ok.ensures.stands))) in
     let fits = c.reads_of.type_inv in
     known-lines (listener_plan c.args.settings.now) terms whole c.reads_of.result before after log fits.1.1.0.1 shown lawful c.run_turns.ensures.bounded
+
+pub returns-in_default-clause-flushed : goal.returns-in_default-clause-flushed
+returns-in_default-clause-flushed g c =
+    let plan = listener_plan c.args.settings.now in
+    none-known _ (g.W.Wires.state c.args.wires.now c.args.link).log
+    (text-none (g.O.Sink.state c.args.output.now).written (λ text. KeepsWhere (HasLinesOf plan text) Ended.NoMemory []) (none-kept plan)) c.requires.unused.unread
+
+pub returns-clause-flushed : goal.returns-clause-flushed
+returns-clause-flushed g c =
+    let output = g.O.Sink.state in
+    let before = (output c.args.output.now).written in
+    let after = (output c.run_turns.new.output).written in
+    let cause = c.run_turns.result in
+    let log = (g.W.Wires.state c.run_turns.new.wires c.args.link).log in
+    let shown = subst (λ (p : PlainPlan). WhereKnown (λ known. WithText before after (λ text. KeepsWhere (WritesAtLeast p text) cause known)) log) c.in-Ok.ensures.plan
+    (known-map _ (λ known. WithText before after (λ text. KeepsWhere (WritesAtLeast (plan_of c.in-Ok.listener.session) text) cause known))
+    (λ known t. text-map before after _ _ (λ text s. s.3) t) log (c.run_turns.ensures.shown c.in-Ok.ensures.stands)) in
+    let fits = c.reads_of.type_inv in
+    known-kept (listener_plan c.args.settings.now) cause c.reads_of.result before after log fits.1.1.0.1 shown c.run_turns.ensures.bounded
 
 pub returns-in_default-clause-unrefused : goal.returns-in_default-clause-unrefused
 returns-in_default-clause-unrefused g c =

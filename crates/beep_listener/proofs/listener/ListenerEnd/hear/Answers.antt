@@ -1,5 +1,5 @@
 -- What was written is on the output, and what stops the session shows on the log.
-use Rattle.std.proofs.Common.{◌∷◌, ◌++◌, refl, subst, sym}
+use Rattle.std.proofs.Common.{[], ◌∷◌, ◌++◌, refl, subst, sym}
 use Rattle.beep_steps.specs.beep_wires.specs.Log.{read}
 use Rattle.beep_steps.specs.beep_journal.specs.Log.{got_all}
 use Rattle.beep_steps.specs.beep_session.specs.Lawfully.{terms_of}
@@ -12,9 +12,10 @@ use Rattle.beep_steps.specs.beep_link.proofs.StandLemmas.{text-map}
 use Rattle.beep_steps.specs.Serving.{ServesOn}
 use Rattle.beep_steps.proofs.OnLemmas.{nothing-stops, ok-then, stopped-on}
 use Rattle.beep_steps.proofs.RefusesLemmas.{stop-refuses}
-use Rattle.beep_steps.proofs.ServeLemmas.{shows-serving}
+use Rattle.beep_steps.proofs.ServeLemmas.{shows-served, shows-serving}
 use Rattle.beep_listener.specs.Listening.{Listens, ListensDry, plan_of}
-use Rattle.beep_listener.proofs.HearLemmas.{failed-tells, flushed-listens, heard-or, stop-tells, text-then}
+use Rattle.beep_listener.proofs.HearLemmas.{dry-all, failed-tells, flushed-listens, heard-or, stop-tells, text-then}
+use Rattle.beep_listener.proofs.ServingLemmas.{kept-read}
 use Rattle.beep_steps.proofs.DeskSaid.{said-comes}
 use Rattle.beep_steps.proofs.ResultLemmas.{err-both, ok-and}
 use Rattle.beep_steps.proofs.SpeakShown.{shows-comes}
@@ -58,6 +59,8 @@ returns-in-Ok-clause-stopped g c log text s =
       (t, shows-serving (plan_of a.session) a.session c.args.bytes.now (moments log) s.0.1, stop-refuses (terms_of a.session) stop log c.args.bytes.now (goes_refused a.session a.bodies a.lines.octets.octets log Ended.Released tt s.0.2) r),
       (shows-comes (plan_of a.session) (notes_of a) a.session c.args.bytes.now (moments log) s.1.0, said-comes (plan_of a.session) a.session c.args.bytes.now (moments log) s.1.1.on s.1.1.listed),
       stop_idle (plan_of a.session) stop all,
+      kept-read (plan_of a.session) stop c.args.bytes.now log text more s.0.0.listens.on.logged.lawful (shows-served (plan_of a.session) a.session [] (moments log) s.0.1)
+          (dry-all a.session a.bodies a.lines.octets.octets text (moments log) s.0.0),
     )) w)
     (err-both c.hear_all-heard.result _ _ _
     (λ stop (p : StopsOn (terms_of a.session) stop (got_all c.args.bytes.now (moments log)) × RefusesOn (terms_of a.session) stop (got_all c.args.bytes.now (moments log))) w. stop-tells (plan_of a.session) text before mid after all h.session h.bodies h.lines.octets.octets c.flush.new.self.octets.octets c.hear_all-heard.ensures.plan
@@ -89,6 +92,8 @@ returns-in-Err-clause-stopped g c log text s =
       ),
       (shows-comes (plan_of a.session) (notes_of a) a.session octets (moments log) s.1.0, said-comes (plan_of a.session) a.session octets (moments log) s.1.1.on s.1.1.listed),
       stop_idle (plan_of a.session) stop all,
+      kept-read (plan_of a.session) stop octets log text more s.0.0.listens.on.logged.lawful (shows-served (plan_of a.session) a.session [] (moments log) s.0.1)
+          (dry-all a.session a.bodies a.lines.octets.octets text (moments log) s.0.0),
     ))
     (failed-tells (plan_of a.session) text before mid after all h.session h.bodies h.lines.octets.octets c.flush.new.self.octets.octets c.hear_all-heard.ensures.plan
     (read octets ∷ log) refl c.in-Err.ensures.err stop c.in-Err.ensures.stopped shows w.0 w.1)

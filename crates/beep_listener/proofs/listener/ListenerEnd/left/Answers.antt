@@ -27,5 +27,6 @@ returns c = record {
         ),
         (shows-goes plan (notes_of a) a.session [] (moments log) s.1.0, said-goes plan a.session [] (moments log) s.1.1.on s.1.1.listed),
         tt,
+        tt,
       );
 }

@@ -29,6 +29,7 @@ returns c = record {
         ),
         (shows-goes plan (notes_of a) a.session [] (moments log) s.1.0, said-goes plan a.session [] (moments log) s.1.1.on s.1.1.listed),
         tt,
+        tt,
       );
   unfailed = λ is. cc;
   going = tt;
