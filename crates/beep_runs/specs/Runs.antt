@@ -1,12 +1,13 @@
 -- A run over one link that is recorded: what became of the link, by all that is known of links
 -- before the run and after it.
 -- The code hands on what ended the session.
-use Rattle.std.specs.Prelude.{◌≡◌, ◌≢◌, ℕ, ◌+◌, ◌⊎◌, false, Option, List, Result}
+use Rattle.std.specs.Prelude.{◌≡◌, ◌≢◌, ℕ, ◌+◌, ◌⊎◌, false, Option, List, Result, IfOk, IfErr, chars}
 use Rattle.std.specs.Borrow.{GName}
 use Rattle.beep_listener.specs.beep_wires.specs.declared.links.WireError.{WireError}
 use Rattle.beep_listener.specs.beep_wires.specs.Counts.{Rose}
-use Rattle.beep_listener.specs.beep_wires.specs.Links.{Link, Counts, Ask, Asked, Asks, asked_by, IsFresh, SameBeside}
+use Rattle.beep_listener.specs.beep_wires.specs.Links.{Link, Counts, Ask, accept, dial, Asked, Asks, asked_by, IsFresh, SameBeside}
 use Rattle.beep_listener.specs.beep_journal.specs.declared.role.Role.{Role}
+use Rattle.beep_listener.specs.beep_session.specs.beep_octets.specs.Held.{Held}
 use Rattle.beep_listener.specs.beep_settings.specs.declared.settings.Settings.{Settings}
 use Rattle.beep_listener.specs.beep_link.specs.declared.ended.Ended.{Ended}
 use Rattle.beep_listener.specs.beep_link.specs.Causes.{IsCaused, Seen, WhereKnown}
@@ -23,6 +24,12 @@ use Rattle.beep_recorder.specs.Kept.{RecordsLink}
 abbrev pub seen_of : (ℕ → Link) → Counts → Option (List Asked) → Option GName → Seen
 seen_of state counts asked lent =
     record { state = state; counts = counts; asked = asked; lent = lent }
+
+-- what is known of these links, by what each of these words says of them
+abbrev pub seen_by : {W : Type 0} → (W → ℕ → Link) → (W → Counts) → (W → Option (List Asked))
+    → (W → Option GName) → W → Seen
+seen_by state counts asked lent wires =
+    seen_of (state wires) (counts wires) (asked wires) (lent wires)
 
 -- a link was given, the session of an end of this role on it ended by this, and it was shut: what
 -- its log shows where it is known, and that nothing else changed
@@ -82,3 +89,46 @@ pub record IsRecorded (role : Role) (cause : Ended) (before after : Seen) (old n
   pub whole : cause ≢ Ended.NoMemory
       → RecordsLink (after.state before.counts.given) role old new
   pub none : cause ≡ Ended.NoMemory → new ≡ old
+
+-- ---- a run
+
+-- what a run that sends lines leaves: it answers what ended the session, or why there was none
+pub record SendsOver (settings : Settings) (lines : List (List ℕ)) (result : Result Ended Ended)
+    (before after : Seen) (old new : Held) : Type 0 where
+  -- what became of the link, and what its log shows of the end of the session
+  pub ran : IfOk result (λ ended. Ran Role.Initiator settings ended before after)
+  -- what its log shows of the lines, and of the whole session
+  pub sent : IfOk result (λ ended. SentAll settings lines ended before after)
+  -- the octets gained are its record
+  pub recorded : IfOk result (λ ended.
+      IsRecorded Role.Initiator ended before after old.octets new.octets)
+  -- why no link was given
+  pub failed : IfErr result (λ ended.
+      NotGiven ended before.counts.dials after.counts.dials before after)
+  -- where none was, nothing is gained, and the room stays
+  pub same_out : IfErr result (λ ended. new ≡ old)
+  -- what was asked for: a link to the host and the port that are set
+  pub asks : (host : List ℕ) × (chars host ≡ settings.host)
+      × AsksThis (dial host settings.port) before after
+  -- no output is the cause of an end
+  pub unwritten : IfOk result (λ ended. ended ≢ Ended.WriteFault)
+
+-- what a run that listens leaves: it answers what ended the session, or why there was none
+pub record ListensOver (settings : Settings) (result : Result Ended Ended) (before after : Seen)
+    (old new : Held) : Type 0 where
+  -- what became of the link, and what its log shows of the end of the session
+  pub ran : IfOk result (λ ended. Ran Role.Listener settings ended before after)
+  -- what its log shows of the whole session
+  pub listened : IfOk result (λ ended. HasListened settings ended before after)
+  -- the octets gained are its record
+  pub recorded : IfOk result (λ ended.
+      IsRecorded Role.Listener ended before after old.octets new.octets)
+  -- why no link was given
+  pub failed : IfErr result (λ ended.
+      NotGiven ended before.counts.accepts after.counts.accepts before after)
+  -- where none was, nothing is gained, and the room stays
+  pub same_out : IfErr result (λ ended. new ≡ old)
+  -- what was asked for: a link on the port that is set
+  pub asks : AsksThis (accept settings.port) before after
+  -- no output is the cause of an end
+  pub unwritten : IfOk result (λ ended. ended ≢ Ended.WriteFault)

@@ -1,11 +1,10 @@
 //! One session over a link that is recorded.
-ghost use Rattle.std.specs.Prelude.{◌≡◌, ◌≢◌, ◌⊎◌, ℕ, List, Some, chars, IfOk, IfErr};
+ghost use Rattle.std.specs.Prelude.{◌≡◌, ◌≢◌, ◌⊎◌, Some};
 ghost use Rattle.beep_listener.specs.beep_journal.specs.declared.role.Role.{Role as RoleValue};
 ghost use Rattle.beep_listener.specs.beep_link.specs.declared.ended.Ended.{Ended as EndedValue};
-ghost use Rattle.beep_listener.specs.beep_wires.specs.Links.{accept, dial};
 ghost use Rattle.beep_listener.specs.beep_steps.specs.Ends.{AreFit};
 ghost use Rattle.beep_recorder.specs.Kept.{Recording, RecordsKnown};
-ghost use Rattle.beep_runs.specs.Runs.{AsksThis, HasListened, IsRecorded, NotGiven, Ran, seen_of, SentAll};
+ghost use Rattle.beep_runs.specs.Runs.{ListensOver, seen_by, SendsOver};
 
 use beep_listener::beep_octets::{NoMemory, Octets};
 use beep_listener::beep_settings::Settings;
@@ -28,35 +27,8 @@ pub fn send_recorded<W: Wires>(
     out: &mut Octets,
 ) -> Result<Ended, Ended>
     requires fit { AreFit settings.now }
-    ensures ran { IfOk result (λ ended. Ran RoleValue.Initiator settings.now ended
-        (seen_of (W.state wires.old) (W.counts wires.old)
-        (W.asked wires.old) (W.lent wires.old))
-        (seen_of (W.state wires.new) (W.counts wires.new)
-        (W.asked wires.new) (W.lent wires.new))) }
-    ensures sent { IfOk result (λ ended. SentAll settings.now lines.now ended
-        (seen_of (W.state wires.old) (W.counts wires.old)
-        (W.asked wires.old) (W.lent wires.old))
-        (seen_of (W.state wires.new) (W.counts wires.new)
-        (W.asked wires.new) (W.lent wires.new))) }
-    ensures recorded { IfOk result (λ ended. IsRecorded RoleValue.Initiator ended
-        (seen_of (W.state wires.old) (W.counts wires.old)
-        (W.asked wires.old) (W.lent wires.old))
-        (seen_of (W.state wires.new) (W.counts wires.new)
-        (W.asked wires.new) (W.lent wires.new)) out.old.octets out.new.octets) }
-    ensures failed { IfErr result (λ ended. NotGiven ended
-        (W.counts wires.old).dials (W.counts wires.new).dials
-        (seen_of (W.state wires.old) (W.counts wires.old)
-        (W.asked wires.old) (W.lent wires.old))
-        (seen_of (W.state wires.new) (W.counts wires.new)
-        (W.asked wires.new) (W.lent wires.new))) }
-    ensures same_out { IfErr result (λ ended. out.new ≡ out.old) }
-    ensures asks { (host : List ℕ) × (chars host ≡ settings.now.host)
-        × AsksThis (dial host settings.now.port)
-        (seen_of (W.state wires.old) (W.counts wires.old)
-        (W.asked wires.old) (W.lent wires.old))
-        (seen_of (W.state wires.new) (W.counts wires.new)
-        (W.asked wires.new) (W.lent wires.new)) }
-    ensures unwritten { IfOk result (λ ended. ended ≢ EndedValue.WriteFault) }
+    ensures { let seen = seen_by W.state W.counts W.asked W.lent in
+        SendsOver settings.now lines.now result (seen wires.old) (seen wires.new) out.old out.new }
 {
     send_over::<W, Brand>(alloc, settings, lines, wires, out)
 }
@@ -72,35 +44,8 @@ fn send_over<W: Wires, K: Known>(
     requires fit { AreFit settings.now }
     requires known { K.known
         ≡ Some (record { first = (W.counts wires.old).given; role = RoleValue.Initiator }) }
-    ensures ran { IfOk result (λ ended. Ran RoleValue.Initiator settings.now ended
-        (seen_of (W.state wires.old) (W.counts wires.old)
-        (W.asked wires.old) (W.lent wires.old))
-        (seen_of (W.state wires.new) (W.counts wires.new)
-        (W.asked wires.new) (W.lent wires.new))) }
-    ensures sent { IfOk result (λ ended. SentAll settings.now lines.now ended
-        (seen_of (W.state wires.old) (W.counts wires.old)
-        (W.asked wires.old) (W.lent wires.old))
-        (seen_of (W.state wires.new) (W.counts wires.new)
-        (W.asked wires.new) (W.lent wires.new))) }
-    ensures recorded { IfOk result (λ ended. IsRecorded RoleValue.Initiator ended
-        (seen_of (W.state wires.old) (W.counts wires.old)
-        (W.asked wires.old) (W.lent wires.old))
-        (seen_of (W.state wires.new) (W.counts wires.new)
-        (W.asked wires.new) (W.lent wires.new)) out.old.octets out.new.octets) }
-    ensures failed { IfErr result (λ ended. NotGiven ended
-        (W.counts wires.old).dials (W.counts wires.new).dials
-        (seen_of (W.state wires.old) (W.counts wires.old)
-        (W.asked wires.old) (W.lent wires.old))
-        (seen_of (W.state wires.new) (W.counts wires.new)
-        (W.asked wires.new) (W.lent wires.new))) }
-    ensures same_out { IfErr result (λ ended. out.new ≡ out.old) }
-    ensures asks { (host : List ℕ) × (chars host ≡ settings.now.host)
-        × AsksThis (dial host settings.now.port)
-        (seen_of (W.state wires.old) (W.counts wires.old)
-        (W.asked wires.old) (W.lent wires.old))
-        (seen_of (W.state wires.new) (W.counts wires.new)
-        (W.asked wires.new) (W.lent wires.new)) }
-    ensures unwritten { IfOk result (λ ended. ended ≢ EndedValue.WriteFault) }
+    ensures { let seen = seen_by W.state W.counts W.asked W.lent in
+        SendsOver settings.now lines.now result (seen wires.old) (seen wires.new) out.old out.new }
 {
     let mut recorder = Recorder::<'_, W, K>::known(alloc, wires, Role::Initiator);
     let answer = send_through(alloc, settings, lines, &mut recorder, out);
@@ -123,36 +68,9 @@ fn send_through<W: Wires, K: Known>(
           role = RoleValue.Initiator;
         }) }
     ensures same_reference { recorder.new.wires.ghost_name ≡ recorder.old.wires.ghost_name }
-    ensures ran { IfOk result (λ ended. Ran RoleValue.Initiator settings.now ended
-        (seen_of (W.state recorder.old.wires.now) (W.counts recorder.old.wires.now)
-        (W.asked recorder.old.wires.now) (W.lent recorder.old.wires.now))
-        (seen_of (W.state recorder.new.wires.now) (W.counts recorder.new.wires.now)
-        (W.asked recorder.new.wires.now) (W.lent recorder.new.wires.now))) }
-    ensures sent { IfOk result (λ ended. SentAll settings.now lines.now ended
-        (seen_of (W.state recorder.old.wires.now) (W.counts recorder.old.wires.now)
-        (W.asked recorder.old.wires.now) (W.lent recorder.old.wires.now))
-        (seen_of (W.state recorder.new.wires.now) (W.counts recorder.new.wires.now)
-        (W.asked recorder.new.wires.now) (W.lent recorder.new.wires.now))) }
-    ensures recorded { IfOk result (λ ended. IsRecorded RoleValue.Initiator ended
-        (seen_of (W.state recorder.old.wires.now) (W.counts recorder.old.wires.now)
-        (W.asked recorder.old.wires.now) (W.lent recorder.old.wires.now))
-        (seen_of (W.state recorder.new.wires.now) (W.counts recorder.new.wires.now)
-        (W.asked recorder.new.wires.now) (W.lent recorder.new.wires.now))
-        out.old.octets out.new.octets) }
-    ensures failed { IfErr result (λ ended. NotGiven ended
-        (W.counts recorder.old.wires.now).dials (W.counts recorder.new.wires.now).dials
-        (seen_of (W.state recorder.old.wires.now) (W.counts recorder.old.wires.now)
-        (W.asked recorder.old.wires.now) (W.lent recorder.old.wires.now))
-        (seen_of (W.state recorder.new.wires.now) (W.counts recorder.new.wires.now)
-        (W.asked recorder.new.wires.now) (W.lent recorder.new.wires.now))) }
-    ensures same_out { IfErr result (λ ended. out.new ≡ out.old) }
-    ensures asks { (host : List ℕ) × (chars host ≡ settings.now.host)
-        × AsksThis (dial host settings.now.port)
-        (seen_of (W.state recorder.old.wires.now) (W.counts recorder.old.wires.now)
-        (W.asked recorder.old.wires.now) (W.lent recorder.old.wires.now))
-        (seen_of (W.state recorder.new.wires.now) (W.counts recorder.new.wires.now)
-        (W.asked recorder.new.wires.now) (W.lent recorder.new.wires.now)) }
-    ensures unwritten { IfOk result (λ ended. ended ≢ EndedValue.WriteFault) }
+    ensures sends { let seen = seen_by W.state W.counts W.asked W.lent in
+        SendsOver settings.now lines.now result (seen recorder.old.wires.now)
+        (seen recorder.new.wires.now) out.old out.new }
 {
     let link = match recorder.dial(settings.host.as_str(), settings.port) {
         Ok(link) => link,
@@ -173,34 +91,8 @@ pub fn listen_recorded<W: Wires>(
     out: &mut Octets,
 ) -> Result<Ended, Ended>
     requires fit { AreFit settings.now }
-    ensures ran { IfOk result (λ ended. Ran RoleValue.Listener settings.now ended
-        (seen_of (W.state wires.old) (W.counts wires.old)
-        (W.asked wires.old) (W.lent wires.old))
-        (seen_of (W.state wires.new) (W.counts wires.new)
-        (W.asked wires.new) (W.lent wires.new))) }
-    ensures listened { IfOk result (λ ended. HasListened settings.now ended
-        (seen_of (W.state wires.old) (W.counts wires.old)
-        (W.asked wires.old) (W.lent wires.old))
-        (seen_of (W.state wires.new) (W.counts wires.new)
-        (W.asked wires.new) (W.lent wires.new))) }
-    ensures recorded { IfOk result (λ ended. IsRecorded RoleValue.Listener ended
-        (seen_of (W.state wires.old) (W.counts wires.old)
-        (W.asked wires.old) (W.lent wires.old))
-        (seen_of (W.state wires.new) (W.counts wires.new)
-        (W.asked wires.new) (W.lent wires.new)) out.old.octets out.new.octets) }
-    ensures failed { IfErr result (λ ended. NotGiven ended
-        (W.counts wires.old).accepts (W.counts wires.new).accepts
-        (seen_of (W.state wires.old) (W.counts wires.old)
-        (W.asked wires.old) (W.lent wires.old))
-        (seen_of (W.state wires.new) (W.counts wires.new)
-        (W.asked wires.new) (W.lent wires.new))) }
-    ensures same_out { IfErr result (λ ended. out.new ≡ out.old) }
-    ensures asks { AsksThis (accept settings.now.port)
-        (seen_of (W.state wires.old) (W.counts wires.old)
-        (W.asked wires.old) (W.lent wires.old))
-        (seen_of (W.state wires.new) (W.counts wires.new)
-        (W.asked wires.new) (W.lent wires.new)) }
-    ensures unwritten { IfOk result (λ ended. ended ≢ EndedValue.WriteFault) }
+    ensures { let seen = seen_by W.state W.counts W.asked W.lent in
+        ListensOver settings.now result (seen wires.old) (seen wires.new) out.old out.new }
 {
     listen_over::<W, Brand>(alloc, settings, wires, out)
 }
@@ -215,34 +107,8 @@ fn listen_over<W: Wires, K: Known>(
     requires fit { AreFit settings.now }
     requires known { K.known
         ≡ Some (record { first = (W.counts wires.old).given; role = RoleValue.Listener }) }
-    ensures ran { IfOk result (λ ended. Ran RoleValue.Listener settings.now ended
-        (seen_of (W.state wires.old) (W.counts wires.old)
-        (W.asked wires.old) (W.lent wires.old))
-        (seen_of (W.state wires.new) (W.counts wires.new)
-        (W.asked wires.new) (W.lent wires.new))) }
-    ensures listened { IfOk result (λ ended. HasListened settings.now ended
-        (seen_of (W.state wires.old) (W.counts wires.old)
-        (W.asked wires.old) (W.lent wires.old))
-        (seen_of (W.state wires.new) (W.counts wires.new)
-        (W.asked wires.new) (W.lent wires.new))) }
-    ensures recorded { IfOk result (λ ended. IsRecorded RoleValue.Listener ended
-        (seen_of (W.state wires.old) (W.counts wires.old)
-        (W.asked wires.old) (W.lent wires.old))
-        (seen_of (W.state wires.new) (W.counts wires.new)
-        (W.asked wires.new) (W.lent wires.new)) out.old.octets out.new.octets) }
-    ensures failed { IfErr result (λ ended. NotGiven ended
-        (W.counts wires.old).accepts (W.counts wires.new).accepts
-        (seen_of (W.state wires.old) (W.counts wires.old)
-        (W.asked wires.old) (W.lent wires.old))
-        (seen_of (W.state wires.new) (W.counts wires.new)
-        (W.asked wires.new) (W.lent wires.new))) }
-    ensures same_out { IfErr result (λ ended. out.new ≡ out.old) }
-    ensures asks { AsksThis (accept settings.now.port)
-        (seen_of (W.state wires.old) (W.counts wires.old)
-        (W.asked wires.old) (W.lent wires.old))
-        (seen_of (W.state wires.new) (W.counts wires.new)
-        (W.asked wires.new) (W.lent wires.new)) }
-    ensures unwritten { IfOk result (λ ended. ended ≢ EndedValue.WriteFault) }
+    ensures { let seen = seen_by W.state W.counts W.asked W.lent in
+        ListensOver settings.now result (seen wires.old) (seen wires.new) out.old out.new }
 {
     let mut recorder = Recorder::<'_, W, K>::known(alloc, wires, Role::Listener);
     let answer = listen_through(alloc, settings, &mut recorder, out);
@@ -264,35 +130,9 @@ fn listen_through<W: Wires, K: Known>(
           role = RoleValue.Listener;
         }) }
     ensures same_reference { recorder.new.wires.ghost_name ≡ recorder.old.wires.ghost_name }
-    ensures ran { IfOk result (λ ended. Ran RoleValue.Listener settings.now ended
-        (seen_of (W.state recorder.old.wires.now) (W.counts recorder.old.wires.now)
-        (W.asked recorder.old.wires.now) (W.lent recorder.old.wires.now))
-        (seen_of (W.state recorder.new.wires.now) (W.counts recorder.new.wires.now)
-        (W.asked recorder.new.wires.now) (W.lent recorder.new.wires.now))) }
-    ensures listened { IfOk result (λ ended. HasListened settings.now ended
-        (seen_of (W.state recorder.old.wires.now) (W.counts recorder.old.wires.now)
-        (W.asked recorder.old.wires.now) (W.lent recorder.old.wires.now))
-        (seen_of (W.state recorder.new.wires.now) (W.counts recorder.new.wires.now)
-        (W.asked recorder.new.wires.now) (W.lent recorder.new.wires.now))) }
-    ensures recorded { IfOk result (λ ended. IsRecorded RoleValue.Listener ended
-        (seen_of (W.state recorder.old.wires.now) (W.counts recorder.old.wires.now)
-        (W.asked recorder.old.wires.now) (W.lent recorder.old.wires.now))
-        (seen_of (W.state recorder.new.wires.now) (W.counts recorder.new.wires.now)
-        (W.asked recorder.new.wires.now) (W.lent recorder.new.wires.now))
-        out.old.octets out.new.octets) }
-    ensures failed { IfErr result (λ ended. NotGiven ended
-        (W.counts recorder.old.wires.now).accepts (W.counts recorder.new.wires.now).accepts
-        (seen_of (W.state recorder.old.wires.now) (W.counts recorder.old.wires.now)
-        (W.asked recorder.old.wires.now) (W.lent recorder.old.wires.now))
-        (seen_of (W.state recorder.new.wires.now) (W.counts recorder.new.wires.now)
-        (W.asked recorder.new.wires.now) (W.lent recorder.new.wires.now))) }
-    ensures same_out { IfErr result (λ ended. out.new ≡ out.old) }
-    ensures asks { AsksThis (accept settings.now.port)
-        (seen_of (W.state recorder.old.wires.now) (W.counts recorder.old.wires.now)
-        (W.asked recorder.old.wires.now) (W.lent recorder.old.wires.now))
-        (seen_of (W.state recorder.new.wires.now) (W.counts recorder.new.wires.now)
-        (W.asked recorder.new.wires.now) (W.lent recorder.new.wires.now)) }
-    ensures unwritten { IfOk result (λ ended. ended ≢ EndedValue.WriteFault) }
+    ensures listens { let seen = seen_by W.state W.counts W.asked W.lent in
+        ListensOver settings.now result (seen recorder.old.wires.now)
+        (seen recorder.new.wires.now) out.old out.new }
 {
     let link = match recorder.accept(settings.port) {
         Ok(link) => link,
