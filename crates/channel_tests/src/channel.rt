@@ -21,17 +21,34 @@ fn a_first_frame_fills_the_initial_window_and_no_more(rt: HostRuntime) -> Result
 // 1,048,576 octets may be unsent. The first frame has as many as the initial window lets through.
 #[test]
 fn a_message_fills_the_limit_and_goes_as_the_window_allows(rt: HostRuntime) -> Result<(), Fail> {
-    let mut big = Vec::new(rt.alloc());
-    big.resize(1048576, 7u8)?;
     let mut channel = Channel::new(rt.alloc(), 1, 4096)?;
-    assert!(rt; channel.number() == 1);
+    fill(&rt, rt.alloc(), &mut channel)?;
+    refuse_more(&rt, &mut channel);
+    send_first(&rt, rt.alloc(), &mut channel)
+}
+
+/// Gives as much as may be unsent, in one request.
+fn fill(rt: &impl Abort, alloc: Global, channel: &mut Channel) -> Result<(), Fail> {
+    let mut big = Vec::new(alloc);
+    big.resize(1048576, 7u8)?;
+    assert!(rt; channel.number() != 0);
     assert_eq!(rt; channel.give_ask(big.as_slice()), Ok(0));
+    Ok(())
+}
+
+/// Not one octet more is taken.
+fn refuse_more(rt: &impl Abort, channel: &mut Channel) {
     let full = AskError::Full {
         queued: 1048576,
         limit: 1048576,
     };
+    assert!(rt; channel.number() != 0);
     assert_eq!(rt; channel.give_ask(b"x"), Err(full));
-    let mut octets = Octets::new(rt.alloc());
+}
+
+/// Sends the first frame, which fills the initial window.
+fn send_first(rt: &impl Abort, alloc: Global, channel: &mut Channel) -> Result<(), Fail> {
+    let mut octets = Octets::new(alloc);
     octets.reserve(4096)?;
     assert!(rt; channel.is_ready());
     let head = Head::new(Kind::Msg, 1, 0, true, 0, 4096, 0).ok_or("a head")?;
