@@ -6,14 +6,15 @@ use Rattle.beep_listener.specs.beep_lawful.specs.declared.terms.Terms.{Terms}
 use Rattle.beep_listener.specs.beep_settings.specs.declared.settings.Settings.{Settings}
 use Rattle.beep_listener.specs.beep_wires.specs.Log.{Entry}
 use Rattle.beep_listener.specs.beep_link.specs.declared.ended.Ended.{Ended}
-use Rattle.beep_listener.specs.beep_link.specs.Causes.{IsCaused, Keeps, Seen, WhereKnown}
+use Rattle.beep_listener.specs.beep_link.specs.Causes.{IsBounded, IsCaused, Keeps, Seen, WhereKnown}
 use Rattle.beep_listener.specs.beep_steps.specs.Ends.{reads_of}
-use Rattle.beep_listener.specs.beep_steps.specs.Logs.{IsLawfulOn, Shows, terms_by}
+use Rattle.beep_listener.specs.beep_steps.specs.Logs.{moments, IsLawfulOn, Shows, terms_by}
 use Rattle.beep_listener.specs.beep_steps.specs.Refusing.{GoesUnrefused, ReadsOnlyGoing}
 use Rattle.beep_listener.specs.beep_steps.specs.EachEnd.{EachEndOn}
-use Rattle.beep_listener.specs.beep_steps.specs.Resting.{AreShort}
+use Rattle.beep_listener.specs.beep_steps.specs.Resting.{AreShort, TellsIdle}
 use Rattle.beep_listener.specs.beep_steps.proofs.EachLemmas.{each-then}
 use Rattle.beep_listener.specs.beep_steps.proofs.RefusesLemmas.{starved-refuses}
+use Rattle.beep_listener.specs.beep_steps.specs.beep_talk.specs.Plan.{PlainPlan}
 use Rattle.beep_listener.specs.beep_steps.specs.Sending.{sender_plan, SendsAll}
 use Rattle.beep_listener.specs.Listening.{listener_plan}
 use Rattle.beep_recorder.specs.Kept.{Recording, RecordsKnown}
@@ -39,6 +40,7 @@ module _ (role : Role) (settings : Settings) (cause : Ended) (before given used 
     (fresh : IsFresh (given.state link)) (others : SameBeside link before.state given.state) (one : given.counts.given ≡ before.counts.given + 1) (quiets : given.counts.quiets ≡ before.counts.quiets)
     (keeps : Keeps link given used) (caused : IsCaused cause (reads_of settings) (record { link = given.state link; quiets = given.counts.quiets }) (record { link = used.state link; quiets = used.counts.quiets }))
     (lawful : WhereKnown (IsLawfulOn (terms_by role settings)) (used.state link).log) (shown : WhereKnown (Shows (terms_by role settings) cause) (used.state link).log)
+    (bounded : IsBounded (reads_of settings) (used.state link).log)
     (shut : after.state link ≡ record (used.state link) { is_open = false }) (beside : SameBeside link used.state after.state) (counts : after.counts ≡ used.counts) where
   ran-by : (result : Ended) → IsCaused result (reads_of settings) (record { link = given.state link; quiets = given.counts.quiets }) (record { link = used.state link; quiets = used.counts.quiets })
       → WhereKnown (Shows (terms_by role settings) result) (used.state link).log → Ran role settings result before after
@@ -51,6 +53,7 @@ module _ (role : Role) (settings : Settings) (cause : Ended) (before given used 
         (subst (λ (q : ℕ). IsCaused result (reads_of settings) (record { link = given.state link; quiets = q }) (record { link = used.state link; quiets = used.counts.quiets })) quiets c);
     lawful = lawful;
     shown = t;
+    bounded = bounded;
     shut = subst (λ (n : ℕ). after.state n ≡ record (used.state link) { is_open = false }) is shut;
     given = ap (λ (k : Counts). k.given) counts ∙ keeps.given ∙ one;
     others = subst (λ (n : ℕ). SameBeside n before.state after.state) is (λ n away. beside n away ∙ keeps.others n away ∙ others n away);
@@ -83,16 +86,25 @@ goes-unrefused terms cause result log unrefused =
     ⊎_elim (λ same. subst (λ (e : Ended). WhereKnown (GoesUnrefused terms e) log) (sym same) unrefused)
     (λ short. subst (λ (e : Ended). WhereKnown (GoesUnrefused terms e) log) (sym short) (starved-unrefused terms cause log unrefused))
 
+-- an end that rested rests where the run is out of memory
+rested-then : (plan : PlainPlan) (cause result : Ended) (log : Option (List Entry)) → WhereKnown (λ known. TellsIdle plan cause (moments known)) log → (result ≡ cause) ⊎ (result ≡ Ended.NoMemory)
+    → WhereKnown (λ known. TellsIdle plan result (moments known)) log
+rested-then plan cause result None r ended = tt
+rested-then plan cause result (Some log) r ended =
+    ⊎_elim (λ same. subst (λ (e : Ended). TellsIdle plan e (moments log)) (sym same) r) (λ short. subst (λ (e : Ended). TellsIdle plan e (moments log)) (sym short) tt) ended
+
 -- what was sent by the end of the session was sent by the end of the run
 pub sent_all : (settings : Settings) (lines : List (List ℕ)) (cause result : Ended) (before used after : Seen) (link : ℕ) → link ≡ before.counts.given → after.state link ≡ record (used.state link) { is_open = false }
     → (cause ≡ Ended.Released → WhereKnown (SendsAll (sender_plan settings lines)) (used.state link).log)
     → WhereKnown (GoesUnrefused (terms_by Role.Initiator settings) cause) (used.state link).log → WhereKnown (ReadsOnlyGoing (terms_by Role.Initiator settings)) (used.state link).log
+    → (AreShort lines → WhereKnown (λ log. TellsIdle (sender_plan settings lines) cause (moments log)) (used.state link).log)
     → (AreShort lines → WhereKnown (EachEndOn (sender_plan settings lines) cause) (used.state link).log) → (result ≡ cause) ⊎ (result ≡ Ended.NoMemory) → SentAll settings lines result before after
-sent_all settings lines cause result before used after link is shut sent unrefused waits each ended = record {
+sent_all settings lines cause result before used after link is shut sent unrefused waits rested each ended = record {
   all = λ released. on (SendsAll (sender_plan settings lines)) (⊎_elim (λ same. sent (sym same ∙ released))
       (λ short. absurd (let h : Ended.NoMemory ≡ Ended.Released = sym short ∙ released in cc)) ended);
   unrefused = on (GoesUnrefused (terms_by Role.Initiator settings) result) (goes-unrefused (terms_by Role.Initiator settings) cause result (used.state link).log unrefused ended);
   waits = on (ReadsOnlyGoing (terms_by Role.Initiator settings)) waits;
+  rested = λ short. on (λ log. TellsIdle (sender_plan settings lines) result (moments log)) (rested-then (sender_plan settings lines) cause result (used.state link).log (rested short) ended);
   each = λ short. on (EachEndOn (sender_plan settings lines) result) (each-then (sender_plan settings lines) cause result (used.state link).log (each short) ended);
 }
   where
@@ -102,10 +114,11 @@ sent_all settings lines cause result before used after link is shut sent unrefus
 -- what a listener kept by the end of its session it kept by the end of the run
 pub has_listened : (settings : Settings) (cause result : Ended) (before used after : Seen) (link : ℕ) → link ≡ before.counts.given → after.state link ≡ record (used.state link) { is_open = false }
     → WhereKnown (GoesUnrefused (terms_by Role.Listener settings) cause) (used.state link).log → WhereKnown (ReadsOnlyGoing (terms_by Role.Listener settings)) (used.state link).log
-    → WhereKnown (EachEndOn (listener_plan settings) cause) (used.state link).log → (result ≡ cause) ⊎ (result ≡ Ended.NoMemory) → HasListened settings result before after
-has_listened settings cause result before used after link is shut unrefused waits each ended = record {
+    → WhereKnown (λ log. TellsIdle (listener_plan settings) cause (moments log)) (used.state link).log → WhereKnown (EachEndOn (listener_plan settings) cause) (used.state link).log → (result ≡ cause) ⊎ (result ≡ Ended.NoMemory) → HasListened settings result before after
+has_listened settings cause result before used after link is shut unrefused waits rested each ended = record {
   unrefused = on (GoesUnrefused (terms_by Role.Listener settings) result) (goes-unrefused (terms_by Role.Listener settings) cause result (used.state link).log unrefused ended);
   waits = on (ReadsOnlyGoing (terms_by Role.Listener settings)) waits;
+  rested = on (λ log. TellsIdle (listener_plan settings) result (moments log)) (rested-then (listener_plan settings) cause result (used.state link).log rested ended);
   each = on (EachEndOn (listener_plan settings) result) (each-then (listener_plan settings) cause result (used.state link).log each ended);
 }
   where

@@ -10,12 +10,12 @@ use Rattle.beep_listener.specs.beep_journal.specs.declared.role.Role.{Role}
 use Rattle.beep_listener.specs.beep_session.specs.beep_octets.specs.Held.{Held}
 use Rattle.beep_listener.specs.beep_settings.specs.declared.settings.Settings.{Settings}
 use Rattle.beep_listener.specs.beep_link.specs.declared.ended.Ended.{Ended}
-use Rattle.beep_listener.specs.beep_link.specs.Causes.{IsCaused, Seen, WhereKnown}
+use Rattle.beep_listener.specs.beep_link.specs.Causes.{IsBounded, IsCaused, Seen, WhereKnown}
 use Rattle.beep_listener.specs.beep_steps.specs.Ends.{reads_of}
 use Rattle.beep_listener.specs.beep_steps.specs.EachEnd.{EachEndOn}
-use Rattle.beep_listener.specs.beep_steps.specs.Logs.{IsLawfulOn, Shows, terms_by}
+use Rattle.beep_listener.specs.beep_steps.specs.Logs.{moments, IsLawfulOn, Shows, terms_by}
 use Rattle.beep_listener.specs.beep_steps.specs.Refusing.{GoesUnrefused, ReadsOnlyGoing}
-use Rattle.beep_listener.specs.beep_steps.specs.Resting.{AreShort}
+use Rattle.beep_listener.specs.beep_steps.specs.Resting.{AreShort, TellsIdle}
 use Rattle.beep_listener.specs.beep_steps.specs.Sending.{sender_plan, SendsAll}
 use Rattle.beep_listener.specs.Listening.{listener_plan}
 use Rattle.beep_recorder.specs.Kept.{RecordsLink}
@@ -32,7 +32,8 @@ seen_by state counts asked lent wires =
     seen_of (state wires) (counts wires) (asked wires) (lent wires)
 
 -- a link was given, the session of an end of this role on it ended by this, and it was shut: what
--- its log shows where it is known, and that nothing else changed
+-- its log shows where it is known, that no more was read than the settings allow, and that nothing
+-- else changed
 pub record Ran (role : Role) (settings : Settings) (cause : Ended) (before after : Seen)
     : Type 0 where
   pub fresh : Link
@@ -43,13 +44,15 @@ pub record Ran (role : Role) (settings : Settings) (cause : Ended) (before after
       (record { link = last; quiets = after.counts.quiets })
   pub lawful : WhereKnown (IsLawfulOn (terms_by role settings)) last.log
   pub shown : WhereKnown (Shows (terms_by role settings) cause) last.log
+  pub bounded : IsBounded (reads_of settings) last.log
   pub shut : after.state before.counts.given ≡ record last { is_open = false }
   pub given : after.counts.given ≡ before.counts.given + 1
   pub others : SameBeside before.counts.given before.state after.state
 
 -- the log of the link that was given shows that all lines were sent, where the session was
 -- released, that the peer refused nothing where that didn't end it, nor wherever was read, whatever
--- ended it, and that the sender kept its whole part, where its lines are short
+-- ended it, and that the sender kept its whole part, and had nothing to send where the settings
+-- ended it, where its lines are short
 pub record SentAll (settings : Settings) (lines : List (List ℕ)) (cause : Ended)
     (before after : Seen) : Type 0 where
   pub all : cause ≡ Ended.Released
@@ -58,15 +61,21 @@ pub record SentAll (settings : Settings) (lines : List (List ℕ)) (cause : Ende
       (after.state before.counts.given).log
   pub waits : WhereKnown (ReadsOnlyGoing (terms_by Role.Initiator settings))
       (after.state before.counts.given).log
+  pub rested : AreShort lines
+      → WhereKnown (λ log. TellsIdle (sender_plan settings lines) cause (moments log))
+      (after.state before.counts.given).log
   pub each : AreShort lines → WhereKnown (EachEndOn (sender_plan settings lines) cause)
       (after.state before.counts.given).log
 
 -- the log of the link that was given shows that the peer refused nothing where that didn't end it,
--- nor wherever was read, and that the listener kept its whole part, whatever ended it
+-- nor wherever was read, that the listener kept its whole part, whatever ended it, and that it had
+-- nothing to send where the settings ended it
 pub record HasListened (settings : Settings) (cause : Ended) (before after : Seen) : Type 0 where
   pub unrefused : WhereKnown (GoesUnrefused (terms_by Role.Listener settings) cause)
       (after.state before.counts.given).log
   pub waits : WhereKnown (ReadsOnlyGoing (terms_by Role.Listener settings))
+      (after.state before.counts.given).log
+  pub rested : WhereKnown (λ log. TellsIdle (listener_plan settings) cause (moments log))
       (after.state before.counts.given).log
   pub each : WhereKnown (EachEndOn (listener_plan settings) cause)
       (after.state before.counts.given).log
