@@ -21,13 +21,13 @@ module _ (settings : Settings) (before after : Seen) (run : Run) (octets : List 
   pub sent : (status : ℕ) (line : List ℕ) (result : ℕ) → IsSendReport settings run.source run.source_after before after octets line status → WritesLast status line result run.sink run.sink_after → Sent settings before after result run
   sent status line result report (whole_line is appended) =
       send_written (record { octets = octets; text = line; consumed = consumed; appended = appended; holds = subst (λ (s : ℕ). IsSendReport settings run.source run.source_after before after octets line s) (sym is) report })
-  sent status line result report (line_begun is rose prefix) =
+  sent status line result report (line_begun is some rose prefix) =
       send_begun is rose (record {
         octets = octets;
         text = prefix.0;
         consumed = consumed;
         appended = prefix.3;
-        holds = record { status = status; others = prefix.1; report = subst (λ (t : List ℕ). IsSendReport settings run.source run.source_after before after octets t status) prefix.2 report };
+        holds = record { status = status; others = prefix.1; some = subst (λ (t : List ℕ). t ≢ []) prefix.2 some; report = subst (λ (t : List ℕ). IsSendReport settings run.source run.source_after before after octets t status) prefix.2 report };
       })
 
   absurd_status : (result : ℕ) → result ≡ 7 → result ≡ 5 → ⊥
@@ -35,7 +35,7 @@ module _ (settings : Settings) (before after : Seen) (run : Run) (octets : List 
 
   starved : after ≡ before → (result : ℕ) → result ≡ 7 → WritesLast 7 [] result run.sink run.sink_after → Sent settings before after result run
   starved same result e (whole_line is appended) = send_starved e (record { octets = octets; text = []; consumed = consumed; appended = appended; holds = (refl, inl same) })
-  starved same result e (line_begun is rose prefix) = absurd (absurd_status result e is)
+  starved same result e (line_begun is some rose prefix) = absurd (absurd_status result e is)
 
 -- why there are no lines to send was line_written
 pub unsent : (settings : Settings) (before : Seen) (run : Run) (why : Unlisted) (result : ℕ) → IsUnlisted why run.source run.source_after → WritesLast (unlisted_status why) (unlisted_line why) result run.sink run.sink_after
@@ -52,7 +52,7 @@ rose_later a b c h = elim [ inl w ↦ inl (omega (arith, h, w)) | inr w ↦ inr 
 module _ (settings : Settings) (before after : Seen) (source : SourceState) (sink mid sink_after : SinkState) (result : ℕ) (kept : sink.faults ≤ mid.faults) where
   line_written : (cause : Ended) → cause ≢ Ended.WriteFault → cause ≢ Ended.NoMemory → ListenCause cause settings before after → WritesLast (ended_status cause) (ended_line cause) result mid sink_after → Listened settings before after result (run_of source source sink sink_after)
   line_written cause n m c (whole_line is appended) = listen_written cause n m c is
-  line_written cause n m c (line_begun is rose prefix) = listen_unwritten is (rose_later sink.faults mid.faults sink_after.faults kept rose)
+  line_written cause n m c (line_begun is some rose prefix) = listen_unwritten is (rose_later sink.faults mid.faults sink_after.faults kept rose)
 
   -- the last line of what ended the run was written, or begun; there may be none
   pub listened : (cause : Ended) → ListenCause cause settings before after → IsWritten cause sink.faults mid.faults → WritesLast (ended_status cause) (ended_line cause) result mid sink_after

@@ -7,6 +7,7 @@ mod ServingLemmas
 mod EndsLemmas
 mod StatusLemmas
 mod PairLemmas
+mod FlushedLemmas
 mod ListenLemmas
 mod RecordedLemmas
 mod ShortLemmas

@@ -9,13 +9,16 @@ use Rattle.beep_runs.specs.beep_wires.specs.States.{SinkState}
 use Rattle.beep_runs.specs.beep_journal.specs.declared.role.Role.{Role}
 use Rattle.beep_runs.specs.beep_settings.specs.declared.settings.Settings.{Settings}
 use Rattle.beep_runs.specs.beep_link.specs.declared.ended.Ended.{Ended}
-use Rattle.beep_runs.specs.beep_link.specs.Causes.{Seen, WhereKnown, WithText}
+use Rattle.beep_runs.specs.beep_link.specs.Causes.{IsBounded, Seen, WhereKnown, WithText}
 use Rattle.beep_runs.specs.beep_steps.specs.Refusing.{GoesUnrefused, ReadsOnlyGoing}
 use Rattle.beep_runs.specs.beep_steps.specs.EachEnd.{EachEndOn}
+use Rattle.beep_runs.specs.beep_steps.specs.Ends.{reads_of}
+use Rattle.beep_runs.specs.beep_steps.specs.Resting.{TellsIdle}
 use Rattle.beep_runs.specs.beep_steps.specs.Logs.{moments, Shows, terms_by}
-use Rattle.beep_runs.specs.beep_listener.specs.Listening.{is_whole, listener_plan, AreLinesOf}
+use Rattle.beep_runs.specs.beep_listener.specs.Listening.{is_whole, listener_plan, AreLinesOf, HasLinesOf, KeepsWhere}
 use Rattle.beep_cmd.specs.Ends.{ended_line, ended_status, ends_run, WritesLast, whole_line}
 use Rattle.beep_cmd.specs.Listening.{AreKnown, EndsBy, first_of, run_cause, Session, SessionsOver, text_of, WritesLines, WritesOf}
+use Rattle.beep_cmd.proofs.FlushedLemmas.{one-text}
 use Rattle.beep_cmd.specs.Serving.{GoesOn, WritesSession, WritesSessions}
 
 -- ---- which logs are known
@@ -35,30 +38,37 @@ module _ (settings : Settings) (cause : Ended) (before used after : Seen) (link 
   at_it : (after.state before.counts.given).log ≡ (used.state link).log
   at_it = ap (λ (n : ℕ). (after.state n).log) (sym is) ∙ ap (λ (l : Link). l.log) shut
 
-  session_by : (log : List Entry) → (after.state before.counts.given).log ≡ Some log → Shows (terms_by Role.Listener settings) cause log
-      → WithText old new (AreLinesOf (listener_plan settings) (is_whole cause) (moments log))
-      → GoesUnrefused (terms_by Role.Listener settings) cause log → ReadsOnlyGoing (terms_by Role.Listener settings) log → EachEndOn (listener_plan settings) cause log
-      → WritesSession settings cause before after old new
-  session_by log known shows text unrefused waits each = record {
-    text = text.0;
-    lines = text.1;
-    writes = subst (WhereKnown (WritesOf settings (record { cause = cause; text = text.0 }))) (sym known) (record { shows = shows; lines = text.2; unrefused = unrefused; waits = waits; each = each });
-  }
+  module _ (text : WhereKnown (λ log. WithText old new (AreLinesOf (listener_plan settings) (is_whole cause) (moments log))) (used.state link).log)
+      (flushed : WhereKnown (λ log. WithText old new (λ text. KeepsWhere (HasLinesOf (listener_plan settings) text) cause log)) (used.state link).log)
+      (shows : WhereKnown (Shows (terms_by Role.Listener settings) cause) (used.state link).log)
+      (unrefused : WhereKnown (GoesUnrefused (terms_by Role.Listener settings) cause) (used.state link).log) (waits : WhereKnown (ReadsOnlyGoing (terms_by Role.Listener settings)) (used.state link).log)
+      (bounded : IsBounded (reads_of settings) (used.state link).log) (rested : WhereKnown (λ log. TellsIdle (listener_plan settings) cause (moments log)) (used.state link).log)
+      (each : WhereKnown (EachEndOn (listener_plan settings) cause) (used.state link).log) where
+    session_by : (log : List Entry) → (used.state link).log ≡ Some log → WritesSession settings cause before after old new
+    session_by log of =
+        let shown = subst (WhereKnown (Shows (terms_by Role.Listener settings) cause)) of shows in
+        let t = one-text (listener_plan settings) cause log old new shown
+        (subst (WhereKnown (λ log. WithText old new (AreLinesOf (listener_plan settings) (is_whole cause) (moments log)))) of text)
+        (subst (WhereKnown (λ log. WithText old new (λ text. KeepsWhere (HasLinesOf (listener_plan settings) text) cause log))) of flushed) in
+        record {
+          text = t.0;
+          lines = t.1;
+          writes = subst (WhereKnown (WritesOf settings (record { cause = cause; text = t.0 }))) (sym (at_it ∙ of)) (record {
+            shows = shown;
+            lines = t.2;
+            flushed = t.3;
+            unrefused = subst (WhereKnown (GoesUnrefused (terms_by Role.Listener settings) cause)) of unrefused;
+            waits = subst (WhereKnown (ReadsOnlyGoing (terms_by Role.Listener settings))) of waits;
+            bounded = subst (IsBounded (reads_of settings)) of bounded;
+            rested = subst (WhereKnown (λ log. TellsIdle (listener_plan settings) cause (moments log))) of rested;
+            each = subst (WhereKnown (EachEndOn (listener_plan settings) cause)) of each;
+          });
+        }
 
-  pub session_lines : WhereKnown (Shows (terms_by Role.Listener settings) cause) (used.state link).log
-      → WhereKnown (λ log. WithText old new (AreLinesOf (listener_plan settings) (is_whole cause) (moments log))) (used.state link).log
-      → WhereKnown (GoesUnrefused (terms_by Role.Listener settings) cause) (used.state link).log
-      → WhereKnown (ReadsOnlyGoing (terms_by Role.Listener settings)) (used.state link).log
-      → WhereKnown (EachEndOn (listener_plan settings) cause) (used.state link).log
-      → AreKnown before after → WritesSession settings cause before after old new
-  session_lines shows text unrefused waits each known =
-      let it = known before.counts.given (omega arith) (omega (arith, one)) in
-      let of : (used.state link).log ≡ Some it.0 = sym at_it ∙ it.1 in
-      session_by it.0 it.1 (subst (WhereKnown (Shows (terms_by Role.Listener settings) cause)) of shows)
-      (subst (WhereKnown (λ log. WithText old new (AreLinesOf (listener_plan settings) (is_whole cause) (moments log)))) of text)
-      (subst (WhereKnown (GoesUnrefused (terms_by Role.Listener settings) cause)) of unrefused)
-      (subst (WhereKnown (ReadsOnlyGoing (terms_by Role.Listener settings))) of waits)
-      (subst (WhereKnown (EachEndOn (listener_plan settings) cause)) of each)
+    pub session_lines : AreKnown before after → WritesSession settings cause before after old new
+    session_lines known =
+        let it = known before.counts.given (omega arith) (omega (arith, one)) in
+        session_by it.0 (sym at_it ∙ it.1)
 
 -- ---- session after session
 

@@ -1,5 +1,5 @@
 -- How a run that is recorded ends.
-use Rattle.std.proofs.Common.{◌≡◌, ◌≢◌, inl, inr, ℕ, ◌+◌, ◌≤◌, true, List, [], ◌∷◌, ◌++◌, codes, refl, sym, ap, ◌∙◌, subst, arith, append_assoc}
+use Rattle.std.proofs.Common.{◌≡◌, ◌≢◌, inl, inr, ℕ, ◌+◌, ◌≤◌, true, false, List, [], ◌∷◌, ◌++◌, codes, refl, sym, ap, ◌∙◌, subst, arith, append_assoc}
 use Rattle.std.proofs.lemmas.List.{append-nil}
 use Rattle.std.specs.Fmt.{decimal}
 use Rattle.std.specs.Io.KnownBytes.{Appends, Consumes}
@@ -11,11 +11,12 @@ use Rattle.beep_runs.specs.beep_wires.specs.States.{SourceState, SinkState}
 use Rattle.beep_runs.specs.beep_wires.specs.Links.{Link, dial, accept}
 use Rattle.beep_runs.specs.beep_settings.specs.declared.settings.Settings.{Settings}
 use Rattle.beep_runs.specs.beep_link.specs.declared.ended.Ended.{Ended}
-use Rattle.beep_runs.specs.beep_link.specs.Causes.{Seen, WhereKnown}
+use Rattle.beep_runs.specs.beep_link.specs.Causes.{IsBounded, Seen, WhereKnown}
 use Rattle.beep_runs.specs.beep_steps.specs.EachEnd.{EachEndOn}
-use Rattle.beep_runs.specs.beep_steps.specs.Logs.{IsLawfulOn, terms_by}
+use Rattle.beep_runs.specs.beep_steps.specs.Ends.{reads_of}
+use Rattle.beep_runs.specs.beep_steps.specs.Logs.{moments, IsLawfulOn, terms_by}
 use Rattle.beep_runs.specs.beep_steps.specs.Refusing.{GoesUnrefused, ReadsOnlyGoing}
-use Rattle.beep_runs.specs.beep_steps.specs.Resting.{AreShort}
+use Rattle.beep_runs.specs.beep_steps.specs.Resting.{AreShort, TellsIdle}
 use Rattle.beep_runs.specs.beep_steps.specs.Sending.{sender_plan, SendsAll}
 use Rattle.beep_runs.specs.beep_listener.specs.Listening.{listener_plan}
 use Rattle.beep_runs.specs.beep_recorder.specs.Kept.{RecordsLink}
@@ -25,7 +26,7 @@ use Rattle.beep_show.specs.beep_input.specs.Lines.{AreLines}
 use Rattle.beep_show.specs.Show.{Run, run_of}
 use Rattle.beep_cmd.specs.Recorded.{IsEnding, lined, recorded}
 use Rattle.beep_cmd.specs.Recording.{EndsRecorded, KeepsListening, ListenRecorded, SendRecorded, record_written, record_starved, TellsRecord, TellsWhole, whole_record, no_record}
-use Rattle.beep_cmd.specs.Ends.{AcceptsAtMost, AsksOnly, DialsOnce, ended_line, ended_status, IsAcceptOf, IsDialOf, ListenCause, Listened, listen_starved, listen_written, listen_unwritten, over, SendCause, SendsLines, Sent, send_starved, session, SessionCause, WritesLast, whole_line, line_begun, WritesLawfully}
+use Rattle.beep_cmd.specs.Ends.{AcceptsAtMost, AreShut, AsksOnly, DialsOnce, EachOf, ended_line, ended_status, IsAcceptOf, IsDialOf, ListenCause, Listened, listen_starved, listen_written, listen_unwritten, over, SendCause, SendsLines, Sent, send_starved, session, SessionCause, WritesLast, whole_line, line_begun, WritesLawfully}
 use Rattle.beep_cmd.proofs.EndsLemmas.{sent}
 use Rattle.beep_cmd.proofs.ServingLemmas.{asks_once, each_none, each_of_it, each_one, session_cause}
 
@@ -81,8 +82,17 @@ module _ (role : Role) (settings : Settings) (cause : Ended) (before after : See
   pub lawful_of : WritesLawfully role settings before after
   lawful_of = each_of_it role settings before after before.counts.given refl r.given r.fresh r.last r.is_fresh r.shut before.counts.quiets (omega arith) (λ link. WhereKnown (IsLawfulOn (terms_by role settings)) link.log) r.lawful
 
+  pub bounded_of : EachOf before after (λ link. IsBounded (reads_of settings) link.log)
+  bounded_of = each_of_it role settings before after before.counts.given refl r.given r.fresh r.last r.is_fresh r.shut before.counts.quiets (omega arith) (λ link. IsBounded (reads_of settings) link.log) r.bounded
+
+  pub shut_of : AreShut before after
+  shut_of = each_of_it role settings before after before.counts.given refl r.given r.fresh r.last r.is_fresh r.shut before.counts.quiets (omega arith) (λ link. link.is_open ≡ false) refl
+
 pub not_given_lawful : (role : Role) (settings : Settings) (cause : Ended) (old new : ℕ) (before after : Seen) → NotGiven cause old new before after → WritesLawfully role settings before after
 not_given_lawful role settings cause old new before after n = each_none (λ link. WhereKnown (IsLawfulOn (terms_by role settings)) link.log) before after n.given
+
+pub not_given_shut : (cause : Ended) (old new : ℕ) (before after : Seen) → NotGiven cause old new before after → AreShut before after
+not_given_shut cause old new before after n = each_none (λ link. link.is_open ≡ false) before after n.given
 
 pub send_asks : (settings : Settings) (before after : Seen) (host : List ℕ) → (is : IsDialOf settings (dial host settings.port)) → AsksThis (dial host settings.port) before after → DialsOnce settings before after
 send_asks settings before after host is a = asks_once (IsDialOf settings) (dial host settings.port) is a.0 before.asked after.asked a.1
@@ -117,7 +127,7 @@ module _ (Cause : Ended → Type 0) (role : Role) (before after : Seen) (result 
 
   unsaid : result ≡ 7 → WritesLast 7 [] result old new → Appends old.written new.written []
   unsaid is (whole_line e appended) = appended
-  unsaid is (line_begun e rose prefix) = absurd (seven_five result is e)
+  unsaid is (line_begun e some rose prefix) = absurd (seven_five result is e)
 
   -- no link was given
   pub ends_unlinked : (cause : Ended) (a b : ℕ) → NotGiven cause a b before after → (Rose a b → Cause Ended.WireFault) → Cause Ended.NoMemory → WritesLast (ended_status cause) (ended_line cause) result old new
@@ -142,14 +152,14 @@ pub sent_recorded : (settings : Settings) (before after : Seen) (result : ℕ) (
     → SendRecorded settings lines before after result run.sink run.sink_after → Sent settings before after result run
 sent_recorded settings before after result run octets consumed recording ended lines are (record_written cause n m c text ending tells) =
     sent settings before after run octets consumed (ended_status cause) text result
-    (over ended lines are cause n c.0 c.1 refl (subst (λ b. IsEnding b Role.Initiator before after (ended_status cause) (ended_line cause) text) (sym recording) ending)) tells
+    (over ended lines are cause n (λ short. absurd (m short)) c.0 c.1 refl (subst (λ b. IsEnding b Role.Initiator before after (ended_status cause) (ended_line cause) text) (sym recording) ending)) tells
 sent_recorded settings before after result run octets consumed recording ended lines are (record_starved cause c is none) =
-    send_starved is (record { octets = octets; text = []; consumed = consumed; appended = none; holds = (refl, inr (lines, are, cause, c.1)) })
+    send_starved is (record { octets = octets; text = []; consumed = consumed; appended = none; holds = (refl, inr (ended, lines, are, cause, c.1)) })
 
 pub listened_recorded : (settings : Settings) (before after : Seen) (result : ℕ) (source : SourceState) (sink sink_after : SinkState) → ListenRecorded settings before after result sink sink_after
     → Listened settings before after result (run_of source source sink sink_after)
 listened_recorded settings before after result source sink sink_after (record_written cause n m c text ending (whole_line is appended)) = listen_written cause n m c.0 is
-listened_recorded settings before after result source sink sink_after (record_written cause n m c text ending (line_begun is rose prefix)) = listen_unwritten is rose
+listened_recorded settings before after result source sink sink_after (record_written cause n m c text ending (line_begun is some rose prefix)) = listen_unwritten is rose
 listened_recorded settings before after result source sink sink_after (record_starved cause c is none) = listen_starved is
 
 -- the causes of a run over one link
@@ -157,12 +167,14 @@ pub send_caused : (settings : Settings) (cause : Ended) (before after : Seen) �
 send_caused settings cause before after r = session (cause_of Role.Initiator settings cause before after r) (λ e. r.given)
 
 -- what was sent over the one link was sent over each
-pub send_sends : (settings : Settings) (lines : List (List ℕ)) (cause : Ended) (before after : Seen) → after.counts.given ≡ before.counts.given + 1 → AreShort lines → SentAll settings lines cause before after → SendsLines cause settings lines before after
-send_sends settings lines cause before after one short sent = record {
-  all = λ released. each_one (λ link. WhereKnown (SendsAll (sender_plan settings lines)) link.log) before after before.counts.given refl one (sent.all released);
-  unrefused = each_one (λ link. WhereKnown (GoesUnrefused (terms_by Role.Initiator settings) cause) link.log) before after before.counts.given refl one sent.unrefused;
-  waits = each_one (λ link. WhereKnown (ReadsOnlyGoing (terms_by Role.Initiator settings)) link.log) before after before.counts.given refl one sent.waits;
-  each = each_one (λ link. WhereKnown (EachEndOn (sender_plan settings lines) cause) link.log) before after before.counts.given refl one (sent.each short);
+pub send_sends : (settings : Settings) (lines : List (List ℕ)) (cause : Ended) (before after : Seen) → Ran Role.Initiator settings cause before after → AreShort lines → SentAll settings lines cause before after → SendsLines cause settings lines before after
+send_sends settings lines cause before after r short sent = record {
+  all = λ released. each_one (λ link. WhereKnown (SendsAll (sender_plan settings lines)) link.log) before after before.counts.given refl r.given (sent.all released);
+  unrefused = each_one (λ link. WhereKnown (GoesUnrefused (terms_by Role.Initiator settings) cause) link.log) before after before.counts.given refl r.given sent.unrefused;
+  waits = each_one (λ link. WhereKnown (ReadsOnlyGoing (terms_by Role.Initiator settings)) link.log) before after before.counts.given refl r.given sent.waits;
+  bounded = bounded_of Role.Initiator settings cause before after r;
+  rested = each_one (λ link. WhereKnown (λ log. TellsIdle (sender_plan settings lines) cause (moments log)) link.log) before after before.counts.given refl r.given (sent.rested short);
+  each = each_one (λ link. WhereKnown (EachEndOn (sender_plan settings lines) cause) link.log) before after before.counts.given refl r.given (sent.each short);
 }
 
 -- no link was given, so that none was released, and none shows otherwise
@@ -171,6 +183,8 @@ unlinked_sends settings lines cause other before after same = record {
   all = λ e. absurd (other e);
   unrefused = each_none (λ link. WhereKnown (GoesUnrefused (terms_by Role.Initiator settings) cause) link.log) before after same;
   waits = each_none (λ link. WhereKnown (ReadsOnlyGoing (terms_by Role.Initiator settings)) link.log) before after same;
+  bounded = each_none (λ link. IsBounded (reads_of settings) link.log) before after same;
+  rested = each_none (λ link. WhereKnown (λ log. TellsIdle (sender_plan settings lines) cause (moments log)) link.log) before after same;
   each = each_none (λ link. WhereKnown (EachEndOn (sender_plan settings lines) cause) link.log) before after same;
 }
 
@@ -179,16 +193,20 @@ listen_caused settings cause before after one r =
     session (cause_of Role.Listener settings cause before after r) (λ e. r.given ∙ ap (λ (n : ℕ). before.counts.given + n) (sym one))
 
 -- what was kept over the one link was kept over each
-pub listen_keeps : (settings : Settings) (cause : Ended) (before after : Seen) → after.counts.given ≡ before.counts.given + 1 → HasListened settings cause before after → KeepsListening cause settings before after
-listen_keeps settings cause before after one kept = record {
-  unrefused = each_one (λ link. WhereKnown (GoesUnrefused (terms_by Role.Listener settings) cause) link.log) before after before.counts.given refl one kept.unrefused;
-  waits = each_one (λ link. WhereKnown (ReadsOnlyGoing (terms_by Role.Listener settings)) link.log) before after before.counts.given refl one kept.waits;
-  each = each_one (λ link. WhereKnown (EachEndOn (listener_plan settings) cause) link.log) before after before.counts.given refl one kept.each;
+pub listen_keeps : (settings : Settings) (cause : Ended) (before after : Seen) → Ran Role.Listener settings cause before after → HasListened settings cause before after → KeepsListening cause settings before after
+listen_keeps settings cause before after r kept = record {
+  unrefused = each_one (λ link. WhereKnown (GoesUnrefused (terms_by Role.Listener settings) cause) link.log) before after before.counts.given refl r.given kept.unrefused;
+  waits = each_one (λ link. WhereKnown (ReadsOnlyGoing (terms_by Role.Listener settings)) link.log) before after before.counts.given refl r.given kept.waits;
+  bounded = bounded_of Role.Listener settings cause before after r;
+  rested = each_one (λ link. WhereKnown (λ log. TellsIdle (listener_plan settings) cause (moments log)) link.log) before after before.counts.given refl r.given kept.rested;
+  each = each_one (λ link. WhereKnown (EachEndOn (listener_plan settings) cause) link.log) before after before.counts.given refl r.given kept.each;
 }
 
 pub unlinked_keeps : (settings : Settings) (cause : Ended) (before after : Seen) → after.counts.given ≡ before.counts.given → KeepsListening cause settings before after
 unlinked_keeps settings cause before after same = record {
   unrefused = each_none (λ link. WhereKnown (GoesUnrefused (terms_by Role.Listener settings) cause) link.log) before after same;
   waits = each_none (λ link. WhereKnown (ReadsOnlyGoing (terms_by Role.Listener settings)) link.log) before after same;
+  bounded = each_none (λ link. IsBounded (reads_of settings) link.log) before after same;
+  rested = each_none (λ link. WhereKnown (λ log. TellsIdle (listener_plan settings) cause (moments log)) link.log) before after same;
   each = each_none (λ link. WhereKnown (EachEndOn (listener_plan settings) cause) link.log) before after same;
 }

@@ -12,9 +12,9 @@ use Rattle.beep_runs.specs.beep_link.specs.Causes.{HasRead, IsCaused, IsQuiet, I
 use Rattle.beep_runs.specs.beep_journal.specs.declared.role.Role.{Role}
 use Rattle.beep_runs.specs.beep_steps.specs.Logs.{Shows, terms_by}
 use Rattle.beep_runs.specs.beep_settings.specs.declared.settings.Settings.{Settings}
-use Rattle.beep_cmd.specs.Ends.{HasRisen, OneOf, EachOf, ShowsIn, SessionCause, AsksOnly, ends_run}
+use Rattle.beep_cmd.specs.Ends.{HasRisen, OneOf, EachOf, ShowsIn, SessionCause, AreShut, AsksOnly, ends_run, GaveBefore, GaveLink}
 use Rattle.beep_cmd.specs.Listening.{first_of}
-use Rattle.beep_cmd.specs.Serving.{GoesOn}
+use Rattle.beep_cmd.specs.Serving.{AsksGave, GoesOn}
 
 -- ---- a link that was given
 
@@ -30,6 +30,9 @@ faulted a b e = elim [ inl w ↦ omega (arith, e, w) | inr w ↦ omega (arith, w
 -- where no link was given nothing is said of any
 pub each_none : (P : Link → Type 0) (before after : Seen) → after.counts.given ≡ before.counts.given → EachOf before after P
 each_none P before after e link least less = absurd (omega (arith, e, least, less))
+
+pub none_shut : (seen : Seen) → AreShut seen seen
+none_shut seen = each_none (λ link. link.is_open ≡ false) seen seen refl
 
 -- one link was given
 pub each_one : (P : Link → Type 0) (before after : Seen) (link : ℕ) → link ≡ before.counts.given → after.counts.given ≡ before.counts.given + 1 → P (after.state link) → EachOf before after P
@@ -122,41 +125,89 @@ module _ (before mid after : Seen) (f : GoesOn before mid) (g : GoesOn mid after
 
 -- ---- what was asked for
 
+all_append : (Q : Asked → Type 0) (more others : List Asked) → AllByRecursion Q more → AllByRecursion Q others → AllByRecursion Q (more ++ others)
+all_append Q [] others p q = q
+all_append Q (a ∷ more) others p q = (p.0, all_append Q more others p.1 q)
+
 module _ (P : Ask → Type 0) where
-  all_append : (more others : List Asked) → AllByRecursion (λ a. P a.ask) more → AllByRecursion (λ a. P a.ask) others → AllByRecursion (λ a. P a.ask) (more ++ others)
-  all_append [] others p q = q
-  all_append (a ∷ more) others p q = (p.0, all_append more others p.1 q)
+  all_asked : (more : List Asked) → AllByRecursion (λ a. P a.ask × GaveLink a) more → AllByRecursion (λ a. P a.ask) more
+  all_asked [] p = tt
+  all_asked (a ∷ more) p = (p.0.0, all_asked more p.1)
+
+  all_gave : (more : List Asked) → AllByRecursion (λ a. P a.ask × GaveLink a) more → AllByRecursion GaveLink more
+  all_gave [] p = tt
+  all_gave (a ∷ more) p = (p.0.1, all_gave more p.1)
 
   pub asks_none : (most : ℕ) (a : Option (List Asked)) → AsksOnly P most a a
   asks_none most None = tt
-  asks_none most (Some old) = ([], refl, omega arith, tt)
+  asks_none most (Some old) = ([], refl, omega arith, tt, tt)
 
-  pub asks_more : (m n : ℕ) (a b c : Option (List Asked)) → AsksOnly P m a b → AsksOnly P n b c → AsksOnly P (m + n) a c
-  asks_more m n None None None p q = tt
-  asks_more m n None None (Some c) p q = absurd q
-  asks_more m n None (Some b) c p q = absurd p
-  asks_more m n (Some a) None c p q = absurd p
-  asks_more m n (Some a) (Some b) None p q = absurd q
-  asks_more m n (Some a) (Some b) (Some c) p q =
-      (q.0 ++ p.0, q.1 ∙ ap (λ xs. q.0 ++ xs) p.1 ∙ sym (append_assoc q.0 p.0 a), omega (arith, length-append q.0 p.0, p.2, q.2), all_append q.0 p.0 q.3 p.3)
+  pub gave_none : (most : ℕ) (a : Option (List Asked)) → AsksGave P most a a
+  gave_none most None = tt
+  gave_none most (Some old) = ([], refl, omega arith, tt)
+
+  pub gave_more : (m n : ℕ) (a b c : Option (List Asked)) → AsksGave P m a b → AsksGave P n b c → AsksGave P (m + n) a c
+  gave_more m n None None None p q = tt
+  gave_more m n None None (Some c) p q = absurd q
+  gave_more m n None (Some b) c p q = absurd p
+  gave_more m n (Some a) None c p q = absurd p
+  gave_more m n (Some a) (Some b) None p q = absurd q
+  gave_more m n (Some a) (Some b) (Some c) p q = (
+    q.0 ++ p.0,
+    q.1 ∙ ap (λ xs. q.0 ++ xs) p.1 ∙ sym (append_assoc q.0 p.0 a),
+    omega (arith, length-append q.0 p.0, p.2, q.2),
+    all_append (λ a. P a.ask × GaveLink a) q.0 p.0 q.3 p.3,
+  )
+
+  -- those that gave a link, and then perhaps one that didn't
+  gave_before : (more others : List Asked) → GaveBefore more → AllByRecursion (λ a. P a.ask × GaveLink a) others → GaveBefore (more ++ others)
+  gave_before [] [] g p = tt
+  gave_before [] (a ∷ others) g p = all_gave others p.1
+  gave_before (a ∷ more) others g p = all_append GaveLink more others g (all_gave others p)
+
+  pub asks_then : (m n : ℕ) (a b c : Option (List Asked)) → AsksGave P m a b → AsksOnly P n b c → AsksOnly P (m + n) a c
+  asks_then m n None None None p q = tt
+  asks_then m n None None (Some c) p q = absurd q
+  asks_then m n None (Some b) c p q = absurd p
+  asks_then m n (Some a) None c p q = absurd p
+  asks_then m n (Some a) (Some b) None p q = absurd q
+  asks_then m n (Some a) (Some b) (Some c) p q = (
+    q.0 ++ p.0,
+    q.1 ∙ ap (λ xs. q.0 ++ xs) p.1 ∙ sym (append_assoc q.0 p.0 a),
+    omega (arith, length-append q.0 p.0, p.2, q.2),
+    all_append (λ a. P a.ask) q.0 p.0 q.3 (all_asked p.0 p.3),
+    gave_before q.0 p.0 q.4 p.3,
+  )
+
+  pub gave_only : (m : ℕ) (a b : Option (List Asked)) → AsksGave P m a b → AsksOnly P m a b
+  gave_only m None None p = tt
+  gave_only m None (Some b) p = absurd p
+  gave_only m (Some a) None p = absurd p
+  gave_only m (Some a) (Some b) p = (p.0, p.1, p.2, all_asked p.0 p.3, gave_before [] p.0 tt p.3)
 
   pub asks_fewer : (m n : ℕ) (a b : Option (List Asked)) → m ≤ n → AsksOnly P m a b → AsksOnly P n a b
   asks_fewer m n None None h p = tt
   asks_fewer m n None (Some b) h p = absurd p
   asks_fewer m n (Some a) None h p = absurd p
-  asks_fewer m n (Some a) (Some b) h p = (p.0, p.1, omega (arith, h, p.2), p.3)
+  asks_fewer m n (Some a) (Some b) h p = (p.0, p.1, omega (arith, h, p.2), p.3, p.4)
 
   -- a call that asked for a link asked this, once
   asked_once : (ask : Ask) → P ask → (r : Result ℕ WireError) (a b : List Asked) → b ≡ asked_by ask r ++ a → AsksOnly P 1 (Some a) (Some b)
-  asked_once ask is (Ok link) a b e = (asked_by ask (Ok link), e, omega arith, (is, tt))
-  asked_once ask is (Err WireError.Failed) a b e = (asked_by ask (Err WireError.Failed), e, omega arith, (is, tt))
-  asked_once ask is (Err WireError.NoMemory) a b e = ([], e, omega arith, tt)
+  asked_once ask is (Ok link) a b e = (asked_by ask (Ok link), e, omega arith, (is, tt), tt)
+  asked_once ask is (Err WireError.Failed) a b e = (asked_by ask (Err WireError.Failed), e, omega arith, (is, tt), tt)
+  asked_once ask is (Err WireError.NoMemory) a b e = ([], e, omega arith, tt, tt)
 
   pub asks_once : (ask : Ask) → P ask → (r : Result ℕ WireError) (a b : Option (List Asked)) → Asks a b (asked_by ask r) → AsksOnly P 1 a b
   asks_once ask is r None None p = tt
   asks_once ask is r None (Some b) p = absurd p
   asks_once ask is r (Some a) None p = absurd p
   asks_once ask is r (Some a) (Some b) p = asked_once ask is r a b p
+
+  pub gave_once : (ask : Ask) → P ask → (link : ℕ) (a b : Option (List Asked)) → Asks a b (asked_by ask (Ok link)) → AsksGave P 1 a b
+  gave_once ask is link None None p = tt
+  gave_once ask is link None (Some b) p = absurd p
+  gave_once ask is link (Some a) None p = absurd p
+  gave_once ask is link (Some a) (Some b) p = (asked_by ask (Ok link), p, omega arith, ((is, (link, refl)), tt))
 
 -- ---- which end is told
 

@@ -55,7 +55,7 @@ ended_not (Ended.Idle reads) e = absurd (omega (arith, e))
 ended_not (Ended.Spent octets) e = absurd (omega (arith, e))
 
 send_report_not : (settings : Settings) (old new : SourceState) (before after : Seen) (octets text : List ℕ) (status : ℕ) → IsSendReport settings old new before after octets text status → status ≡ 1 → ⊥
-send_report_not settings old new before after octets text status (ends.over h lines a cause n c s e t) f = ended_not cause (omega (arith, e, f))
+send_report_not settings old new before after octets text status (ends.over h lines a cause n m c s e t) f = ended_not cause (omega (arith, e, f))
 send_report_not settings old new before after octets text status (ends.bad_input number b e t w) f = absurd (omega (arith, e, f))
 send_report_not settings old new before after octets text status (ends.unread_input r e t w) f = absurd (omega (arith, e, f))
 

@@ -1,6 +1,6 @@
 -- What `send` and `listen` end with, status by status (RFC 3195, section 3).
 -- Each cause is read off the links after the run; the code hands on what ended a session.
-use Rattle.std.specs.Prelude.{◌≡◌, ◌≢◌, ℕ, Bool, ◌+◌, ◌<◌, ◌≤◌, ◌⊎◌, true, false, Option, Some, None, List, [], ◌++◌, length, chars}
+use Rattle.std.specs.Prelude.{◌≡◌, ◌≢◌, ℕ, Bool, ◌+◌, ◌<◌, ◌≤◌, ◌⊎◌, true, false, Option, Some, None, List, [], ◌∷◌, ◌++◌, length, chars}
 use Rattle.std.specs.List.{AllByRecursion}
 use Rattle.beep_runs.specs.beep_wires.specs.declared.count.TheConstants.{COUNT_MAX}
 use Rattle.beep_runs.specs.beep_wires.specs.Counts.{Rose}
@@ -9,11 +9,13 @@ use Rattle.beep_runs.specs.beep_wires.specs.Transfer.{AppendsPrefix}
 use Rattle.std.specs.Io.KnownBytes.{Appends}
 use Rattle.beep_runs.specs.beep_wires.specs.Links.{Link, Ask, accept, dial, Asked}
 use Rattle.beep_runs.specs.beep_link.specs.declared.ended.Ended.{Ended}
-use Rattle.beep_runs.specs.beep_link.specs.Causes.{HasRead, IsQuiet, Seen, WhereKnown}
+use Rattle.beep_runs.specs.beep_link.specs.Causes.{HasRead, IsBounded, IsQuiet, Seen, WhereKnown}
 use Rattle.beep_runs.specs.beep_journal.specs.declared.role.Role.{Role}
 use Rattle.beep_runs.specs.beep_steps.specs.EachEnd.{EachEndOn}
-use Rattle.beep_runs.specs.beep_steps.specs.Logs.{IsLawfulOn, Shows, terms_by}
+use Rattle.beep_runs.specs.beep_steps.specs.Ends.{reads_of}
+use Rattle.beep_runs.specs.beep_steps.specs.Logs.{moments, IsLawfulOn, Shows, terms_by}
 use Rattle.beep_runs.specs.beep_steps.specs.Refusing.{GoesUnrefused, ReadsOnlyGoing}
+use Rattle.beep_runs.specs.beep_steps.specs.Resting.{TellsIdle}
 use Rattle.beep_runs.specs.beep_steps.specs.Sending.{sender_plan, SendsAll}
 use Rattle.beep_runs.specs.beep_settings.specs.declared.settings.Settings.{Settings}
 use Rattle.beep_show.specs.beep_input.specs.Whole.{HasEnded}
@@ -74,6 +76,10 @@ abbrev pub WritesLawfully : Role → Settings → Seen → Seen → Type 0
 WritesLawfully role settings before after =
     EachOf before after (λ link. WhereKnown (IsLawfulOn (terms_by role settings)) link.log)
 
+-- each link that was given in the run is shut
+abbrev pub AreShut : Seen → Seen → Type 0
+AreShut before after = EachOf before after (λ link. link.is_open ≡ false)
+
 -- what ended one of the sessions of a run shows in its link; where they were released, in each
 abbrev pub SessionCause : Ended → Role → Settings → Seen → Seen → Type 0
 SessionCause Ended.Released role settings before after =
@@ -126,7 +132,8 @@ SendCause cause settings before after =
 
 -- a run of `send` that ended with a release sent all of these lines: the log of its link shows
 -- each, once and in order, where it is known; whatever ended it, the sender of these lines kept its
--- whole part there; and the peer refused nothing where that didn't end it, nor wherever was read
+-- whole part there, and had nothing to send where the settings ended it; no more was read than
+-- these allow; and the peer refused nothing where that didn't end it, nor wherever was read
 pub record SendsLines (cause : Ended) (settings : Settings) (lines : List (List ℕ))
     (before after : Seen) : Type 0 where
   pub all : cause ≡ Ended.Released
@@ -135,6 +142,9 @@ pub record SendsLines (cause : Ended) (settings : Settings) (lines : List (List 
       (λ link. WhereKnown (GoesUnrefused (terms_by Role.Initiator settings) cause) link.log)
   pub waits : EachOf before after
       (λ link. WhereKnown (ReadsOnlyGoing (terms_by Role.Initiator settings)) link.log)
+  pub bounded : EachOf before after (λ link. IsBounded (reads_of settings) link.log)
+  pub rested : EachOf before after (λ link. WhereKnown (λ log.
+      TellsIdle (sender_plan settings lines) cause (moments log)) link.log)
   pub each : EachOf before after
       (λ link. WhereKnown (EachEndOn (sender_plan settings lines) cause) link.log)
 
@@ -144,13 +154,23 @@ ListenCause cause settings before after =
     RunCause (Rose before.counts.accepts after.counts.accepts) settings.sessions cause Role.Listener
     settings before after
 
--- where the accepts and dials are known, there were no more than so many, and of each this holds
+-- a call that asked for a link gave one
+abbrev pub GaveLink : Asked → Type 0
+GaveLink asked = (link : ℕ) × (asked.link ≡ Some link)
+
+-- of calls that asked for links, the latest first, each gave one, but perhaps the latest
+abbrev pub GaveBefore : List Asked → Type 0
+GaveBefore [] = Unit {0}
+GaveBefore (latest ∷ earlier) = AllByRecursion GaveLink earlier
+
+-- where the accepts and dials are known, there were no more than so many, of each this holds, and
+-- none came after one that failed
 abbrev pub AsksOnly : (Ask → Type 0) → ℕ → Option (List Asked) → Option (List Asked) → Type 0
 AsksOnly P most None None = Unit {0}
 AsksOnly P most None (Some new) = ⊥
 AsksOnly P most (Some old) None = ⊥
 AsksOnly P most (Some old) (Some new) = (more : List Asked) × (new ≡ more ++ old)
-    × (length more ≤ most) × AllByRecursion (λ asked. P asked.ask) more
+    × (length more ≤ most) × AllByRecursion (λ asked. P asked.ask) more × GaveBefore more
 
 -- a dial of the host and the port of these settings
 abbrev pub IsDialOf : Settings → Ask → Type 0
@@ -165,7 +185,8 @@ IsAcceptOf settings ask = ask ≡ accept settings.port
 abbrev pub DialsOnce : Settings → Seen → Seen → Type 0
 DialsOnce settings before after = AsksOnly (IsDialOf settings) 1 before.asked after.asked
 
--- `listen` accepts on the port of its settings, at most as often as these say
+-- `listen` accepts on the port of its settings, at most as often as these say, and never after an
+-- accept that failed
 abbrev pub AcceptsAtMost : Settings → Seen → Seen → Type 0
 AcceptsAtMost settings before after =
     AsksOnly (IsAcceptOf settings) settings.sessions before.asked after.asked
@@ -173,12 +194,13 @@ AcceptsAtMost settings before after =
 -- ---- `send`
 
 -- a report of `send`, its status and its cause: its lines were those of the input, and its session
--- ended, with the last line or the record that is due, and after all lines where it was released;
--- or a line or a read stopped it, and no link was asked for
+-- ended, with the last line or the record that is due, none where memory ran out, and after all
+-- lines where it was released; or a line or a read stopped it, and no link was asked for
 pub data IsSendReport (settings : Settings) (old new : SourceState) (before after : Seen)
     (octets text : List ℕ) (status : ℕ) : Type 0 where
   over : HasEnded new → (lines : List (List ℕ)) → AreLines lines octets → (cause : Ended)
-      → cause ≢ Ended.WriteFault → SendCause cause settings before after
+      → cause ≢ Ended.WriteFault → (cause ≡ Ended.NoMemory → text ≡ [])
+      → SendCause cause settings before after
       → SendsLines cause settings lines before after → status ≡ ended_status cause
       → IsEnding settings.recording Role.Initiator before after status (ended_line cause) text
       → IsSendReport settings old new before after octets text status
@@ -187,18 +209,19 @@ pub data IsSendReport (settings : Settings) (old new : SourceState) (before afte
   unread_input : Rose old.faults new.faults → status ≡ 4 → text ≡ read_fault_line → after ≡ before
       → IsSendReport settings old new before after octets text status
 
--- the text begins the report of a status whose cause holds
+-- the text begins the report of a status whose cause holds, and something is due to be written
 pub record BeginsSendReport (settings : Settings) (old new : SourceState) (before after : Seen)
     (octets text : List ℕ) : Type 0 where
   pub status : ℕ
   pub others : List ℕ
+  pub some : text ++ others ≢ []
   pub report : IsSendReport settings old new before after octets (text ++ others) status
 
--- no link was asked for; or the lines of these octets were sent, as far as a session goes that
--- ended so
-abbrev pub KeepsInput : Settings → Seen → Seen → List ℕ → Type 0
-KeepsInput settings before after octets = (after ≡ before)
-    ⊎ (lines : List (List ℕ)) × AreLines lines octets
+-- no link was asked for; or the input has ended, and the lines of these octets, all of it, were
+-- sent, as far as a session goes that ended so
+abbrev pub KeepsInput : Settings → SourceState → Seen → Seen → List ℕ → Type 0
+KeepsInput settings new before after octets = (after ≡ before)
+    ⊎ HasEnded new × (lines : List (List ℕ)) × AreLines lines octets
     × (cause : Ended) × SendsLines cause settings lines before after
 
 -- what a run of `send` that ended so reports: a status with its report; 5, where a write failed; 7,
@@ -211,7 +234,8 @@ pub data Sent (settings : Settings) (before after : Seen) (status : ℕ) (run : 
       → Saw (BeginsSendReport settings run.source run.source_after before after) run
       → Sent settings before after status run
   send_starved : status ≡ 7
-      → Saw (λ octets text. (text ≡ []) × KeepsInput settings before after octets) run
+      → Saw (λ octets text.
+      (text ≡ []) × KeepsInput settings run.source_after before after octets) run
       → Sent settings before after status run
 
 -- ---- `listen`
@@ -229,9 +253,11 @@ pub data Listened (settings : Settings) (before after : Seen) (status : ℕ) (ru
 
 -- ---- last lines
 
--- a last line was written, and the status is its own; or its write failed, and the status is 5
+-- a last line was written, and the status is its own; or there is one, its write failed, and the
+-- status is 5
 pub data WritesLast (status : ℕ) (line : List ℕ) (result : ℕ) (old new : SinkState) : Type 0 where
   whole_line : result ≡ status → Appends old.written new.written line
       → WritesLast status line result old new
-  line_begun : result ≡ 5 → Rose old.faults new.faults → AppendsPrefix old.written new.written line
+  line_begun : result ≡ 5 → line ≢ [] → Rose old.faults new.faults
+      → AppendsPrefix old.written new.written line
       → WritesLast status line result old new

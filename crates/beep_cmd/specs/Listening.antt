@@ -11,11 +11,13 @@ use Rattle.beep_runs.specs.beep_wires.specs.States.{SinkState}
 use Rattle.beep_runs.specs.beep_journal.specs.declared.role.Role.{Role}
 use Rattle.beep_runs.specs.beep_settings.specs.declared.settings.Settings.{Settings}
 use Rattle.beep_runs.specs.beep_link.specs.declared.ended.Ended.{Ended}
-use Rattle.beep_runs.specs.beep_link.specs.Causes.{Seen, WhereKnown}
+use Rattle.beep_runs.specs.beep_link.specs.Causes.{IsWithin, Seen, WhereKnown}
 use Rattle.beep_runs.specs.beep_steps.specs.Refusing.{GoesUnrefused, ReadsOnlyGoing}
 use Rattle.beep_runs.specs.beep_steps.specs.EachEnd.{EachEndOn}
+use Rattle.beep_runs.specs.beep_steps.specs.Ends.{reads_of}
 use Rattle.beep_runs.specs.beep_steps.specs.Logs.{moments, Shows, terms_by}
-use Rattle.beep_runs.specs.beep_listener.specs.Listening.{is_whole, listener_plan, AreLinesOf}
+use Rattle.beep_runs.specs.beep_steps.specs.Resting.{TellsIdle}
+use Rattle.beep_runs.specs.beep_listener.specs.Listening.{is_whole, listener_plan, AreLinesOf, HasLinesOf, KeepsWhere}
 use Rattle.beep_cmd.specs.Ends.{ended_line, ended_status, ends_run, EachOf, WritesLast}
 
 -- ---- what ends a run
@@ -52,15 +54,20 @@ AreKnown before after =
     EachOf before after (λ link. (log : List Entry) × (link.log ≡ Some log))
 
 -- what was written of a session is the lines that its log shows, or a beginning of them where it
--- ended out of memory, by a refusal or by a fault of the output; what was sent in each life,
--- channel zero among them, is the beginning of its script; the peer refused nothing where that
--- didn't end it; and wherever was read the session went on, and the peer had refused nothing
+-- ended out of memory, by a refusal or by a fault of the output, which has the lines of the log
+-- before its latest read; what was sent in each life, channel zero among them, is the beginning of
+-- its script, and nothing of that was due where the settings ended it; no more was read than these
+-- allow; the peer refused nothing where that didn't end it; and wherever was read the session went
+-- on, and the peer had refused nothing
 pub record WritesOf (settings : Settings) (session : Session) (log : List Entry) : Type 0 where
   pub shows : Shows (terms_by Role.Listener settings) session.cause log
   pub lines : AreLinesOf (listener_plan settings) (is_whole session.cause) (moments log)
       session.text
+  pub flushed : KeepsWhere (HasLinesOf (listener_plan settings) session.text) session.cause log
   pub unrefused : GoesUnrefused (terms_by Role.Listener settings) session.cause log
   pub waits : ReadsOnlyGoing (terms_by Role.Listener settings) log
+  pub bounded : IsWithin (reads_of settings) log
+  pub rested : TellsIdle (listener_plan settings) session.cause (moments log)
   pub each : EachEndOn (listener_plan settings) session.cause log
 
 -- the sessions over the links from this number on up to another, the latest first

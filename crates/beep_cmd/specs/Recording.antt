@@ -5,10 +5,12 @@ use Rattle.std.specs.Io.KnownBytes.{Appends}
 use Rattle.beep_runs.specs.beep_journal.specs.declared.role.Role.{Role}
 use Rattle.beep_runs.specs.beep_wires.specs.States.{SinkState}
 use Rattle.beep_runs.specs.beep_link.specs.declared.ended.Ended.{Ended}
-use Rattle.beep_runs.specs.beep_link.specs.Causes.{Seen, WhereKnown}
+use Rattle.beep_runs.specs.beep_link.specs.Causes.{IsBounded, Seen, WhereKnown}
 use Rattle.beep_runs.specs.beep_steps.specs.EachEnd.{EachEndOn}
-use Rattle.beep_runs.specs.beep_steps.specs.Logs.{terms_by}
+use Rattle.beep_runs.specs.beep_steps.specs.Ends.{reads_of}
+use Rattle.beep_runs.specs.beep_steps.specs.Logs.{moments, terms_by}
 use Rattle.beep_runs.specs.beep_steps.specs.Refusing.{GoesUnrefused, ReadsOnlyGoing}
+use Rattle.beep_runs.specs.beep_steps.specs.Resting.{TellsIdle}
 use Rattle.beep_runs.specs.beep_listener.specs.Listening.{listener_plan}
 use Rattle.beep_runs.specs.beep_settings.specs.declared.settings.Settings.{Settings}
 use Rattle.beep_runs.specs.beep_wires.specs.Links.{Link}
@@ -58,13 +60,17 @@ SendRecorded settings lines before after status old new =
     × SendsLines cause settings lines before after) Role.Initiator before after status old new
 
 -- the log of each link shows, where it is known, that a listener kept its script, channel zero
--- among its channels, that the peer refused nothing where that didn't end the session, and that
--- wherever was read the session went on, and the peer had refused nothing
+-- among its channels, that nothing of that was due where the settings ended the session, that no
+-- more was read than these allow, that the peer refused nothing where that didn't end the session,
+-- and that wherever was read the session went on, and the peer had refused nothing
 pub record KeepsListening (cause : Ended) (settings : Settings) (before after : Seen) : Type 0 where
   pub unrefused : EachOf before after
       (λ link. WhereKnown (GoesUnrefused (terms_by Role.Listener settings) cause) link.log)
   pub waits : EachOf before after
       (λ link. WhereKnown (ReadsOnlyGoing (terms_by Role.Listener settings)) link.log)
+  pub bounded : EachOf before after (λ link. IsBounded (reads_of settings) link.log)
+  pub rested : EachOf before after (λ link. WhereKnown (λ log.
+      TellsIdle (listener_plan settings) cause (moments log)) link.log)
   pub each : EachOf before after
       (λ link. WhereKnown (EachEndOn (listener_plan settings) cause) link.log)
 

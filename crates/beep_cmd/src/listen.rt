@@ -4,7 +4,8 @@ ghost use Rattle.beep_runs.specs.beep_journal.specs.declared.role.Role.{Role as 
 ghost use Rattle.beep_runs.specs.beep_steps.specs.Ends.{AreFit};
 ghost use Rattle.beep_runs.specs.beep_link.specs.Causes.{IsWritten};
 ghost use Rattle.beep_runs.specs.beep_wires.specs.States.{SourceState};
-ghost use Rattle.beep_cmd.specs.Ends.{AcceptsAtMost, ends_run, ListenCause, Listened, seen_of, WritesLawfully};
+ghost use Rattle.beep_runs.specs.Runs.{seen_by};
+ghost use Rattle.beep_cmd.specs.Ends.{AcceptsAtMost, AreShut, ends_run, ListenCause, Listened, WritesLawfully};
 ghost use Rattle.beep_cmd.specs.Listening.{AreKnown, EndsBy, first_of, WritesLines};
 ghost use Rattle.beep_cmd.specs.Serving.{NotAccepted, Served, WritesSession, WritesSessions};
 ghost use Rattle.beep_cmd.specs.Recording.{ListenRecorded};
@@ -28,39 +29,22 @@ pub(crate) fn listen<O: Sink, W: Wires>(
 ) -> u8
     requires fit { AreFit settings.now }
     requires lone { settings.now.recording ≡ true → settings.now.sessions ≡ 1 }
-    ensures listened { (source : SourceState) → Listened settings.now
-        (seen_of (W.state wires.old) (W.counts wires.old)
-        (W.asked wires.old) (W.lent wires.old))
-        (seen_of (W.state wires.new) (W.counts wires.new)
-        (W.asked wires.new) (W.lent wires.new))
-        result (run_of source source (O.state output.old) (O.state output.new)) }
-    ensures lines { settings.now.recording ≡ false → AreKnown
-        (seen_of (W.state wires.old) (W.counts wires.old)
-        (W.asked wires.old) (W.lent wires.old))
-        (seen_of (W.state wires.new) (W.counts wires.new)
-        (W.asked wires.new) (W.lent wires.new))
-        → WritesLines settings.now
-        (seen_of (W.state wires.old) (W.counts wires.old)
-        (W.asked wires.old) (W.lent wires.old))
-        (seen_of (W.state wires.new) (W.counts wires.new)
-        (W.asked wires.new) (W.lent wires.new))
-        result (O.state output.old) (O.state output.new) }
-    ensures lawful { WritesLawfully RoleValue.Listener settings.now
-        (seen_of (W.state wires.old) (W.counts wires.old)
-        (W.asked wires.old) (W.lent wires.old))
-        (seen_of (W.state wires.new) (W.counts wires.new)
-        (W.asked wires.new) (W.lent wires.new)) }
-    ensures asks { AcceptsAtMost settings.now
-        (seen_of (W.state wires.old) (W.counts wires.old)
-        (W.asked wires.old) (W.lent wires.old))
-        (seen_of (W.state wires.new) (W.counts wires.new)
-        (W.asked wires.new) (W.lent wires.new)) }
-    ensures recorded { settings.now.recording ≡ true → ListenRecorded settings.now
-        (seen_of (W.state wires.old) (W.counts wires.old)
-        (W.asked wires.old) (W.lent wires.old))
-        (seen_of (W.state wires.new) (W.counts wires.new)
-        (W.asked wires.new) (W.lent wires.new))
-        result (O.state output.old) (O.state output.new) }
+    ensures listened { let seen = seen_by W.state W.counts W.asked W.lent in
+        (source : SourceState) → Listened settings.now (seen wires.old) (seen wires.new) result
+        (run_of source source (O.state output.old) (O.state output.new)) }
+    ensures lines { let seen = seen_by W.state W.counts W.asked W.lent in
+        settings.now.recording ≡ false → AreKnown (seen wires.old) (seen wires.new) → WritesLines
+        settings.now (seen wires.old) (seen wires.new) result (O.state output.old)
+        (O.state output.new) }
+    ensures lawful { let seen = seen_by W.state W.counts W.asked W.lent in
+        WritesLawfully RoleValue.Listener settings.now (seen wires.old) (seen wires.new) }
+    ensures shut { let seen = seen_by W.state W.counts W.asked W.lent in
+        AreShut (seen wires.old) (seen wires.new) }
+    ensures asks { let seen = seen_by W.state W.counts W.asked W.lent in
+        AcceptsAtMost settings.now (seen wires.old) (seen wires.new) }
+    ensures recorded { let seen = seen_by W.state W.counts W.asked W.lent in
+        settings.now.recording ≡ true → ListenRecorded settings.now (seen wires.old)
+        (seen wires.new) result (O.state output.old) (O.state output.new) }
 {
     let mut last = Octets::new(alloc);
     let Ok(()) = last.reserve(LAST_ROOM) else {
@@ -81,37 +65,18 @@ fn listen_all<O: Sink, W: Wires>(
     wires: &mut W,
 ) -> Ended
     requires fit { AreFit settings.now }
-    ensures caused { ListenCause result settings.now
-        (seen_of (W.state wires.old) (W.counts wires.old)
-        (W.asked wires.old) (W.lent wires.old))
-        (seen_of (W.state wires.new) (W.counts wires.new)
-        (W.asked wires.new) (W.lent wires.new)) }
-    ensures lines { AreKnown
-        (seen_of (W.state wires.old) (W.counts wires.old)
-        (W.asked wires.old) (W.lent wires.old))
-        (seen_of (W.state wires.new) (W.counts wires.new)
-        (W.asked wires.new) (W.lent wires.new))
-        → WritesSessions settings.now
-        (seen_of (W.state wires.old) (W.counts wires.old)
-        (W.asked wires.old) (W.lent wires.old))
-        (seen_of (W.state wires.new) (W.counts wires.new)
-        (W.asked wires.new) (W.lent wires.new))
-        (EndsBy settings.now
-        (seen_of (W.state wires.old) (W.counts wires.old)
-        (W.asked wires.old) (W.lent wires.old))
-        (seen_of (W.state wires.new) (W.counts wires.new)
-        (W.asked wires.new) (W.lent wires.new)) result)
+    ensures caused { let seen = seen_by W.state W.counts W.asked W.lent in
+        ListenCause result settings.now (seen wires.old) (seen wires.new) }
+    ensures lines { let seen = seen_by W.state W.counts W.asked W.lent in
+        AreKnown (seen wires.old) (seen wires.new) → WritesSessions settings.now (seen wires.old)
+        (seen wires.new) (EndsBy settings.now (seen wires.old) (seen wires.new) result)
         (O.state output.old).written (O.state output.new).written }
-    ensures lawful { WritesLawfully RoleValue.Listener settings.now
-        (seen_of (W.state wires.old) (W.counts wires.old)
-        (W.asked wires.old) (W.lent wires.old))
-        (seen_of (W.state wires.new) (W.counts wires.new)
-        (W.asked wires.new) (W.lent wires.new)) }
-    ensures asks { AcceptsAtMost settings.now
-        (seen_of (W.state wires.old) (W.counts wires.old)
-        (W.asked wires.old) (W.lent wires.old))
-        (seen_of (W.state wires.new) (W.counts wires.new)
-        (W.asked wires.new) (W.lent wires.new)) }
+    ensures lawful { let seen = seen_by W.state W.counts W.asked W.lent in
+        WritesLawfully RoleValue.Listener settings.now (seen wires.old) (seen wires.new) }
+    ensures shut { let seen = seen_by W.state W.counts W.asked W.lent in
+        AreShut (seen wires.old) (seen wires.new) }
+    ensures asks { let seen = seen_by W.state W.counts W.asked W.lent in
+        AcceptsAtMost settings.now (seen wires.old) (seen wires.new) }
     ensures written { IsWritten result (O.state output.old).faults (O.state output.new).faults }
     ensures kept { (O.state output.old).faults ≤ (O.state output.new).faults }
 {
@@ -138,33 +103,19 @@ fn listen_once<O: Sink, W: Wires>(
     wires: &mut W,
 ) -> Result<Ended, Ended>
     requires fit { AreFit settings.now }
-    ensures served { IfOk result (λ ended. Served ended settings.now
-        (seen_of (W.state wires.old) (W.counts wires.old)
-        (W.asked wires.old) (W.lent wires.old))
-        (seen_of (W.state wires.new) (W.counts wires.new)
-        (W.asked wires.new) (W.lent wires.new))) }
-    ensures failed { IfErr result (λ ended. NotAccepted ended settings.now
-        (seen_of (W.state wires.old) (W.counts wires.old)
-        (W.asked wires.old) (W.lent wires.old))
-        (seen_of (W.state wires.new) (W.counts wires.new)
-        (W.asked wires.new) (W.lent wires.new))) }
-    ensures lines { IfOk result (λ ended. AreKnown
-        (seen_of (W.state wires.old) (W.counts wires.old)
-        (W.asked wires.old) (W.lent wires.old))
-        (seen_of (W.state wires.new) (W.counts wires.new)
-        (W.asked wires.new) (W.lent wires.new))
-        → WritesSession settings.now ended
-        (seen_of (W.state wires.old) (W.counts wires.old)
-        (W.asked wires.old) (W.lent wires.old))
-        (seen_of (W.state wires.new) (W.counts wires.new)
-        (W.asked wires.new) (W.lent wires.new))
-        (O.state output.old).written (O.state output.new).written) }
+    ensures served { let seen = seen_by W.state W.counts W.asked W.lent in
+        IfOk result (λ ended. Served ended settings.now (seen wires.old) (seen wires.new)) }
+    ensures failed { let seen = seen_by W.state W.counts W.asked W.lent in
+        IfErr result (λ ended. NotAccepted ended settings.now (seen wires.old) (seen wires.new)) }
+    ensures lines { let seen = seen_by W.state W.counts W.asked W.lent in
+        IfOk result (λ ended. AreKnown (seen wires.old) (seen wires.new) → WritesSession
+        settings.now ended (seen wires.old) (seen wires.new) (O.state output.old).written
+        (O.state output.new).written) }
     ensures same_output { IfErr result (λ ended. output.new ≡ output.old) }
-    ensures lawful { WritesLawfully RoleValue.Listener settings.now
-        (seen_of (W.state wires.old) (W.counts wires.old)
-        (W.asked wires.old) (W.lent wires.old))
-        (seen_of (W.state wires.new) (W.counts wires.new)
-        (W.asked wires.new) (W.lent wires.new)) }
+    ensures lawful { let seen = seen_by W.state W.counts W.asked W.lent in
+        WritesLawfully RoleValue.Listener settings.now (seen wires.old) (seen wires.new) }
+    ensures shut { let seen = seen_by W.state W.counts W.asked W.lent in
+        AreShut (seen wires.old) (seen wires.new) }
     ensures written { IfOk result (λ ended.
         IsWritten ended (O.state output.old).faults (O.state output.new).faults) }
     ensures kept { (O.state output.old).faults ≤ (O.state output.new).faults }

@@ -7,7 +7,8 @@ ghost use Rattle.beep_runs.specs.beep_wires.specs.Links.{Link};
 ghost use Rattle.beep_runs.specs.beep_record.specs.declared.limits.TheConstants.{MAX_STATUS};
 ghost use Rattle.beep_runs.specs.beep_recorder.specs.Kept.{RecordsLink};
 ghost use Rattle.beep_runs.specs.beep_steps.specs.Resting.{AreShort};
-ghost use Rattle.beep_cmd.specs.Ends.{AcceptsAtMost, DialsOnce, ended_status, ListenCause, seen_of, WritesLawfully};
+ghost use Rattle.beep_runs.specs.Runs.{seen_by};
+ghost use Rattle.beep_cmd.specs.Ends.{AcceptsAtMost, AreShut, DialsOnce, ended_status, ListenCause, WritesLawfully};
 ghost use Rattle.beep_cmd.specs.Recording.{ListenRecorded, SendRecorded, TellsRecord, TellsWhole};
 
 use crate::closing::{finish, tell};
@@ -32,22 +33,15 @@ pub(crate) fn record_send<O: Sink, W: Wires>(
     requires fit { AreFit settings.now }
     requires empty { last.old.octets ≡ [] }
     requires room { LAST_ROOM ≤ last.old.spare }
-    ensures recorded { AreShort lines.now → SendRecorded settings.now lines.now
-        (seen_of (W.state wires.old) (W.counts wires.old)
-        (W.asked wires.old) (W.lent wires.old))
-        (seen_of (W.state wires.new) (W.counts wires.new)
-        (W.asked wires.new) (W.lent wires.new))
+    ensures recorded { let seen = seen_by W.state W.counts W.asked W.lent in
+        AreShort lines.now → SendRecorded settings.now lines.now (seen wires.old) (seen wires.new)
         result (O.state output.old) (O.state output.new) }
-    ensures lawful { WritesLawfully RoleValue.Initiator settings.now
-        (seen_of (W.state wires.old) (W.counts wires.old)
-        (W.asked wires.old) (W.lent wires.old))
-        (seen_of (W.state wires.new) (W.counts wires.new)
-        (W.asked wires.new) (W.lent wires.new)) }
-    ensures asks { DialsOnce settings.now
-        (seen_of (W.state wires.old) (W.counts wires.old)
-        (W.asked wires.old) (W.lent wires.old))
-        (seen_of (W.state wires.new) (W.counts wires.new)
-        (W.asked wires.new) (W.lent wires.new)) }
+    ensures lawful { let seen = seen_by W.state W.counts W.asked W.lent in
+        WritesLawfully RoleValue.Initiator settings.now (seen wires.old) (seen wires.new) }
+    ensures shut { let seen = seen_by W.state W.counts W.asked W.lent in
+        AreShut (seen wires.old) (seen wires.new) }
+    ensures asks { let seen = seen_by W.state W.counts W.asked W.lent in
+        DialsOnce settings.now (seen wires.old) (seen wires.new) }
 {
     let mut out = Octets::new(alloc);
     match send_recorded(alloc, settings, lines, wires, &mut out) {
@@ -68,22 +62,15 @@ pub(crate) fn record_listen<O: Sink, W: Wires>(
     requires one { settings.now.sessions ≡ 1 }
     requires empty { last.old.octets ≡ [] }
     requires room { LAST_ROOM ≤ last.old.spare }
-    ensures recorded { ListenRecorded settings.now
-        (seen_of (W.state wires.old) (W.counts wires.old)
-        (W.asked wires.old) (W.lent wires.old))
-        (seen_of (W.state wires.new) (W.counts wires.new)
-        (W.asked wires.new) (W.lent wires.new))
-        result (O.state output.old) (O.state output.new) }
-    ensures lawful { WritesLawfully RoleValue.Listener settings.now
-        (seen_of (W.state wires.old) (W.counts wires.old)
-        (W.asked wires.old) (W.lent wires.old))
-        (seen_of (W.state wires.new) (W.counts wires.new)
-        (W.asked wires.new) (W.lent wires.new)) }
-    ensures asks { AcceptsAtMost settings.now
-        (seen_of (W.state wires.old) (W.counts wires.old)
-        (W.asked wires.old) (W.lent wires.old))
-        (seen_of (W.state wires.new) (W.counts wires.new)
-        (W.asked wires.new) (W.lent wires.new)) }
+    ensures recorded { let seen = seen_by W.state W.counts W.asked W.lent in
+        ListenRecorded settings.now (seen wires.old) (seen wires.new) result (O.state output.old)
+        (O.state output.new) }
+    ensures lawful { let seen = seen_by W.state W.counts W.asked W.lent in
+        WritesLawfully RoleValue.Listener settings.now (seen wires.old) (seen wires.new) }
+    ensures shut { let seen = seen_by W.state W.counts W.asked W.lent in
+        AreShut (seen wires.old) (seen wires.new) }
+    ensures asks { let seen = seen_by W.state W.counts W.asked W.lent in
+        AcceptsAtMost settings.now (seen wires.old) (seen wires.new) }
 {
     let mut out = Octets::new(alloc);
     match listen_recorded(alloc, settings, wires, &mut out) {

@@ -6,11 +6,12 @@ ghost use Rattle.beep_show.specs.beep_words.specs.declared.command.PairSettings.
 ghost use Rattle.beep_runs.specs.beep_settings.specs.declared.settings.Settings.{Settings as end_settings};
 ghost use Rattle.beep_show.specs.beep_input.specs.declared.whole.TheConstants.{MAX_INPUT};
 ghost use Rattle.beep_runs.specs.beep_journal.specs.declared.role.Role.{Role as RoleValue};
+ghost use Rattle.beep_runs.specs.Runs.{seen_by};
 ghost use Rattle.beep_runs.specs.beep_wires.specs.States.{SourceState};
 ghost use Rattle.beep_show.specs.Show.{Shown, Refused, IsPlain, NoFault, run_of};
 ghost use Rattle.beep_cmd.specs.Replay.{Replayed, IsLawful};
 ghost use Rattle.beep_cmd.specs.Pair.{Paired, IsRunnable};
-ghost use Rattle.beep_cmd.specs.Ends.{AcceptsAtMost, DialsOnce, Listened, seen_of, Sent, WritesLawfully};
+ghost use Rattle.beep_cmd.specs.Ends.{AcceptsAtMost, AreShut, DialsOnce, Listened, Sent, WritesLawfully};
 ghost use Rattle.beep_cmd.specs.Listening.{AreKnown, WritesLines};
 ghost use Rattle.beep_cmd.specs.Recording.{ListenRecorded};
 
@@ -54,29 +55,23 @@ pub fn beep_run<I: Source, O: Sink, W: Wires>(
         → NoFault (run_of (I.state input.old) (I.state input.new)
         (O.state output.old) (O.state output.new)) → (result ≡ 0) ⊎ (result ≡ 7) }
 
-    ensures sent { (settings : end_settings) → IsSend settings (map string_bytes words.now)
-        → Sent settings (seen_of (W.state wires.old) (W.counts wires.old)
-        (W.asked wires.old) (W.lent wires.old)) (seen_of (W.state wires.new) (W.counts wires.new)
-        (W.asked wires.new) (W.lent wires.new)) result (run_of (I.state input.old)
+    ensures sent { let seen = seen_by W.state W.counts W.asked W.lent in
+        (settings : end_settings) → IsSend settings (map string_bytes words.now) → Sent settings
+        (seen wires.old) (seen wires.new) result (run_of (I.state input.old) (I.state input.new)
+        (O.state output.old) (O.state output.new)) }
+    ensures listened { let seen = seen_by W.state W.counts W.asked W.lent in
+        (settings : end_settings) → IsListen settings (map string_bytes words.now) → Listened
+        settings (seen wires.old) (seen wires.new) result (run_of (I.state input.old)
         (I.state input.new) (O.state output.old) (O.state output.new)) }
-    ensures listened { (settings : end_settings) → IsListen settings (map string_bytes words.now)
-        → Listened settings (seen_of (W.state wires.old) (W.counts wires.old)
-        (W.asked wires.old) (W.lent wires.old)) (seen_of (W.state wires.new) (W.counts wires.new)
-        (W.asked wires.new) (W.lent wires.new)) result (run_of (I.state input.old)
-        (I.state input.new) (O.state output.old) (O.state output.new)) }
-    ensures listen_recorded { (settings : end_settings)
-        → IsListen settings (map string_bytes words.now) → settings.recording ≡ true
-        → ListenRecorded settings (seen_of (W.state wires.old) (W.counts wires.old)
-        (W.asked wires.old) (W.lent wires.old)) (seen_of (W.state wires.new) (W.counts wires.new)
-        (W.asked wires.new) (W.lent wires.new)) result (O.state output.old) (O.state output.new) }
-    ensures listen_lines { (settings : end_settings)
-        → IsListen settings (map string_bytes words.now) → settings.recording ≡ false
-        → AreKnown (seen_of (W.state wires.old) (W.counts wires.old)
-        (W.asked wires.old) (W.lent wires.old)) (seen_of (W.state wires.new) (W.counts wires.new)
-        (W.asked wires.new) (W.lent wires.new))
-        → WritesLines settings (seen_of (W.state wires.old) (W.counts wires.old)
-        (W.asked wires.old) (W.lent wires.old)) (seen_of (W.state wires.new) (W.counts wires.new)
-        (W.asked wires.new) (W.lent wires.new)) result (O.state output.old) (O.state output.new) }
+    ensures listen_recorded { let seen = seen_by W.state W.counts W.asked W.lent in
+        (settings : end_settings) → IsListen settings (map string_bytes words.now)
+        → settings.recording ≡ true → ListenRecorded settings (seen wires.old) (seen wires.new)
+        result (O.state output.old) (O.state output.new) }
+    ensures listen_lines { let seen = seen_by W.state W.counts W.asked W.lent in
+        (settings : end_settings) → IsListen settings (map string_bytes words.now)
+        → settings.recording ≡ false → AreKnown (seen wires.old) (seen wires.new) → WritesLines
+        settings (seen wires.old) (seen wires.new) result (O.state output.old)
+        (O.state output.new) }
     ensures paired { (settings : pair_settings) → IsPair settings (map string_bytes words.now)
         → Paired settings result (run_of (I.state input.old) (I.state input.new)
         (O.state output.old) (O.state output.new)) }
@@ -88,27 +83,24 @@ pub fn beep_run<I: Source, O: Sink, W: Wires>(
     ensures usage { result ≡ 1 → IsNoCommand (map string_bytes words.now) }
 
     // What is written on each link that was given is lawful, where its log is known.
-    ensures send_lawful { (settings : end_settings) → IsSend settings (map string_bytes words.now)
-        → WritesLawfully RoleValue.Initiator settings (seen_of (W.state wires.old)
-        (W.counts wires.old) (W.asked wires.old) (W.lent wires.old))
-        (seen_of (W.state wires.new) (W.counts wires.new) (W.asked wires.new)
-        (W.lent wires.new)) }
-    ensures listen_lawful { (settings : end_settings)
-        → IsListen settings (map string_bytes words.now)
-        → WritesLawfully RoleValue.Listener settings (seen_of (W.state wires.old)
-        (W.counts wires.old) (W.asked wires.old) (W.lent wires.old))
-        (seen_of (W.state wires.new) (W.counts wires.new) (W.asked wires.new)
-        (W.lent wires.new)) }
+    ensures send_lawful { let seen = seen_by W.state W.counts W.asked W.lent in
+        (settings : end_settings) → IsSend settings (map string_bytes words.now) → WritesLawfully
+        RoleValue.Initiator settings (seen wires.old) (seen wires.new) }
+    ensures listen_lawful { let seen = seen_by W.state W.counts W.asked W.lent in
+        (settings : end_settings) → IsListen settings (map string_bytes words.now) → WritesLawfully
+        RoleValue.Listener settings (seen wires.old) (seen wires.new) }
 
     // What is asked for.
-    ensures dials { (settings : end_settings) → IsSend settings (map string_bytes words.now)
-        → DialsOnce settings (seen_of (W.state wires.old) (W.counts wires.old)
-        (W.asked wires.old) (W.lent wires.old)) (seen_of (W.state wires.new) (W.counts wires.new)
-        (W.asked wires.new) (W.lent wires.new)) }
-    ensures accepts { (settings : end_settings) → IsListen settings (map string_bytes words.now)
-        → AcceptsAtMost settings (seen_of (W.state wires.old) (W.counts wires.old)
-        (W.asked wires.old) (W.lent wires.old)) (seen_of (W.state wires.new) (W.counts wires.new)
-        (W.asked wires.new) (W.lent wires.new)) }
+    ensures dials { let seen = seen_by W.state W.counts W.asked W.lent in
+        (settings : end_settings) → IsSend settings (map string_bytes words.now) → DialsOnce
+        settings (seen wires.old) (seen wires.new) }
+    ensures accepts { let seen = seen_by W.state W.counts W.asked W.lent in
+        (settings : end_settings) → IsListen settings (map string_bytes words.now) → AcceptsAtMost
+        settings (seen wires.old) (seen wires.new) }
+
+    // Each link that was given is shut.
+    ensures shut { let seen = seen_by W.state W.counts W.asked W.lent in
+        AreShut (seen wires.old) (seen wires.new) }
 
     // What stays.
     ensures unread { IsNoCommand (map string_bytes words.now) → input.new ≡ input.old }

@@ -5,7 +5,8 @@ ghost use Rattle.beep_runs.specs.beep_steps.specs.Ends.{AreFit};
 ghost use Rattle.beep_show.specs.beep_input.specs.declared.whole.TheConstants.{MAX_INPUT};
 ghost use Rattle.beep_runs.specs.beep_link.specs.declared.ended.Ended.{Ended as EndedValue};
 ghost use Rattle.beep_runs.specs.beep_steps.specs.Resting.{AreShort};
-ghost use Rattle.beep_cmd.specs.Ends.{DialsOnce, seen_of, SendCause, SendsLines, Sent, WritesLawfully};
+ghost use Rattle.beep_runs.specs.Runs.{seen_by};
+ghost use Rattle.beep_cmd.specs.Ends.{AreShut, DialsOnce, SendCause, SendsLines, Sent, WritesLawfully};
 ghost use Rattle.beep_show.specs.Show.{run_of};
 
 use crate::closing::{finish, finish_unlisted};
@@ -29,23 +30,15 @@ pub(crate) fn send<I: Source, O: Sink, W: Wires>(
 ) -> u8
     requires fit { AreFit settings.now }
     requires going { (I.state input.old).ended ≡ false }
-    ensures sent { Sent settings.now
-        (seen_of (W.state wires.old) (W.counts wires.old)
-        (W.asked wires.old) (W.lent wires.old))
-        (seen_of (W.state wires.new) (W.counts wires.new)
-        (W.asked wires.new) (W.lent wires.new))
-        result (run_of (I.state input.old) (I.state input.new)
-        (O.state output.old) (O.state output.new)) }
-    ensures lawful { WritesLawfully RoleValue.Initiator settings.now
-        (seen_of (W.state wires.old) (W.counts wires.old)
-        (W.asked wires.old) (W.lent wires.old))
-        (seen_of (W.state wires.new) (W.counts wires.new)
-        (W.asked wires.new) (W.lent wires.new)) }
-    ensures asks { DialsOnce settings.now
-        (seen_of (W.state wires.old) (W.counts wires.old)
-        (W.asked wires.old) (W.lent wires.old))
-        (seen_of (W.state wires.new) (W.counts wires.new)
-        (W.asked wires.new) (W.lent wires.new)) }
+    ensures sent { let seen = seen_by W.state W.counts W.asked W.lent in
+        Sent settings.now (seen wires.old) (seen wires.new) result (run_of (I.state input.old)
+        (I.state input.new) (O.state output.old) (O.state output.new)) }
+    ensures lawful { let seen = seen_by W.state W.counts W.asked W.lent in
+        WritesLawfully RoleValue.Initiator settings.now (seen wires.old) (seen wires.new) }
+    ensures shut { let seen = seen_by W.state W.counts W.asked W.lent in
+        AreShut (seen wires.old) (seen wires.new) }
+    ensures asks { let seen = seen_by W.state W.counts W.asked W.lent in
+        DialsOnce settings.now (seen wires.old) (seen wires.new) }
     ensures reads { (I.state input.new).reads ≤ (I.state input.old).reads + (MAX_INPUT + 1) }
 {
     let mut last = Octets::new(alloc);
@@ -68,26 +61,17 @@ pub(crate) fn send<I: Source, O: Sink, W: Wires>(
 fn send_lines<W: Wires>(alloc: Global, settings: &Settings, lines: &Entries, wires: &mut W) -> Ended
     requires fit { AreFit settings.now }
     ensures unwritten { result ≢ EndedValue.WriteFault }
-    ensures caused { SendCause result settings.now
-        (seen_of (W.state wires.old) (W.counts wires.old)
-        (W.asked wires.old) (W.lent wires.old))
-        (seen_of (W.state wires.new) (W.counts wires.new)
-        (W.asked wires.new) (W.lent wires.new)) }
-    ensures sent { AreShort lines.now → SendsLines result settings.now lines.now
-        (seen_of (W.state wires.old) (W.counts wires.old)
-        (W.asked wires.old) (W.lent wires.old))
-        (seen_of (W.state wires.new) (W.counts wires.new)
-        (W.asked wires.new) (W.lent wires.new)) }
-    ensures lawful { WritesLawfully RoleValue.Initiator settings.now
-        (seen_of (W.state wires.old) (W.counts wires.old)
-        (W.asked wires.old) (W.lent wires.old))
-        (seen_of (W.state wires.new) (W.counts wires.new)
-        (W.asked wires.new) (W.lent wires.new)) }
-    ensures asks { DialsOnce settings.now
-        (seen_of (W.state wires.old) (W.counts wires.old)
-        (W.asked wires.old) (W.lent wires.old))
-        (seen_of (W.state wires.new) (W.counts wires.new)
-        (W.asked wires.new) (W.lent wires.new)) }
+    ensures caused { let seen = seen_by W.state W.counts W.asked W.lent in
+        SendCause result settings.now (seen wires.old) (seen wires.new) }
+    ensures sent { let seen = seen_by W.state W.counts W.asked W.lent in
+        AreShort lines.now → SendsLines result settings.now lines.now (seen wires.old)
+        (seen wires.new) }
+    ensures lawful { let seen = seen_by W.state W.counts W.asked W.lent in
+        WritesLawfully RoleValue.Initiator settings.now (seen wires.old) (seen wires.new) }
+    ensures shut { let seen = seen_by W.state W.counts W.asked W.lent in
+        AreShut (seen wires.old) (seen wires.new) }
+    ensures asks { let seen = seen_by W.state W.counts W.asked W.lent in
+        DialsOnce settings.now (seen wires.old) (seen wires.new) }
 {
     let link = match wires.dial(settings.host.as_str(), settings.port) {
         Ok(link) => link,

@@ -6,18 +6,23 @@ use Rattle.beep_runs.specs.beep_steps.specs.Logs.{IsLawfulOn, terms_by}
 use Rattle.beep_cmd.specs.Ends.{ends_run, IsAcceptOf, SessionCause, seen_of}
 use Rattle.beep_cmd.proofs.EndsLemmas.{rose_later}
 use Rattle.beep_cmd.proofs.ListenLemmas.{all_lines, lines_ended, lines_further, lines_unlinked, known_after, known_before}
-use Rattle.beep_cmd.proofs.ServingLemmas.{asks_fewer, asks_more, each_joined, joined_cause, first_goes, goes_further}
+use Rattle.beep_cmd.proofs.ServingLemmas.{asks_fewer, asks_then, gave_more, gave_only, each_joined, joined_cause, first_goes, goes_further}
 use Rattle.beep_cmd.proofs.listen.listen_all.Goals as goal
 
 pub returns-then-ends_run-clause-asks : goal.returns-then-ends_run-clause-asks
 returns-then-ends_run-clause-asks g c =
     let P = IsAcceptOf c.args.settings.now in
-    asks_fewer P (c.loop.counter + 1) c.args.settings.now.sessions _ _ (omega (arith, c.loop-test.true)) (asks_more P c.loop.counter 1 _ _ _ c.loop.invariant.asks c.in-Ok.ensures.served.asks)
+    asks_fewer P (c.loop.counter + 1) c.args.settings.now.sessions _ _ (omega (arith, c.loop-test.true)) (gave_only P (c.loop.counter + 1) _ _ (gave_more P c.loop.counter 1 _ _ _ c.loop.invariant.asks c.in-Ok.ensures.served.asks))
 
 pub returns-in-Err-clause-asks : goal.returns-in-Err-clause-asks
 returns-in-Err-clause-asks g c =
     let P = IsAcceptOf c.args.settings.now in
-    asks_fewer P (c.loop.counter + 1) c.args.settings.now.sessions _ _ (omega (arith, c.loop-test.true)) (asks_more P c.loop.counter 1 _ _ _ c.loop.invariant.asks c.in-Err.ensures.failed.asks)
+    asks_fewer P (c.loop.counter + 1) c.args.settings.now.sessions _ _ (omega (arith, c.loop-test.true)) (asks_then P c.loop.counter 1 _ _ _ c.loop.invariant.asks c.in-Err.ensures.failed.asks)
+
+pub returns-clause-asks : goal.returns-clause-asks
+returns-clause-asks g c =
+    let P = IsAcceptOf c.args.settings.now in
+    asks_fewer P c.loop.counter c.args.settings.now.sessions _ _ (omega (arith, c.loop.invariant.given, c.loop-test.false)) (gave_only P c.loop.counter _ _ c.loop.invariant.asks)
 
 pub returns-then-ends_run-clause-lines : goal.returns-then-ends_run-clause-lines
 returns-then-ends_run-clause-lines g c = λ known.
@@ -71,9 +76,10 @@ loop-preserved g c =
       cause = subst (λ (e : Ended). SessionCause e Role.Listener settings before after) (sym c.first_of-first.ensures)
           (joined_cause before mid after i.goes_on s.goes_on Role.Listener settings c.loop.first c.in-Ok.ended i.cause s.cause_is);
       lawful = each_joined before mid after i.goes_on s.goes_on (λ link. WhereKnown (IsLawfulOn (terms_by Role.Listener settings)) link.log) i.lawful c.in-Ok.ensures.lawful;
+      shut = each_joined before mid after i.goes_on s.goes_on (λ link. link.is_open ≡ false) i.shut c.in-Ok.ensures.shut;
       goes = ap ends_run c.first_of-first.ensures ∙ first_goes c.loop.first c.in-Ok.ended i.goes goes;
       lines = λ known. lines_further settings before mid after c.loop.first c.in-Ok.ended (g.O.Sink.state c.args.output.now).written (g.O.Sink.state c.loop.output).written (g.O.Sink.state c.listen_once.new.output).written i.goes s.goes_on
           (i.lines (known_before before mid after s.goes_on known)) s.one (c.in-Ok.ensures.lines (known_after before mid after i.goes_on.given known)) c.first_of-first.result c.first_of-first.ensures goes;
-      asks = asks_more (IsAcceptOf settings) c.loop.counter 1 before.asked mid.asked after.asked i.asks s.asks;
+      asks = gave_more (IsAcceptOf settings) c.loop.counter 1 before.asked mid.asked after.asked i.asks s.asks;
       kept = omega (arith, i.kept, c.in-Ok.ensures.kept);
     }

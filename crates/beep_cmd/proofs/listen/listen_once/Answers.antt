@@ -17,4 +17,4 @@ returns-clause-lines g c = λ known.
     let e = c.listen_end-ended.ensures in
     let s = c.shut.ensures in
     let one : after.counts.given ≡ before.counts.given + 1 = ap (λ (k : Counts). k.given) s.same_counts ∙ e.keeps.given ∙ i.given in
-    session_lines c.args.settings.now c.listen_end-ended.result before used after c.in-Ok.link i.number one s.shut (O.state c.args.output.now).written (O.state c.listen_end-ended.new.output).written e.shown e.lines e.unrefused e.waits e.each known
+    session_lines c.args.settings.now c.listen_end-ended.result before used after c.in-Ok.link i.number one s.shut (O.state c.args.output.now).written (O.state c.listen_end-ended.new.output).written e.lines e.flushed e.shown e.unrefused e.waits e.bounded e.rested e.each known

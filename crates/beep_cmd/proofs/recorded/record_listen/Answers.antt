@@ -17,7 +17,7 @@ returns-in-Ok-clause-recorded g c =
     let cause = c.in-Ok.ended in
     let r = c.in-Ok.ensures.ran in
     let empty : c.new-out.result.octets ≡ [] = search rules in
-    ends_recorded (λ cause. ListenCause cause settings before after × KeepsListening cause settings before after) Role.Listener before after c.tell_record.result (O.state c.args.output.now) (O.state c.tell_record.new.output) cause c.in-Ok.ensures.unwritten (listen_caused settings cause before after c.requires.one r, listen_keeps settings cause before after r.given c.in-Ok.ensures.listened) r.given
+    ends_recorded (λ cause. ListenCause cause settings before after × KeepsListening cause settings before after) Role.Listener before after c.tell_record.result (O.state c.args.output.now) (O.state c.tell_record.new.output) cause c.in-Ok.ensures.unwritten (listen_caused settings cause before after c.requires.one r, listen_keeps settings cause before after r c.in-Ok.ensures.listened) r.given
     (c.tell_record.ensures Role.Listener (after.state before.counts.given) (record_is Role.Listener cause before after c.new-out.result.octets c.listen_recorded.new.out.octets empty c.in-Ok.ensures.recorded))
 
 pub returns-clause-recorded : goal.returns-clause-recorded

@@ -16,7 +16,7 @@ returns-in-Ok-clause-recorded g c short =
     let cause = c.in-Ok.ended in
     let r = c.in-Ok.ensures.ran in
     let empty : c.new-out.result.octets ≡ [] = search rules in
-    ends_recorded (λ cause. SendCause cause settings before after × SendsLines cause settings c.args.lines.now before after) Role.Initiator before after c.tell_record.result (O.state c.args.output.now) (O.state c.tell_record.new.output) cause c.in-Ok.ensures.unwritten (send_caused settings cause before after r, send_sends settings c.args.lines.now cause before after r.given short c.in-Ok.ensures.sent) r.given
+    ends_recorded (λ cause. SendCause cause settings before after × SendsLines cause settings c.args.lines.now before after) Role.Initiator before after c.tell_record.result (O.state c.args.output.now) (O.state c.tell_record.new.output) cause c.in-Ok.ensures.unwritten (send_caused settings cause before after r, send_sends settings c.args.lines.now cause before after r short c.in-Ok.ensures.sent) r.given
     (c.tell_record.ensures Role.Initiator (after.state before.counts.given) (record_is Role.Initiator cause before after c.new-out.result.octets c.send_recorded.new.out.octets empty c.in-Ok.ensures.recorded))
 
 pub returns-clause-recorded : goal.returns-clause-recorded

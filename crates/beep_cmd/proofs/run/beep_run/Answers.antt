@@ -26,7 +26,7 @@ use Rattle.beep_cmd.proofs.JudgeLemmas.{lawful}
 use Rattle.beep_cmd.proofs.ListenLemmas.{none_written}
 use Rattle.beep_cmd.proofs.PairLemmas.{runnable_complete, usable_limits}
 use Rattle.beep_cmd.proofs.RecordedLemmas.{unlinked_keeps}
-use Rattle.beep_cmd.proofs.ServingLemmas.{asks_none, each_none}
+use Rattle.beep_cmd.proofs.ServingLemmas.{asks_none, each_none, none_shut}
 use Rattle.beep_cmd.proofs.StatusLemmas.{listened_not, paired_not, replayed_not, sent_not, shown_not}
 use Rattle.beep_cmd.proofs.run.beep_run.Goals as goal
 
@@ -83,6 +83,7 @@ returns-in-Ok-Some-Show g c =
       listen_lawful = λ settings w. absurd (other_listen settings w);
       dials = λ settings w. absurd (other_send settings w);
       accepts = λ settings w. absurd (other_listen settings w);
+      shut = none_shut (seen_of (g.W.Wires.state c.args.wires.now) (g.W.Wires.counts c.args.wires.now) (g.W.Wires.asked c.args.wires.now) (g.W.Wires.lent c.args.wires.now));
       unread = λ none. absurd (some none);
       unlinked = λ settings w. refl;
       listen_unread = λ settings w. absurd (other_listen settings w);
@@ -124,6 +125,7 @@ returns-in-Ok-Some-Replay g c =
       listen_lawful = λ settings w. absurd (other_listen settings w);
       dials = λ settings w. absurd (other_send settings w);
       accepts = λ settings w. absurd (other_listen settings w);
+      shut = none_shut (seen_of (g.W.Wires.state c.args.wires.now) (g.W.Wires.counts c.args.wires.now) (g.W.Wires.asked c.args.wires.now) (g.W.Wires.lent c.args.wires.now));
       unread = λ none. absurd (some none);
       unlinked = λ settings w. refl;
       listen_unread = λ settings w. absurd (other_listen settings w);
@@ -166,6 +168,7 @@ returns-in-Ok-Some-Send g c =
       listen_lawful = λ settings w. absurd (other settings w);
       dials = λ settings w. subst (λ (s : EndSettings). DialsOnce s before after) (same settings is w) c.send.ensures.asks;
       accepts = λ settings w. absurd (other settings w);
+      shut = c.send.ensures.shut;
       unread = λ none. absurd (of.some none);
       unlinked = λ settings w. absurd (not_unlinked words of settings w);
       listen_unread = λ settings w. absurd (other settings w);
@@ -210,6 +213,7 @@ returns-in-Ok-Some-Listen g c =
       listen_lawful = λ settings w. subst (λ (s : EndSettings). WritesLawfully Role.Listener s before after) (same settings is w) c.listen.ensures.lawful;
       dials = λ settings w. absurd (other settings w);
       accepts = λ settings w. subst (λ (s : EndSettings). AcceptsAtMost s before after) (same settings is w) c.listen.ensures.asks;
+      shut = c.listen.ensures.shut;
       unread = λ none. absurd (of.some none);
       unlinked = λ settings w. absurd (not_unlinked words of settings w);
       listen_unread = λ settings w. refl;
@@ -254,6 +258,7 @@ returns-in-Ok-Some-Pair g c =
       listen_lawful = λ settings w. absurd (listen settings w);
       dials = λ settings w. absurd (send settings w);
       accepts = λ settings w. absurd (listen settings w);
+      shut = none_shut (seen_of (g.W.Wires.state c.args.wires.now) (g.W.Wires.counts c.args.wires.now) (g.W.Wires.asked c.args.wires.now) (g.W.Wires.lent c.args.wires.now));
       unread = λ none. absurd (some none);
       unlinked = λ settings w. refl;
       listen_unread = λ settings w. absurd (listen settings w);
@@ -296,6 +301,7 @@ returns-in-Ok-None g c =
       listen_lawful = λ settings w. absurd (listen settings w);
       dials = λ settings w. absurd (send settings w);
       accepts = λ settings w. absurd (listen settings w);
+      shut = none_shut (seen_of (g.W.Wires.state c.args.wires.now) (g.W.Wires.counts c.args.wires.now) (g.W.Wires.asked c.args.wires.now) (g.W.Wires.lent c.args.wires.now));
       unread = λ no_command. refl;
       unlinked = λ settings w. refl;
       listen_unread = λ settings w. absurd (listen settings w);
@@ -332,6 +338,7 @@ returns-in-Err g c =
       listen_lawful = λ settings w. each_none (λ link. WhereKnown (IsLawfulOn (terms_by Role.Listener settings)) link.log) seen seen refl;
       dials = λ settings w. asks_none (IsDialOf settings) 1 (g.W.Wires.asked c.args.wires.now);
       accepts = λ settings w. asks_none (IsAcceptOf settings) settings.sessions (g.W.Wires.asked c.args.wires.now);
+      shut = none_shut (seen_of (g.W.Wires.state c.args.wires.now) (g.W.Wires.counts c.args.wires.now) (g.W.Wires.asked c.args.wires.now) (g.W.Wires.lent c.args.wires.now));
       unread = λ none. absurd (of.some none);
       unlinked = λ settings w. absurd (not_unlinked words of settings w);
       listen_unread = λ settings w. refl;

@@ -1,4 +1,4 @@
-use Rattle.std.proofs.Common.{inl, refl}
+use Rattle.std.proofs.Common.{inl, refl, ap}
 use Rattle.beep_cmd.specs.Ends.{ended_status, ended_line, over, IsDialOf}
 use Rattle.beep_cmd.specs.Recorded.{lined}
 use Rattle.beep_show.specs.Show.{run_of}
@@ -19,7 +19,7 @@ returns-in-Ok-read_lines-clause-sent g c =
     let gives = c.in-Ok-read_lines.ensures.ok in
     let cause = c.send_lines-ended.result in
     sent c.args.settings.now _ _ (run_of (g.I.Source.state c.args.input.now) (g.I.Source.state c.read_lines.new.input) (g.O.Sink.state c.args.output.now) (g.O.Sink.state c.finish.new.output)) gives.octets gives.consumed (ended_status cause) (ended_line cause) c.finish.result
-    (over gives.ended c.in-Ok-read_lines.lines gives.are_lines cause c.send_lines-ended.ensures.unwritten c.send_lines-ended.ensures.caused (c.send_lines-ended.ensures.sent (lines-short c.in-Ok-read_lines.lines gives.octets gives.are_lines)) refl (lined (inl c.if-settings.false) refl)) c.finish.ensures.written
+    (over gives.ended c.in-Ok-read_lines.lines gives.are_lines cause c.send_lines-ended.ensures.unwritten (λ short. ap ended_line short) c.send_lines-ended.ensures.caused (c.send_lines-ended.ensures.sent (lines-short c.in-Ok-read_lines.lines gives.octets gives.are_lines)) refl (lined (inl c.if-settings.false) refl)) c.finish.ensures.written
 
 pub returns-then-settings-clause-sent : goal.returns-then-settings-clause-sent
 returns-then-settings-clause-sent g c =
