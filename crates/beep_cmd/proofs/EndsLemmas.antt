@@ -51,7 +51,7 @@ rose_later a b c h = elim [ inl w ↦ inl (omega (arith, h, w)) | inr w ↦ inr 
 
 module _ (settings : Settings) (before after : Seen) (source : SourceState) (sink mid sink_after : SinkState) (result : ℕ) (kept : sink.faults ≤ mid.faults) where
   line_written : (cause : Ended) → cause ≢ Ended.WriteFault → cause ≢ Ended.NoMemory → ListenCause cause settings before after → WritesLast (ended_status cause) (ended_line cause) result mid sink_after → Listened settings before after result (run_of source source sink sink_after)
-  line_written cause n m c (whole_line is appended) = listen_written cause n m c is
+  line_written cause n m c (whole_line is appended) = listen_written cause n m c is (λ plain. (mid.written, appended))
   line_written cause n m c (line_begun is some rose prefix) = listen_unwritten is (rose_later sink.faults mid.faults sink_after.faults kept rose)
 
   -- the last line of what ended the run was written, or begun; there may be none

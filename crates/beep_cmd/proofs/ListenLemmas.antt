@@ -16,7 +16,7 @@ use Rattle.beep_runs.specs.beep_steps.specs.Ends.{reads_of}
 use Rattle.beep_runs.specs.beep_steps.specs.Resting.{TellsIdle}
 use Rattle.beep_runs.specs.beep_steps.specs.Logs.{moments, Shows, terms_by}
 use Rattle.beep_runs.specs.beep_listener.specs.Listening.{is_whole, listener_plan, AreLinesOf, HasLinesOf, KeepsWhere}
-use Rattle.beep_cmd.specs.Ends.{ended_line, ended_status, ends_run, WritesLast, whole_line}
+use Rattle.beep_cmd.specs.Ends.{ended_line, ended_status, ends_run, HasCause, WritesLast, whole_line}
 use Rattle.beep_cmd.specs.Listening.{AreKnown, EndsBy, first_of, run_cause, Session, SessionsOver, text_of, WritesLines, WritesOf}
 use Rattle.beep_cmd.proofs.FlushedLemmas.{one-text}
 use Rattle.beep_cmd.specs.Serving.{GoesOn, WritesSession, WritesSessions}
@@ -43,7 +43,7 @@ module _ (settings : Settings) (cause : Ended) (before used after : Seen) (link 
       (shows : WhereKnown (Shows (terms_by Role.Listener settings) cause) (used.state link).log)
       (unrefused : WhereKnown (GoesUnrefused (terms_by Role.Listener settings) cause) (used.state link).log) (waits : WhereKnown (ReadsOnlyGoing (terms_by Role.Listener settings)) (used.state link).log)
       (bounded : IsBounded (reads_of settings) (used.state link).log) (rested : WhereKnown (λ log. TellsIdle (listener_plan settings) cause (moments log)) (used.state link).log)
-      (each : WhereKnown (EachEndOn (listener_plan settings) cause) (used.state link).log) where
+      (each : WhereKnown (EachEndOn (listener_plan settings) cause) (used.state link).log) (because : HasCause settings cause (record (used.state link) { is_open = false })) where
     session_by : (log : List Entry) → (used.state link).log ≡ Some log → WritesSession settings cause before after old new
     session_by log of =
         let shown = subst (WhereKnown (Shows (terms_by Role.Listener settings) cause)) of shows in
@@ -63,6 +63,7 @@ module _ (settings : Settings) (cause : Ended) (before used after : Seen) (link 
             rested = subst (WhereKnown (λ log. TellsIdle (listener_plan settings) cause (moments log))) of rested;
             each = subst (WhereKnown (EachEndOn (listener_plan settings) cause)) of each;
           });
+          because = subst (λ (n : ℕ). HasCause settings cause (after.state n)) is (subst (HasCause settings cause) (sym shut) because);
         }
 
     pub session_lines : AreKnown before after → WritesSession settings cause before after old new
@@ -89,7 +90,8 @@ sessions_stay settings mid after g first next (session ∷ earlier) within over 
   over.1,
   over.2,
   subst (λ (l : Link). WhereKnown (WritesOf settings session) l.log) (sym (g.same over.0 (omega (arith, over.1, within)))) over.3,
-  sessions_stay settings mid after g first over.0 earlier (omega (arith, over.1, within)) over.4,
+  subst (HasCause settings session.cause) (sym (g.same over.0 (omega (arith, over.1, within)))) over.4,
+  sessions_stay settings mid after g first over.0 earlier (omega (arith, over.1, within)) over.5,
 )
 
 module _ (settings : Settings) (before mid after : Seen) (first ended : Ended) (old now new : Option (List ℕ)) (goes : ends_run first ≡ false) (g : GoesOn mid after)
@@ -103,6 +105,7 @@ module _ (settings : Settings) (before mid after : Seen) (first ended : Ended) (
         one,
         subst (λ (e : Ended). ends_run e ≡ false) w.ends goes,
         s.writes,
+        s.because,
         sessions_stay settings mid after g before.counts.given mid.counts.given w.sessions (omega arith) w.over,
       );
       ends = p;

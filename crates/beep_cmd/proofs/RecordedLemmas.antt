@@ -26,9 +26,9 @@ use Rattle.beep_show.specs.beep_input.specs.Lines.{AreLines}
 use Rattle.beep_show.specs.Show.{Run, run_of}
 use Rattle.beep_cmd.specs.Recorded.{IsEnding, lined, recorded}
 use Rattle.beep_cmd.specs.Recording.{EndsRecorded, KeepsListening, ListenRecorded, SendRecorded, record_written, record_starved, TellsRecord, TellsWhole, whole_record, no_record}
-use Rattle.beep_cmd.specs.Ends.{AcceptsAtMost, AreShut, AsksOnly, DialsOnce, EachOf, ended_line, ended_status, IsAcceptOf, IsDialOf, ListenCause, Listened, listen_starved, listen_written, listen_unwritten, over, SendCause, SendsLines, Sent, send_starved, session, SessionCause, WritesLast, whole_line, line_begun, WritesLawfully}
+use Rattle.beep_cmd.specs.Ends.{AcceptsAtMost, AreShut, AsksOnly, DialsOnce, EachOf, ended_line, ended_status, IsAcceptOf, IsDialOf, ListenCause, Listened, listen_starved, listen_written, listen_unwritten, most_reads, over, ReadsWithin, SendCause, SendsLines, Sent, send_starved, session, SessionCause, WritesLast, whole_line, line_begun, WritesLawfully}
 use Rattle.beep_cmd.proofs.EndsLemmas.{sent}
-use Rattle.beep_cmd.proofs.ServingLemmas.{asks_once, each_none, each_of_it, each_one, session_cause}
+use Rattle.beep_cmd.proofs.ServingLemmas.{asks_once, each_none, each_of_it, each_one, none_read, session_cause}
 
 -- ---- a record and its status
 
@@ -85,11 +85,17 @@ module _ (role : Role) (settings : Settings) (cause : Ended) (before after : See
   pub bounded_of : EachOf before after (λ link. IsBounded (reads_of settings) link.log)
   bounded_of = each_of_it role settings before after before.counts.given refl r.given r.fresh r.last r.is_fresh r.shut before.counts.quiets (omega arith) (λ link. IsBounded (reads_of settings) link.log) r.bounded
 
+  pub reads_within : ReadsWithin settings before after
+  reads_within = each_of_it role settings before after before.counts.given refl r.given r.fresh r.last r.is_fresh r.shut before.counts.quiets (omega arith) (λ link. link.reads ≤ most_reads settings) r.reads
+
   pub shut_of : AreShut before after
   shut_of = each_of_it role settings before after before.counts.given refl r.given r.fresh r.last r.is_fresh r.shut before.counts.quiets (omega arith) (λ link. link.is_open ≡ false) refl
 
 pub not_given_lawful : (role : Role) (settings : Settings) (cause : Ended) (old new : ℕ) (before after : Seen) → NotGiven cause old new before after → WritesLawfully role settings before after
 not_given_lawful role settings cause old new before after n = each_none (λ link. WhereKnown (IsLawfulOn (terms_by role settings)) link.log) before after n.given
+
+pub not_given_read : (settings : Settings) (cause : Ended) (old new : ℕ) (before after : Seen) → NotGiven cause old new before after → ReadsWithin settings before after
+not_given_read settings cause old new before after n = none_read settings before after n.given
 
 pub not_given_shut : (cause : Ended) (old new : ℕ) (before after : Seen) → NotGiven cause old new before after → AreShut before after
 not_given_shut cause old new before after n = each_none (λ link. link.is_open ≡ false) before after n.given
@@ -156,11 +162,12 @@ sent_recorded settings before after result run octets consumed recording ended l
 sent_recorded settings before after result run octets consumed recording ended lines are (record_starved cause c is none) =
     send_starved is (record { octets = octets; text = []; consumed = consumed; appended = none; holds = (refl, inr (ended, lines, are, cause, c.1)) })
 
-pub listened_recorded : (settings : Settings) (before after : Seen) (result : ℕ) (source : SourceState) (sink sink_after : SinkState) → ListenRecorded settings before after result sink sink_after
+pub listened_recorded : (settings : Settings) (before after : Seen) (result : ℕ) (source : SourceState) (sink sink_after : SinkState) → settings.recording ≡ true → ListenRecorded settings before after result sink sink_after
     → Listened settings before after result (run_of source source sink sink_after)
-listened_recorded settings before after result source sink sink_after (record_written cause n m c text ending (whole_line is appended)) = listen_written cause n m c.0 is
-listened_recorded settings before after result source sink sink_after (record_written cause n m c text ending (line_begun is some rose prefix)) = listen_unwritten is rose
-listened_recorded settings before after result source sink sink_after (record_starved cause c is none) = listen_starved is
+listened_recorded settings before after result source sink sink_after recording (record_written cause n m c text ending (whole_line is appended)) =
+    listen_written cause n m c.0 is (λ plain. absurd (let h : true ≡ false = sym recording ∙ plain in cc))
+listened_recorded settings before after result source sink sink_after recording (record_written cause n m c text ending (line_begun is some rose prefix)) = listen_unwritten is rose
+listened_recorded settings before after result source sink sink_after recording (record_starved cause c is none) = listen_starved is
 
 -- the causes of a run over one link
 pub send_caused : (settings : Settings) (cause : Ended) (before after : Seen) → Ran Role.Initiator settings cause before after → SendCause cause settings before after

@@ -8,11 +8,12 @@ use Rattle.beep_runs.specs.beep_wires.specs.declared.links.WireError.{WireError}
 use Rattle.beep_runs.specs.beep_wires.specs.Counts.{Rose}
 use Rattle.beep_runs.specs.beep_wires.specs.Links.{Link, Ask, Asked, IsFresh, Asks, asked_by}
 use Rattle.beep_runs.specs.beep_link.specs.declared.ended.Ended.{Ended}
-use Rattle.beep_runs.specs.beep_link.specs.Causes.{HasRead, IsCaused, IsQuiet, IsUnused, Seen, WhereKnown}
+use Rattle.beep_runs.specs.beep_link.specs.Causes.{IsCaused, IsUnused, ReadsGive, RoseBy, Seen, WhereKnown}
 use Rattle.beep_runs.specs.beep_journal.specs.declared.role.Role.{Role}
+use Rattle.beep_runs.specs.beep_steps.specs.Ends.{reads_of}
 use Rattle.beep_runs.specs.beep_steps.specs.Logs.{Shows, terms_by}
 use Rattle.beep_runs.specs.beep_settings.specs.declared.settings.Settings.{Settings}
-use Rattle.beep_cmd.specs.Ends.{HasRisen, OneOf, EachOf, ShowsIn, SessionCause, AreShut, AsksOnly, ends_run, GaveBefore, GaveLink}
+use Rattle.beep_cmd.specs.Ends.{HasCause, OneOf, EachOf, EndsIn, ShowsIn, SessionCause, AreShut, AsksOnly, ends_run, GaveBefore, GaveLink, most_reads, ReadsWithin}
 use Rattle.beep_cmd.specs.Listening.{first_of}
 use Rattle.beep_cmd.specs.Serving.{AsksGave, GoesOn}
 
@@ -21,11 +22,25 @@ use Rattle.beep_cmd.specs.Serving.{AsksGave, GoesOn}
 pub unused : (link : Link) → IsFresh link → IsUnused link
 unused link f = record { unread = f.unread; is_open = f.is_open; going = f.going }
 
-risen : (a b c : ℕ) → a ≤ b → Rose b c → HasRisen a c
-risen a b c k = elim [ inl w ↦ inl (omega (arith, k, w)) | inr w ↦ inr (omega (arith, w)) ]
+-- a count that rose by so many since then rose by as many since before
+risen : (most a b c d : ℕ) → a ≤ b → c ≤ d → RoseBy most b c → RoseBy most a d
+risen most a b c d k l = elim [ inl w ↦ inl (omega (arith, k, l, w)) | inr w ↦ inr (omega (arith, l, w)) ]
 
 faulted : (a b : ℕ) → a ≡ 0 → Rose a b → 0 < b
 faulted a b e = elim [ inl w ↦ omega (arith, e, w) | inr w ↦ omega (arith, w) ]
+
+-- what ended a session shows in its link when it is shut
+pub has_cause : (settings : Settings) (fresh last : Link) (quiets later : ℕ) → IsFresh fresh → (cause : Ended)
+    → IsCaused cause (reads_of settings) (record { link = fresh; quiets = quiets }) (record { link = last; quiets = later }) → HasCause settings cause (record last { is_open = false })
+has_cause settings fresh last quiets later f Ended.Released c = tt
+has_cause settings fresh last quiets later f (Ended.Broken rule place) c = tt
+has_cause settings fresh last quiets later f Ended.WriteFault c = tt
+has_cause settings fresh last quiets later f Ended.WireFault c = faulted fresh.faults last.faults f.no_faults c
+has_cause settings fresh last quiets later f Ended.NoMemory c = tt
+has_cause settings fresh last quiets later f (Ended.Refused code) c = tt
+has_cause settings fresh last quiets later f (Ended.Cut left) c = c
+has_cause settings fresh last quiets later f (Ended.Idle reads) c = (c.0, c.1)
+has_cause settings fresh last quiets later f (Ended.Spent octets) c = (c.0, c.1, subst (λ (n : ℕ). ReadsGive settings.octets n last.reads) f.no_reads c.2)
 
 -- where no link was given nothing is said of any
 pub each_none : (P : Link → Type 0) (before after : Seen) → after.counts.given ≡ before.counts.given → EachOf before after P
@@ -33,6 +48,9 @@ each_none P before after e link least less = absurd (omega (arith, e, least, les
 
 pub none_shut : (seen : Seen) → AreShut seen seen
 none_shut seen = each_none (λ link. link.is_open ≡ false) seen seen refl
+
+pub none_read : (settings : Settings) (before after : Seen) → after.counts.given ≡ before.counts.given → ReadsWithin settings before after
+none_read settings before after e = each_none (λ link. link.reads ≤ most_reads settings) before after e
 
 -- one link was given
 pub each_one : (P : Link → Type 0) (before after : Seen) (link : ℕ) → link ≡ before.counts.given → after.counts.given ≡ before.counts.given + 1 → P (after.state link) → EachOf before after P
@@ -51,15 +69,14 @@ module _ (role : Role) (settings : Settings) (before after : Seen) (link : ℕ) 
   pub session_cause : (cause : Ended) → IsCaused cause (record { octets = settings.octets; idle = settings.idle }) (record { link = fresh; quiets = quiets }) (record { link = last; quiets = after.counts.quiets })
       → WhereKnown (Shows (terms_by role settings) cause) last.log → SessionCause cause role settings before after
   session_cause Ended.Released c s = each_of_it (ShowsIn role settings Ended.Released) s
-  session_cause (Ended.Broken rule place) c s = of_it (ShowsIn role settings (Ended.Broken rule place)) s
+  session_cause (Ended.Broken rule place) c s = of_it (EndsIn role settings (Ended.Broken rule place)) (tt, s)
   session_cause Ended.WriteFault c s = tt
-  session_cause Ended.WireFault c s = of_it (λ l. (0 < l.faults) × ShowsIn role settings Ended.WireFault l) (faulted fresh.faults last.faults is_fresh.no_faults c, s)
+  session_cause Ended.WireFault c s = of_it (EndsIn role settings Ended.WireFault) (faulted fresh.faults last.faults is_fresh.no_faults c, s)
   session_cause Ended.NoMemory c s = tt
-  session_cause (Ended.Refused code) c s = of_it (ShowsIn role settings (Ended.Refused code)) s
-  session_cause (Ended.Cut left) c s = of_it (λ l. (l.has_ended ≡ true) × ShowsIn role settings (Ended.Cut left) l) (c, s)
-  session_cause (Ended.Idle reads) c s =
-      (c.0, (λ some. risen before.counts.quiets quiets after.counts.quiets kept (c.2 some)), of_it (λ l. IsQuiet settings.idle l.log × ShowsIn role settings (Ended.Idle reads) l) (c.1, s))
-  session_cause (Ended.Spent octets) c s = (c.0, of_it (λ l. HasRead settings.octets l.log × ShowsIn role settings (Ended.Spent octets) l) (c.1, s))
+  session_cause (Ended.Refused code) c s = of_it (EndsIn role settings (Ended.Refused code)) (tt, s)
+  session_cause (Ended.Cut left) c s = of_it (EndsIn role settings (Ended.Cut left)) (c, s)
+  session_cause (Ended.Idle reads) c s = (risen settings.idle before.counts.quiets quiets after.counts.quiets after.counts.quiets kept (omega arith) c.2, of_it (EndsIn role settings (Ended.Idle reads)) ((c.0, c.1), s))
+  session_cause (Ended.Spent octets) c s = of_it (EndsIn role settings (Ended.Spent octets)) ((c.0, c.1, subst (λ (n : ℕ). ReadsGive settings.octets n last.reads) is_fresh.no_reads c.2), s)
 
 -- ---- several sessions
 
@@ -78,20 +95,16 @@ module _ (a b c d : Seen) (f : GoesOn a b) (g : GoesOn c d) where
   one_wider : (P : Link → Type 0) → OneOf b c P → OneOf a d P
   one_wider P o = (o.0, omega (arith, f.given, o.1), omega (arith, g.given, o.2), subst P (sym (g.same o.0 o.2)) o.3)
 
-  risen_wider : HasRisen b.counts.quiets c.counts.quiets → HasRisen a.counts.quiets d.counts.quiets
-  risen_wider = elim [ inl w ↦ inl (omega (arith, f.quiets, g.quiets, w)) | inr w ↦ inr (omega (arith, g.quiets, w)) ]
-
   pub cause_wider : (role : Role) (settings : Settings) (cause : Ended) → (cause ≡ Ended.Released → ⊥) → SessionCause cause role settings b c → SessionCause cause role settings a d
   cause_wider role settings Ended.Released n o = absurd (n refl)
-  cause_wider role settings (Ended.Broken rule place) n o = one_wider (ShowsIn role settings (Ended.Broken rule place)) o
+  cause_wider role settings (Ended.Broken rule place) n o = one_wider (EndsIn role settings (Ended.Broken rule place)) o
   cause_wider role settings Ended.WriteFault n o = tt
-  cause_wider role settings Ended.WireFault n o = one_wider (λ l. (0 < l.faults) × ShowsIn role settings Ended.WireFault l) o
+  cause_wider role settings Ended.WireFault n o = one_wider (EndsIn role settings Ended.WireFault) o
   cause_wider role settings Ended.NoMemory n o = tt
-  cause_wider role settings (Ended.Refused code) n o = one_wider (ShowsIn role settings (Ended.Refused code)) o
-  cause_wider role settings (Ended.Cut left) n o = one_wider (λ l. (l.has_ended ≡ true) × ShowsIn role settings (Ended.Cut left) l) o
-  cause_wider role settings (Ended.Idle reads) n o =
-      (o.0, (λ some. risen_wider (o.1 some)), one_wider (λ l. IsQuiet settings.idle l.log × ShowsIn role settings (Ended.Idle reads) l) o.2)
-  cause_wider role settings (Ended.Spent octets) n o = (o.0, one_wider (λ l. HasRead settings.octets l.log × ShowsIn role settings (Ended.Spent octets) l) o.1)
+  cause_wider role settings (Ended.Refused code) n o = one_wider (EndsIn role settings (Ended.Refused code)) o
+  cause_wider role settings (Ended.Cut left) n o = one_wider (EndsIn role settings (Ended.Cut left)) o
+  cause_wider role settings (Ended.Idle reads) n o = (risen settings.idle a.counts.quiets b.counts.quiets c.counts.quiets d.counts.quiets f.quiets g.quiets o.0, one_wider (EndsIn role settings (Ended.Idle reads)) o.1)
+  cause_wider role settings (Ended.Spent octets) n o = one_wider (EndsIn role settings (Ended.Spent octets)) o
 
 module _ (before mid after : Seen) (f : GoesOn before mid) (g : GoesOn mid after) where
   -- what holds of each link that was given first and of each that was given then

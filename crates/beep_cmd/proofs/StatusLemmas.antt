@@ -65,7 +65,7 @@ sent_not settings before after status run (ends.send_begun e r s) f = absurd (om
 sent_not settings before after status run (ends.send_starved e s) f = absurd (omega (arith, e, f))
 
 pub listened_not : (settings : Settings) (before after : Seen) (status : ℕ) (run : Run) → Listened settings before after status run → status ≡ 1 → ⊥
-listened_not settings before after status run (ends.listen_written cause n m c e) f = ended_not cause (omega (arith, e, f))
+listened_not settings before after status run (ends.listen_written cause n m c e l) f = ended_not cause (omega (arith, e, f))
 listened_not settings before after status run (ends.listen_unwritten e r) f = absurd (omega (arith, e, f))
 listened_not settings before after status run (ends.listen_starved e) f = absurd (omega (arith, e, f))
 

@@ -2,14 +2,13 @@
 -- Each cause is read off the links after the run; the code hands on what ended a session.
 use Rattle.std.specs.Prelude.{◌≡◌, ◌≢◌, ℕ, Bool, ◌+◌, ◌<◌, ◌≤◌, ◌⊎◌, true, false, Option, Some, None, List, [], ◌∷◌, ◌++◌, length, chars}
 use Rattle.std.specs.List.{AllByRecursion}
-use Rattle.beep_runs.specs.beep_wires.specs.declared.count.TheConstants.{COUNT_MAX}
 use Rattle.beep_runs.specs.beep_wires.specs.Counts.{Rose}
 use Rattle.beep_runs.specs.beep_wires.specs.States.{SourceState, SinkState}
 use Rattle.beep_runs.specs.beep_wires.specs.Transfer.{AppendsPrefix}
 use Rattle.std.specs.Io.KnownBytes.{Appends}
 use Rattle.beep_runs.specs.beep_wires.specs.Links.{Link, Ask, accept, dial, Asked}
 use Rattle.beep_runs.specs.beep_link.specs.declared.ended.Ended.{Ended}
-use Rattle.beep_runs.specs.beep_link.specs.Causes.{HasRead, IsBounded, IsQuiet, Seen, WhereKnown}
+use Rattle.beep_runs.specs.beep_link.specs.Causes.{HasRead, IsBounded, IsQuiet, ReadsGive, RoseBy, Seen, WhereKnown}
 use Rattle.beep_runs.specs.beep_journal.specs.declared.role.Role.{Role}
 use Rattle.beep_runs.specs.beep_steps.specs.EachEnd.{EachEndOn}
 use Rattle.beep_runs.specs.beep_steps.specs.Ends.{reads_of}
@@ -23,7 +22,7 @@ use Rattle.beep_show.specs.beep_input.specs.Lines.{AreLines, IsBad}
 use Rattle.beep_show.specs.Texts.{bad_line, broken_line, cut_line, idle_line, read_fault_line, refused_line, spent_line, wire_fault_line}
 use Rattle.beep_show.specs.Show.{Run, Saw}
 use Rattle.beep_cmd.specs.Recorded.{IsEnding}
-pub use Rattle.beep_runs.specs.Runs.{seen_of}
+pub use Rattle.beep_runs.specs.Runs.{most_reads, seen_of}
 
 -- ---- what ends a session
 
@@ -53,10 +52,6 @@ ended_line (Ended.Spent octets) = spent_line octets
 
 -- ---- causes
 
--- a count rose, or stands at its greatest value
-abbrev pub HasRisen : ℕ → ℕ → Type 0
-HasRisen old new = (old < new) ⊎ (COUNT_MAX ≤ new)
-
 -- this holds of one of the links that were given in the run
 abbrev pub OneOf : Seen → Seen → (Link → Type 0) → Type 0
 OneOf before after P = (link : ℕ) × (before.counts.given ≤ link) × (link < after.counts.given)
@@ -67,9 +62,26 @@ abbrev pub EachOf : Seen → Seen → (Link → Type 0) → Type 0
 EachOf before after P = (link : ℕ) → before.counts.given ≤ link → link < after.counts.given
     → P (after.state link)
 
+-- what ended a session shows in its link, whose log needn't be known
+abbrev pub HasCause : Settings → Ended → Link → Type 0
+HasCause settings Ended.Released link = Unit {0}
+HasCause settings (Ended.Broken rule place) link = Unit {0}
+HasCause settings Ended.WriteFault link = Unit {0}
+HasCause settings Ended.WireFault link = 0 < link.faults
+HasCause settings Ended.NoMemory link = Unit {0}
+HasCause settings (Ended.Refused code) link = Unit {0}
+HasCause settings (Ended.Cut left) link = link.has_ended ≡ true
+HasCause settings (Ended.Idle reads) link = (reads ≡ settings.idle) × IsQuiet settings.idle link.log
+HasCause settings (Ended.Spent octets) link = (octets ≡ settings.octets)
+    × HasRead settings.octets link.log × ReadsGive settings.octets 0 link.reads
+
 -- the log of a link, where it is known, shows that the session of an end of this role ended so
 abbrev pub ShowsIn : Role → Settings → Ended → Link → Type 0
 ShowsIn role settings cause link = WhereKnown (Shows (terms_by role settings) cause) link.log
+
+-- the session of an end of this role ended so, by its link and the log of that
+abbrev pub EndsIn : Role → Settings → Ended → Link → Type 0
+EndsIn role settings cause link = HasCause settings cause link × ShowsIn role settings cause link
 
 -- what was written on each link that was given in the run is lawful, where its log is known
 abbrev pub WritesLawfully : Role → Settings → Seen → Seen → Type 0
@@ -80,27 +92,29 @@ WritesLawfully role settings before after =
 abbrev pub AreShut : Seen → Seen → Type 0
 AreShut before after = EachOf before after (λ link. link.is_open ≡ false)
 
+-- each link that was given in the run was read no more often than the settings allow
+abbrev pub ReadsWithin : Settings → Seen → Seen → Type 0
+ReadsWithin settings before after = EachOf before after (λ link. link.reads ≤ most_reads settings)
+
 -- what ended one of the sessions of a run shows in its link; where they were released, in each
 abbrev pub SessionCause : Ended → Role → Settings → Seen → Seen → Type 0
 SessionCause Ended.Released role settings before after =
     EachOf before after (ShowsIn role settings Ended.Released)
 SessionCause (Ended.Broken rule place) role settings before after =
-    OneOf before after (ShowsIn role settings (Ended.Broken rule place))
+    OneOf before after (EndsIn role settings (Ended.Broken rule place))
 SessionCause Ended.WriteFault role settings before after = Unit {0}
 SessionCause Ended.WireFault role settings before after =
-    OneOf before after (λ link. (0 < link.faults) × ShowsIn role settings Ended.WireFault link)
+    OneOf before after (EndsIn role settings Ended.WireFault)
 SessionCause Ended.NoMemory role settings before after = Unit {0}
 SessionCause (Ended.Refused code) role settings before after =
-    OneOf before after (ShowsIn role settings (Ended.Refused code))
-SessionCause (Ended.Cut left) role settings before after = OneOf before after
-    (λ link. (link.has_ended ≡ true) × ShowsIn role settings (Ended.Cut left) link)
-SessionCause (Ended.Idle reads) role settings before after = (reads ≡ settings.idle)
-    × (0 < settings.idle → HasRisen before.counts.quiets after.counts.quiets)
-    × OneOf before after (λ link. IsQuiet settings.idle link.log
-    × ShowsIn role settings (Ended.Idle reads) link)
-SessionCause (Ended.Spent octets) role settings before after = (octets ≡ settings.octets)
-    × OneOf before after (λ link. HasRead settings.octets link.log
-    × ShowsIn role settings (Ended.Spent octets) link)
+    OneOf before after (EndsIn role settings (Ended.Refused code))
+SessionCause (Ended.Cut left) role settings before after =
+    OneOf before after (EndsIn role settings (Ended.Cut left))
+SessionCause (Ended.Idle reads) role settings before after =
+    RoseBy settings.idle before.counts.quiets after.counts.quiets
+    × OneOf before after (EndsIn role settings (Ended.Idle reads))
+SessionCause (Ended.Spent octets) role settings before after =
+    OneOf before after (EndsIn role settings (Ended.Spent octets))
 
 -- no further link is accepted after a session that ended so
 abbrev pub ends_run : Ended → Bool
@@ -124,11 +138,11 @@ pub data RunCause (asked : Type 0) (sessions : ℕ) (cause : Ended) (role : Role
       → (ends_run cause ≡ false → after.counts.given ≡ before.counts.given + sessions)
       → RunCause asked sessions cause role settings before after
 
--- the run dialled once, or a dial failed
+-- the run dialled once, or a dial failed, and gave no link
 abbrev pub SendCause : Ended → Settings → Seen → Seen → Type 0
 SendCause cause settings before after =
-    RunCause (Rose before.counts.dials after.counts.dials) 1 cause Role.Initiator settings before
-    after
+    RunCause (Rose before.counts.dials after.counts.dials
+    × (after.counts.given ≡ before.counts.given)) 1 cause Role.Initiator settings before after
 
 -- a run of `send` that ended with a release sent all of these lines: the log of its link shows
 -- each, once and in order, where it is known; whatever ended it, the sender of these lines kept its
@@ -240,12 +254,18 @@ pub data Sent (settings : Settings) (before after : Seen) (status : ℕ) (run : 
 
 -- ---- `listen`
 
+-- what was written ends with this line
+abbrev pub EndsWith : List ℕ → SinkState → Type 0
+EndsWith line sink = (front : Option (List ℕ)) × Appends front sink.written line
+
 -- what a run of `listen` that ended so shows: 5, where a write failed; 7, where it was out of
--- memory; else what ended its first session that wasn't released, or the last accept
+-- memory; else what ended its first session that wasn't released, or the last accept, whose last
+-- line was written, unless the run was recorded
 pub data Listened (settings : Settings) (before after : Seen) (status : ℕ) (run : Run)
     : Type 0 where
   listen_written : (cause : Ended) → cause ≢ Ended.WriteFault → cause ≢ Ended.NoMemory
       → ListenCause cause settings before after → status ≡ ended_status cause
+      → (settings.recording ≡ false → EndsWith (ended_line cause) run.sink_after)
       → Listened settings before after status run
   listen_unwritten : status ≡ 5 → Rose run.sink.faults run.sink_after.faults
       → Listened settings before after status run

@@ -18,7 +18,7 @@ use Rattle.beep_runs.specs.beep_steps.specs.Ends.{reads_of}
 use Rattle.beep_runs.specs.beep_steps.specs.Logs.{moments, Shows, terms_by}
 use Rattle.beep_runs.specs.beep_steps.specs.Resting.{TellsIdle}
 use Rattle.beep_runs.specs.beep_listener.specs.Listening.{is_whole, listener_plan, AreLinesOf, HasLinesOf, KeepsWhere}
-use Rattle.beep_cmd.specs.Ends.{ended_line, ended_status, ends_run, EachOf, WritesLast}
+use Rattle.beep_cmd.specs.Ends.{ended_line, ended_status, ends_run, EachOf, HasCause, WritesLast}
 
 -- ---- what ends a run
 
@@ -70,12 +70,14 @@ pub record WritesOf (settings : Settings) (session : Session) (log : List Entry)
   pub rested : TellsIdle (listener_plan settings) session.cause (moments log)
   pub each : EachEndOn (listener_plan settings) session.cause log
 
--- the sessions over the links from this number on up to another, the latest first
+-- the sessions over the links from this number on up to another, the latest first, what ended each
+-- of which shows in its link
 abbrev pub SessionsOver : Settings → (ℕ → Link) → ℕ → List Session → ℕ → Type 0
 SessionsOver settings state first [] next = next ≡ first
 SessionsOver settings state first (session ∷ earlier) next = (link : ℕ) × (next ≡ link + 1)
     × (ends_run (run_cause earlier) ≡ false)
     × WhereKnown (WritesOf settings session) (state link).log
+    × HasCause settings session.cause (state link)
     × SessionsOver settings state first earlier link
 
 -- what was written of all of them

@@ -11,7 +11,7 @@ use Rattle.beep_runs.specs.beep_settings.specs.declared.settings.Settings.{Setti
 use Rattle.beep_show.specs.beep_input.specs.declared.lines.Unlisted.{Unlisted}
 use Rattle.beep_runs.specs.beep_journal.specs.declared.role.Role.{Role}
 use Rattle.beep_show.specs.Texts.{bad_line, read_fault_line}
-use Rattle.beep_cmd.specs.Ends.{AsksOnly, GaveLink, IsAcceptOf, SessionCause}
+use Rattle.beep_cmd.specs.Ends.{AsksOnly, GaveLink, HasCause, IsAcceptOf, SessionCause}
 use Rattle.beep_cmd.specs.Listening.{Session, SessionsOver, text_of, WritesOf}
 
 -- the status and the last line where there are no lines to send
@@ -58,13 +58,14 @@ pub record NotAccepted (cause : Ended) (settings : Settings) (before after : See
 
 -- ---- what is written
 
--- the session of the link that was accepted, which ended so, wrote its lines
+-- the session of the link that was accepted, which ended so, as the link shows, wrote its lines
 pub record WritesSession (settings : Settings) (cause : Ended) (before after : Seen)
     (old new : Option (List ℕ)) : Type 0 where
   pub text : List ℕ
   pub lines : Appends old new text
   pub writes : WhereKnown (WritesOf settings (record { cause = cause; text = text }))
       (after.state before.counts.given).log
+  pub because : HasCause settings cause (after.state before.counts.given)
 
 -- the sessions of a run so far, of which this holds, wrote their lines
 pub record WritesSessions (settings : Settings) (before after : Seen)

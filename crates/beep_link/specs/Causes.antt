@@ -7,6 +7,7 @@ use Rattle.beep_wires.specs.Log.{Entry, read, wrote, quiet, ended, Logs}
 use Rattle.beep_wires.specs.Writing.{AreWrites}
 use Rattle.beep_wires.specs.Links.{Link, Counts, Asked, SameBeside}
 use Rattle.beep_wires.specs.declared.links.Got.{Got}
+use Rattle.beep_wires.specs.declared.count.TheConstants.{COUNT_MAX}
 use Rattle.beep_wires.specs.Counts.{Rose}
 use Rattle.beep_link.specs.declared.ended.Stop.{Stop}
 use Rattle.beep_link.specs.declared.ended.Ended.{Ended}
@@ -58,6 +59,15 @@ pub record IsUnused (link : Link) : Type 0 where
 
 -- ---- causes
 
+-- a count rose by so many at least, or stands at its greatest value
+abbrev pub RoseBy : ℕ → ℕ → ℕ → Type 0
+RoseBy count old new = (old + count ≤ new) ⊎ (COUNT_MAX ≤ new)
+
+-- a link was read often enough for so many octets, of which one read gives a buffer at most, or the
+-- count of its reads stands at its greatest value
+abbrev pub ReadsGive : ℕ → ℕ → ℕ → Type 0
+ReadsGive octets old new = (octets + BUFFER * old ≤ BUFFER * new) ⊎ (COUNT_MAX ≤ new)
+
 -- a link and the count of quiet reads
 pub record Look : Type 0 where
   pub link : Link
@@ -73,9 +83,9 @@ IsCaused Ended.NoMemory reads old new = Unit {0}
 IsCaused (Ended.Refused code) reads old new = Unit {0}
 IsCaused (Ended.Cut left) reads old new = new.link.has_ended ≡ true
 IsCaused (Ended.Idle count) reads old new = (count ≡ reads.idle) × IsQuiet reads.idle new.link.log
-    × (0 < reads.idle → Rose old.quiets new.quiets)
-IsCaused (Ended.Spent count) reads old new =
-    (count ≡ reads.octets) × HasRead reads.octets new.link.log
+    × RoseBy reads.idle old.quiets new.quiets
+IsCaused (Ended.Spent count) reads old new = (count ≡ reads.octets)
+    × HasRead reads.octets new.link.log × ReadsGive reads.octets old.link.reads new.link.reads
 
 -- a fault of the link, or lack of memory: the turns end so at any place
 abbrev pub IsOfFaults : Ended → Type 0
@@ -171,10 +181,15 @@ pub record IsWithin (reads : Reads) (log : List Entry) : Type 0 where
 abbrev pub IsBounded : Reads → Option (List Entry) → Type 0
 IsBounded reads log = WhereKnown (IsWithin reads) log
 
--- since there were so many quiet reads the count rose, where one of the latest reads was quiet
+-- since there were so many quiet reads the count rose by each of the latest ones
 pub record CountsQuiet (before : ℕ) (left : Left) (quiets : ℕ) : Type 0 where
   pub kept : before ≤ quiets
-  pub rose : 0 < left.quiets → Rose before quiets
+  pub rose : RoseBy left.quiets before quiets
+
+-- since a link had been read so often it was read often enough for the octets that came
+abbrev pub CountsReads : Reads → ℕ → Left → ℕ → Type 0
+CountsReads reads before left count =
+    (reads.octets + BUFFER * before ≤ left.octets + BUFFER * count) ⊎ (COUNT_MAX ≤ count)
 
 -- the octets that came fit the buffer
 abbrev pub fits_buffer : Got → Type 0

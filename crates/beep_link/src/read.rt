@@ -3,7 +3,7 @@ ghost use Rattle.std.specs.Prelude.{◌≡◌, ◌≤◌, ◌<◌, ◌+◌, ℕ,
 ghost use Rattle.beep_wires.specs.Counts.{Rose};
 ghost use Rattle.beep_wires.specs.Got.{gives_end, read_entries};
 ghost use Rattle.beep_wires.specs.Log.{Logs};
-ghost use Rattle.beep_link.specs.Causes.{CountsQuiet, Keeps, Moves, fits_buffer};
+ghost use Rattle.beep_link.specs.Causes.{CountsQuiet, CountsReads, Keeps, Moves, fits_buffer};
 ghost use Rattle.beep_link.specs.declared.buffers.TheConstants.{BUFFER};
 
 use crate::buffers::BUFFER;
@@ -33,6 +33,8 @@ pub(crate) fn read_once<W: Wires>(
         (W.state wires.old link).log (W.state wires.new link).log) }
     ensures counted { (before : ℕ) → CountsQuiet before left.old (W.counts wires.old).quiets
         → OnOk result (CountsQuiet before left.new (W.counts wires.new).quiets) }
+    ensures came { (before : ℕ) → CountsReads reads before left.old (W.state wires.old link).reads
+        → OnOk result (CountsReads reads before left.new (W.state wires.new link).reads) }
 
     // What stays.
     ensures keeps { Keeps link

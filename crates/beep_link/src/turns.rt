@@ -1,7 +1,7 @@
 //! The turns over a link.
 ghost use Rattle.std.specs.Prelude.{◌≡◌, ◌≤◌, ◌<◌, ◌+◌, ◌*◌, ℕ, [], List, Option, true, false, OnOk, IfErr, vec_len};
 ghost use Rattle.beep_wires.specs.Links.{Link};
-ghost use Rattle.beep_link.specs.Causes.{CountsQuiet, IsBounded, IsCaused, IsUnused, IsWritten, Keeps, reads_left, ReadsWhere, TellsLeft, WhereKnown, WithText};
+ghost use Rattle.beep_link.specs.Causes.{CountsQuiet, CountsReads, IsBounded, IsCaused, IsUnused, IsWritten, Keeps, reads_left, ReadsWhere, TellsLeft, WhereKnown, WithText};
 ghost use Rattle.beep_link.specs.declared.buffers.TheConstants.{BUFFER};
 ghost use Rattle.beep_link.specs.declared.ended.Ended.{Ended as EndedValue};
 
@@ -106,8 +106,11 @@ fn turn<E: End, W: Wires, O: Sink>(
         → IsBounded reads (W.state wires.new link).log }
     ensures counted { (before : ℕ) → CountsQuiet before left.old (W.counts wires.old).quiets
         → OnOk result (CountsQuiet before left.new (W.counts wires.new).quiets) }
+    ensures came { (before : ℕ) → CountsReads reads before left.old (W.state wires.old link).reads
+        → OnOk result (CountsReads reads before left.new (W.state wires.new link).reads) }
     ensures caused { (before : Link) (quiets : ℕ) → before.faults ≤ (W.state wires.old link).faults
         → CountsQuiet quiets left.old (W.counts wires.old).quiets
+        → CountsReads reads before.reads left.old (W.state wires.old link).reads
         → IfErr result (λ ended. IsCaused ended reads (record { link = before; quiets = quiets })
         (record { link = W.state wires.new link; quiets = (W.counts wires.new).quiets })) }
     ensures written { IfErr result (λ ended.

@@ -1,5 +1,5 @@
 -- What became of a link that was asked for, used and shut.
-use Rattle.std.proofs.Common.{◌≡◌, ◌≢◌, ◌⊎◌, inl, inr, ⊎_elim, ℕ, ◌+◌, false, List, Option, None, Some, sym, ap, ◌∙◌, subst, arith}
+use Rattle.std.proofs.Common.{◌≡◌, ◌≢◌, ◌⊎◌, inl, inr, ⊎_elim, ℕ, ◌+◌, ◌≤◌, false, List, Option, None, Some, sym, ap, ◌∙◌, subst, arith}
 use Rattle.beep_listener.specs.beep_wires.specs.Links.{Link, Counts, IsFresh, SameBeside}
 use Rattle.beep_listener.specs.beep_journal.specs.declared.role.Role.{Role}
 use Rattle.beep_listener.specs.beep_lawful.specs.declared.terms.Terms.{Terms}
@@ -18,7 +18,7 @@ use Rattle.beep_listener.specs.beep_steps.specs.beep_talk.specs.Plan.{PlainPlan}
 use Rattle.beep_listener.specs.beep_steps.specs.Sending.{sender_plan, SendsAll}
 use Rattle.beep_listener.specs.Listening.{listener_plan}
 use Rattle.beep_recorder.specs.Kept.{Recording, RecordsKnown}
-use Rattle.beep_runs.specs.Runs.{HasListened, IsRecorded, Ran, SentAll}
+use Rattle.beep_runs.specs.Runs.{HasListened, IsRecorded, most_reads, Ran, SentAll}
 
 -- what a log shows of any end it shows of one by NoMemory
 starved : (terms : Terms) (cause : Ended) (log : List Entry) → Shows terms cause log → Shows terms Ended.NoMemory log
@@ -36,11 +36,15 @@ starved-known : (terms : Terms) (cause : Ended) (log : Option (List Entry)) → 
 starved-known terms cause None s = tt
 starved-known terms cause (Some log) s = starved terms cause log s
 
+-- of a link that was read from its first read on
+reads-of : (most old new : ℕ) → old ≡ 0 → new ≤ old + most → new ≤ most
+reads-of most old new none reads = omega (arith, none, reads)
+
 module _ (role : Role) (settings : Settings) (cause : Ended) (before given used after : Seen) (link : ℕ) (is : link ≡ before.counts.given)
     (fresh : IsFresh (given.state link)) (others : SameBeside link before.state given.state) (one : given.counts.given ≡ before.counts.given + 1) (quiets : given.counts.quiets ≡ before.counts.quiets)
     (keeps : Keeps link given used) (caused : IsCaused cause (reads_of settings) (record { link = given.state link; quiets = given.counts.quiets }) (record { link = used.state link; quiets = used.counts.quiets }))
     (lawful : WhereKnown (IsLawfulOn (terms_by role settings)) (used.state link).log) (shown : WhereKnown (Shows (terms_by role settings) cause) (used.state link).log)
-    (bounded : IsBounded (reads_of settings) (used.state link).log)
+    (bounded : IsBounded (reads_of settings) (used.state link).log) (reads : (used.state link).reads ≤ (given.state link).reads + most_reads settings)
     (shut : after.state link ≡ record (used.state link) { is_open = false }) (beside : SameBeside link used.state after.state) (counts : after.counts ≡ used.counts) where
   ran-by : (result : Ended) → IsCaused result (reads_of settings) (record { link = given.state link; quiets = given.counts.quiets }) (record { link = used.state link; quiets = used.counts.quiets })
       → WhereKnown (Shows (terms_by role settings) result) (used.state link).log → Ran role settings result before after
@@ -54,6 +58,7 @@ module _ (role : Role) (settings : Settings) (cause : Ended) (before given used 
     lawful = lawful;
     shown = t;
     bounded = bounded;
+    reads = reads-of (most_reads settings) (given.state link).reads (used.state link).reads fresh.no_reads reads;
     shut = subst (λ (n : ℕ). after.state n ≡ record (used.state link) { is_open = false }) is shut;
     given = ap (λ (k : Counts). k.given) counts ∙ keeps.given ∙ one;
     others = subst (λ (n : ℕ). SameBeside n before.state after.state) is (λ n away. beside n away ∙ keeps.others n away ∙ others n away);

@@ -17,7 +17,7 @@ returns-clause-listened g c = λ source.
 pub returns-then-settings-clause-listened : goal.returns-then-settings-clause-listened
 returns-then-settings-clause-listened g c = λ source.
     let O = g.O.Sink in
-    listened_recorded c.args.settings.now _ _ c.record_listen.result source (O.state c.args.output.now) (O.state c.record_listen.new.output) c.record_listen.ensures.recorded
+    listened_recorded c.args.settings.now _ _ c.record_listen.result source (O.state c.args.output.now) (O.state c.record_listen.new.output) c.if-settings.true c.record_listen.ensures.recorded
 
 pub returns-clause-lines : goal.returns-clause-lines
 returns-clause-lines g c = λ recording known.

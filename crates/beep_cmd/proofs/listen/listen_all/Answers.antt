@@ -1,9 +1,9 @@
-use Rattle.std.proofs.Common.{◌≡◌, ◌+◌, false, inl, inr, sym, ap, ◌∙◌, subst, arith}
+use Rattle.std.proofs.Common.{◌≡◌, ◌+◌, ◌≤◌, false, inl, inr, sym, ap, ◌∙◌, subst, arith}
 use Rattle.beep_runs.specs.beep_link.specs.declared.ended.Ended.{Ended}
 use Rattle.beep_runs.specs.beep_link.specs.Causes.{Seen, WhereKnown}
 use Rattle.beep_runs.specs.beep_journal.specs.declared.role.Role.{Role}
 use Rattle.beep_runs.specs.beep_steps.specs.Logs.{IsLawfulOn, terms_by}
-use Rattle.beep_cmd.specs.Ends.{ends_run, IsAcceptOf, SessionCause, seen_of}
+use Rattle.beep_cmd.specs.Ends.{ends_run, IsAcceptOf, most_reads, SessionCause, seen_of}
 use Rattle.beep_cmd.proofs.EndsLemmas.{rose_later}
 use Rattle.beep_cmd.proofs.ListenLemmas.{all_lines, lines_ended, lines_further, lines_unlinked, known_after, known_before}
 use Rattle.beep_cmd.proofs.ServingLemmas.{asks_fewer, asks_then, gave_more, gave_only, each_joined, joined_cause, first_goes, goes_further}
@@ -77,6 +77,7 @@ loop-preserved g c =
           (joined_cause before mid after i.goes_on s.goes_on Role.Listener settings c.loop.first c.in-Ok.ended i.cause s.cause_is);
       lawful = each_joined before mid after i.goes_on s.goes_on (λ link. WhereKnown (IsLawfulOn (terms_by Role.Listener settings)) link.log) i.lawful c.in-Ok.ensures.lawful;
       shut = each_joined before mid after i.goes_on s.goes_on (λ link. link.is_open ≡ false) i.shut c.in-Ok.ensures.shut;
+      reads = each_joined before mid after i.goes_on s.goes_on (λ link. link.reads ≤ most_reads settings) i.reads c.in-Ok.ensures.link_reads;
       goes = ap ends_run c.first_of-first.ensures ∙ first_goes c.loop.first c.in-Ok.ended i.goes goes;
       lines = λ known. lines_further settings before mid after c.loop.first c.in-Ok.ended (g.O.Sink.state c.args.output.now).written (g.O.Sink.state c.loop.output).written (g.O.Sink.state c.listen_once.new.output).written i.goes s.goes_on
           (i.lines (known_before before mid after s.goes_on known)) s.one (c.in-Ok.ensures.lines (known_after before mid after i.goes_on.given known)) c.first_of-first.result c.first_of-first.ensures goes;

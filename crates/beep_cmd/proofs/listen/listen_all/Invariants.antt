@@ -1,7 +1,7 @@
 -- As many links were accepted as there were turns, and what ended the first session that wasn't
 -- released shows in its link.
 use Rattle.std.proofs.Common.{◌≡◌, ◌+◌, ◌≤◌, false, List}
-use Rattle.beep_cmd.specs.Ends.{AreShut, ends_run, IsAcceptOf, SessionCause, seen_of, WritesLawfully}
+use Rattle.beep_cmd.specs.Ends.{AreShut, ends_run, IsAcceptOf, ReadsWithin, SessionCause, seen_of, WritesLawfully}
 use Rattle.beep_runs.specs.beep_journal.specs.declared.role.Role.{Role}
 use Rattle.beep_cmd.specs.Listening.{AreKnown, run_cause, Session}
 use Rattle.beep_cmd.specs.Serving.{AsksGave, GoesOn, WritesSessions}
@@ -18,6 +18,7 @@ invariant-loop g l =
       cause : SessionCause l.first Role.Listener l.settings before now;
       lawful : WritesLawfully Role.Listener l.settings before now;
       shut : AreShut before now;
+      reads : ReadsWithin l.settings before now;
       goes : ends_run l.first ≡ false;
       lines : AreKnown before now → WritesSessions l.settings before now (λ (sessions : List Session). l.first ≡ run_cause sessions) (g.O.Sink.state l.fn.output).written (g.O.Sink.state l.output).written;
       asks : AsksGave (IsAcceptOf l.settings) l.counter before.asked now.asked;

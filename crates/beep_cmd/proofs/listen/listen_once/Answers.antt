@@ -4,6 +4,7 @@ use Rattle.beep_runs.specs.beep_wires.specs.Links.{Counts}
 use Rattle.beep_runs.specs.beep_link.specs.Causes.{Seen}
 use Rattle.beep_cmd.specs.Ends.{seen_of}
 use Rattle.beep_cmd.proofs.ListenLemmas.{session_lines}
+use Rattle.beep_cmd.proofs.ServingLemmas.{has_cause}
 use Rattle.beep_cmd.proofs.listen.listen_once.Goals as goal
 
 pub returns-clause-lines : goal.returns-clause-lines
@@ -17,4 +18,5 @@ returns-clause-lines g c = λ known.
     let e = c.listen_end-ended.ensures in
     let s = c.shut.ensures in
     let one : after.counts.given ≡ before.counts.given + 1 = ap (λ (k : Counts). k.given) s.same_counts ∙ e.keeps.given ∙ i.given in
-    session_lines c.args.settings.now c.listen_end-ended.result before used after c.in-Ok.link i.number one s.shut (O.state c.args.output.now).written (O.state c.listen_end-ended.new.output).written e.lines e.flushed e.shown e.unrefused e.waits e.bounded e.rested e.each known
+    session_lines c.args.settings.now c.listen_end-ended.result before used after c.in-Ok.link i.number one s.shut (O.state c.args.output.now).written (O.state c.listen_end-ended.new.output).written e.lines e.flushed e.shown e.unrefused e.waits e.bounded e.rested e.each
+    (has_cause c.args.settings.now _ (used.state c.in-Ok.link) _ used.counts.quiets i.fresh c.listen_end-ended.result e.caused) known

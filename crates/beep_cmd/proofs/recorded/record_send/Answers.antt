@@ -26,7 +26,7 @@ returns-clause-recorded g c short =
     let settings = c.args.settings.now in
     let before : Seen = seen_of (W.state c.args.wires.now) (W.counts c.args.wires.now) (W.asked c.args.wires.now) (W.lent c.args.wires.now) in
     let after : Seen = seen_of (W.state c.send_recorded.new.wires) (W.counts c.send_recorded.new.wires) (W.asked c.send_recorded.new.wires) (W.lent c.send_recorded.new.wires) in
-    ends_unlinked (λ cause. SendCause cause settings before after × SendsLines cause settings c.args.lines.now before after) Role.Initiator before after c.finish.result (O.state c.args.output.now) (O.state c.finish.new.output) c.in-Err.ended before.counts.dials after.counts.dials c.in-Err.ensures.failed (λ rose. (asking refl rose, unlinked_sends settings c.args.lines.now Ended.WireFault (λ e. cc) before after c.in-Err.ensures.failed.given))
+    ends_unlinked (λ cause. SendCause cause settings before after × SendsLines cause settings c.args.lines.now before after) Role.Initiator before after c.finish.result (O.state c.args.output.now) (O.state c.finish.new.output) c.in-Err.ended before.counts.dials after.counts.dials c.in-Err.ensures.failed (λ rose. (asking refl (rose, c.in-Err.ensures.failed.given), unlinked_sends settings c.args.lines.now Ended.WireFault (λ e. cc) before after c.in-Err.ensures.failed.given))
     (session tt (λ e. absurd cc), unlinked_sends settings c.args.lines.now Ended.NoMemory (λ e. cc) before after c.in-Err.ensures.failed.given)
     c.finish.ensures.written c.finish.ensures.none
 

@@ -11,7 +11,7 @@ use Rattle.beep_show.specs.beep_words.proofs.UsableLemmas.{send_is_usable, liste
 use Rattle.beep_runs.specs.beep_link.specs.declared.ended.Ended.{Ended}
 use Rattle.beep_runs.specs.beep_steps.specs.Ends.{AreFit}
 use Rattle.beep_runs.specs.beep_steps.proofs.FitLemmas.{fit}
-use Rattle.beep_cmd.specs.Ends.{AcceptsAtMost, DialsOnce, IsAcceptOf, IsDialOf, Listened, listen_starved, seen_of, Sent, session, WritesLawfully}
+use Rattle.beep_cmd.specs.Ends.{AcceptsAtMost, DialsOnce, IsAcceptOf, IsDialOf, Listened, listen_starved, ReadsWithin, seen_of, Sent, session, WritesLawfully}
 use Rattle.beep_cmd.specs.Pair.{Paired}
 use Rattle.beep_runs.specs.beep_link.specs.Causes.{Seen, WhereKnown}
 use Rattle.beep_runs.specs.beep_journal.specs.declared.role.Role.{Role}
@@ -26,7 +26,7 @@ use Rattle.beep_cmd.proofs.JudgeLemmas.{lawful}
 use Rattle.beep_cmd.proofs.ListenLemmas.{none_written}
 use Rattle.beep_cmd.proofs.PairLemmas.{runnable_complete, usable_limits}
 use Rattle.beep_cmd.proofs.RecordedLemmas.{unlinked_keeps}
-use Rattle.beep_cmd.proofs.ServingLemmas.{asks_none, each_none, none_shut}
+use Rattle.beep_cmd.proofs.ServingLemmas.{asks_none, each_none, none_read, none_shut}
 use Rattle.beep_cmd.proofs.StatusLemmas.{listened_not, paired_not, replayed_not, sent_not, shown_not}
 use Rattle.beep_cmd.proofs.run.beep_run.Goals as goal
 
@@ -84,6 +84,8 @@ returns-in-Ok-Some-Show g c =
       dials = λ settings w. absurd (other_send settings w);
       accepts = λ settings w. absurd (other_listen settings w);
       shut = none_shut (seen_of (g.W.Wires.state c.args.wires.now) (g.W.Wires.counts c.args.wires.now) (g.W.Wires.asked c.args.wires.now) (g.W.Wires.lent c.args.wires.now));
+      send_link_reads = λ settings w. absurd (other_send settings w);
+      listen_link_reads = λ settings w. absurd (other_listen settings w);
       unread = λ none. absurd (some none);
       unlinked = λ settings w. refl;
       listen_unread = λ settings w. absurd (other_listen settings w);
@@ -126,6 +128,8 @@ returns-in-Ok-Some-Replay g c =
       dials = λ settings w. absurd (other_send settings w);
       accepts = λ settings w. absurd (other_listen settings w);
       shut = none_shut (seen_of (g.W.Wires.state c.args.wires.now) (g.W.Wires.counts c.args.wires.now) (g.W.Wires.asked c.args.wires.now) (g.W.Wires.lent c.args.wires.now));
+      send_link_reads = λ settings w. absurd (other_send settings w);
+      listen_link_reads = λ settings w. absurd (other_listen settings w);
       unread = λ none. absurd (some none);
       unlinked = λ settings w. refl;
       listen_unread = λ settings w. absurd (other_listen settings w);
@@ -169,6 +173,8 @@ returns-in-Ok-Some-Send g c =
       dials = λ settings w. subst (λ (s : EndSettings). DialsOnce s before after) (same settings is w) c.send.ensures.asks;
       accepts = λ settings w. absurd (other settings w);
       shut = c.send.ensures.shut;
+      send_link_reads = λ settings w. subst (λ (s : EndSettings). ReadsWithin s before after) (same settings is w) c.send.ensures.link_reads;
+      listen_link_reads = λ settings w. absurd (other settings w);
       unread = λ none. absurd (of.some none);
       unlinked = λ settings w. absurd (not_unlinked words of settings w);
       listen_unread = λ settings w. absurd (other settings w);
@@ -214,6 +220,8 @@ returns-in-Ok-Some-Listen g c =
       dials = λ settings w. absurd (other settings w);
       accepts = λ settings w. subst (λ (s : EndSettings). AcceptsAtMost s before after) (same settings is w) c.listen.ensures.asks;
       shut = c.listen.ensures.shut;
+      send_link_reads = λ settings w. absurd (other settings w);
+      listen_link_reads = λ settings w. subst (λ (s : EndSettings). ReadsWithin s before after) (same settings is w) c.listen.ensures.link_reads;
       unread = λ none. absurd (of.some none);
       unlinked = λ settings w. absurd (not_unlinked words of settings w);
       listen_unread = λ settings w. refl;
@@ -259,6 +267,8 @@ returns-in-Ok-Some-Pair g c =
       dials = λ settings w. absurd (send settings w);
       accepts = λ settings w. absurd (listen settings w);
       shut = none_shut (seen_of (g.W.Wires.state c.args.wires.now) (g.W.Wires.counts c.args.wires.now) (g.W.Wires.asked c.args.wires.now) (g.W.Wires.lent c.args.wires.now));
+      send_link_reads = λ settings w. absurd (send settings w);
+      listen_link_reads = λ settings w. absurd (listen settings w);
       unread = λ none. absurd (some none);
       unlinked = λ settings w. refl;
       listen_unread = λ settings w. absurd (listen settings w);
@@ -302,6 +312,8 @@ returns-in-Ok-None g c =
       dials = λ settings w. absurd (send settings w);
       accepts = λ settings w. absurd (listen settings w);
       shut = none_shut (seen_of (g.W.Wires.state c.args.wires.now) (g.W.Wires.counts c.args.wires.now) (g.W.Wires.asked c.args.wires.now) (g.W.Wires.lent c.args.wires.now));
+      send_link_reads = λ settings w. absurd (send settings w);
+      listen_link_reads = λ settings w. absurd (listen settings w);
       unread = λ no_command. refl;
       unlinked = λ settings w. refl;
       listen_unread = λ settings w. absurd (listen settings w);
@@ -339,6 +351,8 @@ returns-in-Err g c =
       dials = λ settings w. asks_none (IsDialOf settings) 1 (g.W.Wires.asked c.args.wires.now);
       accepts = λ settings w. asks_none (IsAcceptOf settings) settings.sessions (g.W.Wires.asked c.args.wires.now);
       shut = none_shut (seen_of (g.W.Wires.state c.args.wires.now) (g.W.Wires.counts c.args.wires.now) (g.W.Wires.asked c.args.wires.now) (g.W.Wires.lent c.args.wires.now));
+      send_link_reads = λ settings w. none_read settings seen seen refl;
+      listen_link_reads = λ settings w. none_read settings seen seen refl;
       unread = λ none. absurd (of.some none);
       unlinked = λ settings w. absurd (not_unlinked words of settings w);
       listen_unread = λ settings w. refl;

@@ -55,6 +55,7 @@ loop-ended-preserved g c = record {
   shown = c.in-Ok-turn.ensures.shown;
   bounded = c.turn.ensures.bounded c.loop-ended.invariant.bounded;
   counted = c.in-Ok-turn.ensures.counted _ c.loop-ended.invariant.counted;
+  came = c.in-Ok-turn.ensures.came _ c.loop-ended.invariant.came;
   keeps = Keeps-trans c.args.link _ _ _ c.loop-ended.invariant.keeps c.turn.ensures.keeps;
   kept = omega (arith, c.loop-ended.invariant.kept, c.turn.ensures.kept);
   reads = omega (arith, c.loop-ended.invariant.reads, c.turn.ensures.reads, c.in-Ok-turn.ensures.falls);

@@ -1,6 +1,6 @@
 -- The log shows what may still be read, and so do the reads; and the end stands for the log.
 use Rattle.std.proofs.Common.{◌≡◌, ℕ, List, ◌≤◌, ◌+◌, ◌*◌, false, [], vec_len}
-use Rattle.beep_link.specs.Causes.{CountsQuiet, IsBounded, Keeps, reads_left, ReadsWhere, TellsLeft, WhereKnown, WithText}
+use Rattle.beep_link.specs.Causes.{CountsQuiet, CountsReads, IsBounded, Keeps, reads_left, ReadsWhere, TellsLeft, WhereKnown, WithText}
 use Rattle.beep_link.specs.declared.buffers.TheConstants.{BUFFER}
 use Rattle.beep_link.specs.declared.ended.Ended.{Ended}
 use Rattle.beep_link.proofs.turns.run_turns.Given as goal
@@ -18,6 +18,7 @@ invariant-loop-ended g l =
       shown : TellsLeft l.reads l.left (W.state l.wires l.link).log;
       bounded : IsBounded l.reads (W.state l.wires l.link).log;
       counted : CountsQuiet (W.counts l.fn.wires).quiets l.left (W.counts l.wires).quiets;
+      came : CountsReads l.reads (W.state l.fn.wires l.link).reads l.left (W.state l.wires l.link).reads;
       keeps : Keeps l.link (record { state = W.state l.fn.wires; counts = W.counts l.fn.wires; asked = W.asked l.fn.wires; lent = W.lent l.fn.wires })
           (record { state = W.state l.wires; counts = W.counts l.wires; asked = W.asked l.wires; lent = W.lent l.wires });
       kept : (g.O.Sink.state l.fn.output).faults ≤ (g.O.Sink.state l.output).faults;

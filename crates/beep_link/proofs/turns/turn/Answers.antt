@@ -2,7 +2,7 @@
 use Rattle.std.proofs.Common.{rules, ◌≡◌, ◌≤◌, ◌∷◌, [], ◌++◌, ℕ, List, take, subst, sym, ◌∙◌}
 use Rattle.beep_wires.specs.Log.{Logs, read, quiet, ended}
 use Rattle.beep_wires.specs.Links.{Counts}
-use Rattle.beep_link.specs.Causes.{octets_read, CountsQuiet, IsOfReads, IsWithin, ReadsWhere, TellsLeft, WhereKnown, WithText, ended_by}
+use Rattle.beep_link.specs.Causes.{octets_read, CountsQuiet, CountsReads, IsOfReads, IsWithin, ReadsWhere, TellsLeft, WhereKnown, WithText, ended_by}
 use Rattle.beep_link.specs.declared.ended.Ended.{Ended}
 use Rattle.beep_link.proofs.StandLemmas.{bounded-grown, bounded-read, entered, kept, most-read, reads-grown, spent-is, take-front, tells-same, text-map, text-more, known-map, known-pair}
 use Rattle.beep_link.proofs.turns.turn.Goals as goal
@@ -28,6 +28,14 @@ returns-in-Ok-clause-counted g c before h =
 pub returns-in-Ok-Quiet-clause-counted : goal.returns-in-Ok-Quiet-clause-counted
 returns-in-Ok-Quiet-clause-counted g c before h =
     c.in-Ok-Quiet.ensures.counted before (subst (λ (n : Counts). CountsQuiet before c.args.left.now n.quiets) (sym c.say.ensures.same_counts) h)
+
+pub returns-in-Ok-clause-came : goal.returns-in-Ok-clause-came
+returns-in-Ok-clause-came g c before h =
+    c.in-Ok-Bytes.ensures.came before (subst (λ (n : ℕ). CountsReads c.args.reads before c.args.left.now n) (sym c.say.ensures.same_reads.counted) h)
+
+pub returns-in-Ok-Quiet-clause-came : goal.returns-in-Ok-Quiet-clause-came
+returns-in-Ok-Quiet-clause-came g c before h =
+    c.in-Ok-Quiet.ensures.came before (subst (λ (n : ℕ). CountsReads c.args.reads before c.args.left.now n) (sym c.say.ensures.same_reads.counted) h)
 
 pub returns-in-Some-is_spent-clause-stopped : goal.returns-in-Some-is_spent-clause-stopped
 returns-in-Some-is_spent-clause-stopped g c before s =
