@@ -82,8 +82,8 @@ pub(crate) fn drawn_mood(dice: &mut Dice, length: Length) -> Mood {
     let ends = dice.below(4) == 0;
     Mood {
         acts: drawn_acts(dice, length),
-        a: limits(dice),
-        b: limits(dice),
+        a: limits(dice, length),
+        b: limits(dice, length),
         opens: dice.below(4) != 0 && !(ends && dice.below(2) == 0),
         numbers: dice.between(2, NUMBERS),
         longest: drawn_longest(dice, length),
@@ -94,16 +94,26 @@ pub(crate) fn drawn_mood(dice: &mut Dice, length: Length) -> Mood {
     }
 }
 
+/// The least small piece and the greatest. In a brief schedule none cuts an element of channel zero
+/// into more than a handful of frames, of which each is an item of two journals.
+fn small_pieces(length: Length) -> (u32, u32) {
+    match length {
+        Length::Long | Length::Short => (1, 30),
+        Length::Brief => (25, 60),
+    }
+}
+
 /// The windows and pieces of an end, drawn: often the least window, and small pieces.
-fn limits(dice: &mut Dice) -> Limits {
+fn limits(dice: &mut Dice, length: Length) -> Limits {
     let window = if dice.below(3) == 0 {
         dice.between(MIN_WINDOW, MAX_WINDOW)
     } else {
         MIN_WINDOW
     };
+    let (least, most) = small_pieces(length);
     let piece = match dice.below(4) {
-        0 => dice.between(1, 30),
-        1 => dice.between(1, MAX_PIECE),
+        0 => dice.between(least, most),
+        1 => dice.between(least, MAX_PIECE),
         _ => MAX_PIECE,
     };
     Limits { window, piece }
