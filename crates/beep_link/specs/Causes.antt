@@ -13,7 +13,7 @@ use Rattle.beep_link.specs.declared.ended.Stop.{Stop}
 use Rattle.beep_link.specs.declared.ended.Ended.{Ended}
 use Rattle.beep_link.specs.declared.left.Reads.{Reads}
 use Rattle.beep_link.specs.declared.left.Left.{Left}
-use Rattle.beep_link.specs.declared.buffers.TheConstants.{BUFFER}
+use Rattle.beep_link.specs.declared.buffers.TheConstants.{READ}
 
 -- what ends where an end is stopped by this
 abbrev pub ended_by : Stop → Ended
@@ -63,10 +63,10 @@ pub record IsUnused (link : Link) : Type 0 where
 abbrev pub RoseBy : ℕ → ℕ → ℕ → Type 0
 RoseBy count old new = (old + count ≤ new) ⊎ (COUNT_MAX ≤ new)
 
--- a link was read often enough for so many octets, of which one read gives a buffer at most, or the
+-- a link was read often enough for so many octets, of which one read gives `READ` at most, or the
 -- count of its reads stands at its greatest value
 abbrev pub ReadsGive : ℕ → ℕ → ℕ → Type 0
-ReadsGive octets old new = (octets + BUFFER * old ≤ BUFFER * new) ⊎ (COUNT_MAX ≤ new)
+ReadsGive octets old new = (octets + READ * old ≤ READ * new) ⊎ (COUNT_MAX ≤ new)
 
 -- a link and the count of quiet reads
 pub record Look : Type 0 where
@@ -189,11 +189,11 @@ pub record CountsQuiet (before : ℕ) (left : Left) (quiets : ℕ) : Type 0 wher
 -- since a link had been read so often it was read often enough for the octets that came
 abbrev pub CountsReads : Reads → ℕ → Left → ℕ → Type 0
 CountsReads reads before left count =
-    (reads.octets + BUFFER * before ≤ left.octets + BUFFER * count) ⊎ (COUNT_MAX ≤ count)
+    (reads.octets + READ * before ≤ left.octets + READ * count) ⊎ (COUNT_MAX ≤ count)
 
--- the octets that came fit the buffer
+-- the octets that came are as many as one read gives, or fewer
 abbrev pub fits_buffer : Got → Type 0
-fits_buffer (Got.Bytes n) = n ≤ BUFFER
+fits_buffer (Got.Bytes n) = n ≤ READ
 fits_buffer Got.Quiet = Unit {0}
 fits_buffer Got.End = Unit {0}
 

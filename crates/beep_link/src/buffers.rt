@@ -4,8 +4,12 @@ ghost use Rattle.std.specs.Prelude.{◌≡◌, ◌≤◌, [], length, IfOk, vec_
 use beep_octets::{NoMemory, Octets};
 use std::alloc::Global;
 
-/// How many octets are read at once at most, and gathered before they are written.
+/// How many octets are gathered before they are written.
 pub const BUFFER: usize = 65536;
+
+/// How many octets are read at once at most: a quarter of the greatest window, so that a peer whose
+/// window was full has a SEQ, and sends, while the rest of what it sent is still to be heard.
+pub const READ: usize = 16384;
 
 /// What a read gives, and what is gathered to be written.
 #[derive(Drop)]
@@ -17,11 +21,11 @@ pub(crate) struct Buffers {
 impl Buffers {
     /// Both, with their room.
     pub(crate) fn new(alloc: Global) -> Result<Buffers, NoMemory>
-        ensures coming { IfOk result (λ b. vec_len b.coming ≡ BUFFER) }
+        ensures coming { IfOk result (λ b. vec_len b.coming ≡ READ) }
         ensures going { IfOk result (λ b. (b.going.octets ≡ []) × (BUFFER ≤ b.going.spare)) }
     {
         let mut coming = Vec::new(alloc);
-        coming.resize(BUFFER, 0)?;
+        coming.resize(READ, 0)?;
         let mut going = Octets::new(alloc);
         going.reserve(BUFFER)?;
         Ok(Buffers { coming, going })

@@ -13,7 +13,7 @@ mod read;
 mod say;
 mod turns;
 
-pub use buffers::BUFFER;
+pub use buffers::{BUFFER, READ};
 pub use end::{End, FRAME_ROOM};
 pub use ended::{Ended, Stop};
 pub use left::Reads;

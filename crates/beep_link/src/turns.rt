@@ -2,10 +2,10 @@
 ghost use Rattle.std.specs.Prelude.{◌≡◌, ◌≤◌, ◌<◌, ◌+◌, ◌*◌, ℕ, [], List, Option, true, false, OnOk, IfErr, vec_len};
 ghost use Rattle.beep_wires.specs.Links.{Link};
 ghost use Rattle.beep_link.specs.Causes.{CountsQuiet, CountsReads, IsBounded, IsCaused, IsUnused, IsWritten, Keeps, reads_left, ReadsWhere, TellsLeft, WhereKnown, WithText};
-ghost use Rattle.beep_link.specs.declared.buffers.TheConstants.{BUFFER};
+ghost use Rattle.beep_link.specs.declared.buffers.TheConstants.{READ};
 ghost use Rattle.beep_link.specs.declared.ended.Ended.{Ended as EndedValue};
 
-use crate::buffers::{BUFFER, Buffers};
+use crate::buffers::{Buffers, READ};
 use crate::end::End;
 use crate::ended::Ended;
 use crate::left::{Left, Reads};
@@ -82,7 +82,7 @@ fn turn<E: End, W: Wires, O: Sink>(
     requires open { (W.state wires.old link).is_open ≡ true }
     requires going { (W.state wires.old link).has_ended ≡ false }
     requires shown { TellsLeft reads left.old (W.state wires.old link).log }
-    requires buffer { vec_len buffers.old.coming ≡ BUFFER }
+    requires buffer { vec_len buffers.old.coming ≡ READ }
     requires empty { buffers.old.going.octets ≡ [] }
     ensures stands { (before : Option (List ℕ)) → WhereKnown (λ log. WithText before
         (O.state output.old).written (E.stands end.old log [])) (W.state wires.old link).log
@@ -132,7 +132,7 @@ fn turn<E: End, W: Wires, O: Sink>(
         }) }
     ensures kept { (O.state output.old).faults ≤ (O.state output.new).faults }
     ensures reads { (W.state wires.new link).reads ≤ (W.state wires.old link).reads + 1 }
-    ensures buffer { vec_len buffers.new.coming ≡ BUFFER }
+    ensures buffer { vec_len buffers.new.coming ≡ READ }
     ensures empty { OnOk result (buffers.new.going.octets ≡ []) }
     ensures terms { E.terms end.new ≡ E.terms end.old }
 {

@@ -1,7 +1,7 @@
 -- The log shows what may still be read, and so do the reads; and the end stands for the log.
 use Rattle.std.proofs.Common.{◌≡◌, ℕ, List, ◌≤◌, ◌+◌, ◌*◌, false, [], vec_len}
 use Rattle.beep_link.specs.Causes.{CountsQuiet, CountsReads, IsBounded, Keeps, reads_left, ReadsWhere, TellsLeft, WhereKnown, WithText}
-use Rattle.beep_link.specs.declared.buffers.TheConstants.{BUFFER}
+use Rattle.beep_link.specs.declared.buffers.TheConstants.{READ}
 use Rattle.beep_link.specs.declared.ended.Ended.{Ended}
 use Rattle.beep_link.proofs.turns.run_turns.Given as goal
 
@@ -14,7 +14,7 @@ invariant-loop-ended g l =
       stands : g.E.End.stands l.fn.end [] [] [] → WhereKnown (λ log. WithText (g.O.Sink.state l.fn.output).written (g.O.Sink.state l.output).written (g.E.End.stands l.end log [])) (W.state l.wires l.link).log;
       waits : g.E.End.stands l.fn.end [] [] [] → WhereKnown (ReadsWhere (λ log. (text : List ℕ) × g.E.End.tells (g.E.End.terms l.fn.end) (Ended.Idle 0) log text)) (W.state l.wires l.link).log;
       going : (W.state l.wires l.link).has_ended ≡ false;
-      buffer : vec_len l.buffers.coming ≡ BUFFER;
+      buffer : vec_len l.buffers.coming ≡ READ;
       shown : TellsLeft l.reads l.left (W.state l.wires l.link).log;
       bounded : IsBounded l.reads (W.state l.wires l.link).log;
       counted : CountsQuiet (W.counts l.fn.wires).quiets l.left (W.counts l.wires).quiets;
