@@ -11,6 +11,7 @@
 #include <unistd.h>
 
 #define BUFFER 65536
+#define READ 16384
 #define MIME "Content-Type: application/beep+xml\r\n\r\n"
 #define PROFILE "<profile uri='http://xml.resource.org/profiles/syslog/RAW' />"
 
@@ -107,10 +108,10 @@ static size_t next(size_t at, struct frame *frame)
     return end <= held ? end : 0;
 }
 
-/* Reads once, after what is held. */
+/* Reads once, after what is held, as much as `beep` does at most. */
 static void read_once(int link)
 {
-    ssize_t count = read(link, in + held, BUFFER);
+    ssize_t count = read(link, in + held, READ);
     if (count <= 0)
         exit(count < 0 ? 5 : 6);
     held += count;
