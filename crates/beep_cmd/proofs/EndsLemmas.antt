@@ -1,11 +1,11 @@
 -- The reports of `send` and `listen`, with their last lines.
 use Rattle.std.proofs.Common.{◌≡◌, ◌≢◌, ℕ, ◌≤◌, List, [], inl, inr, refl, sym, subst, arith}
 use Rattle.std.specs.Io.KnownBytes.{Consumes}
-use Rattle.std.proofs.KnownBytes.{Appends-nil, Consumes-nil}
+use Rattle.std.proofs.KnownBytes.{Appends-nil, Appends-trans, Consumes-nil}
 use Rattle.beep_runs.specs.beep_wires.specs.Counts.{Rose}
 use Rattle.beep_runs.specs.beep_wires.specs.States.{SourceState, SinkState}
 use Rattle.beep_runs.specs.beep_link.specs.declared.ended.Ended.{Ended}
-use Rattle.beep_runs.specs.beep_link.specs.Causes.{IsWritten, Seen}
+use Rattle.beep_runs.specs.beep_link.specs.Causes.{Grows, IsWritten, Seen}
 use Rattle.beep_runs.specs.beep_settings.specs.declared.settings.Settings.{Settings}
 use Rattle.beep_show.specs.beep_input.specs.Lines.{IsUnlisted}
 use Rattle.beep_show.specs.beep_input.specs.declared.lines.Unlisted.{Unlisted}
@@ -49,9 +49,9 @@ unsent settings before run Unlisted.NoMemory result u t s = starved settings bef
 pub rose_later : (a b c : ℕ) → a ≤ b → Rose b c → Rose a c
 rose_later a b c h = elim [ inl w ↦ inl (omega (arith, h, w)) | inr w ↦ inr w ]
 
-module _ (settings : Settings) (before after : Seen) (source : SourceState) (sink mid sink_after : SinkState) (result : ℕ) (kept : sink.faults ≤ mid.faults) where
+module _ (settings : Settings) (before after : Seen) (source : SourceState) (sink mid sink_after : SinkState) (result : ℕ) (kept : sink.faults ≤ mid.faults) (grew : Grows sink.written mid.written) where
   line_written : (cause : Ended) → cause ≢ Ended.WriteFault → cause ≢ Ended.NoMemory → ListenCause cause settings before after → WritesLast (ended_status cause) (ended_line cause) result mid sink_after → Listened settings before after result (run_of source source sink sink_after)
-  line_written cause n m c (whole_line is appended) = listen_written cause n m c is (λ plain. (mid.written, appended))
+  line_written cause n m c (whole_line is appended) = listen_written cause n m c is (λ plain. (grew.0, Appends-trans sink.written mid.written sink_after.written grew.0 (ended_line cause) grew.1 appended))
   line_written cause n m c (line_begun is some rose prefix) = listen_unwritten is (rose_later sink.faults mid.faults sink_after.faults kept rose)
 
   -- the last line of what ended the run was written, or begun; there may be none

@@ -1,5 +1,5 @@
 -- How a run that is recorded ends.
-use Rattle.std.proofs.Common.{◌≡◌, ◌≢◌, inl, inr, ℕ, ◌+◌, ◌≤◌, true, false, List, [], ◌∷◌, ◌++◌, codes, refl, sym, ap, ◌∙◌, subst, arith, append_assoc}
+use Rattle.std.proofs.Common.{◌≡◌, ◌≢◌, inl, inr, ⊎_elim, ℕ, ◌+◌, ◌≤◌, true, false, List, [], ◌∷◌, ◌++◌, codes, refl, sym, ap, ◌∙◌, subst, arith, append_assoc}
 use Rattle.std.proofs.lemmas.List.{append-nil}
 use Rattle.std.specs.Fmt.{decimal}
 use Rattle.std.specs.Io.KnownBytes.{Appends, Consumes}
@@ -11,7 +11,7 @@ use Rattle.beep_runs.specs.beep_wires.specs.States.{SourceState, SinkState}
 use Rattle.beep_runs.specs.beep_wires.specs.Links.{Link, dial, accept}
 use Rattle.beep_runs.specs.beep_settings.specs.declared.settings.Settings.{Settings}
 use Rattle.beep_runs.specs.beep_link.specs.declared.ended.Ended.{Ended}
-use Rattle.beep_runs.specs.beep_link.specs.Causes.{IsBounded, Seen, WhereKnown}
+use Rattle.beep_runs.specs.beep_link.specs.Causes.{IsBounded, IsCaused, Seen, WhereKnown}
 use Rattle.beep_runs.specs.beep_steps.specs.EachEnd.{EachEndOn}
 use Rattle.beep_runs.specs.beep_steps.specs.Ends.{reads_of}
 use Rattle.beep_runs.specs.beep_steps.specs.Logs.{moments, IsLawfulOn, terms_by}
@@ -26,9 +26,9 @@ use Rattle.beep_show.specs.beep_input.specs.Lines.{AreLines}
 use Rattle.beep_show.specs.Show.{Run, run_of}
 use Rattle.beep_cmd.specs.Recorded.{IsEnding, lined, recorded}
 use Rattle.beep_cmd.specs.Recording.{EndsRecorded, KeepsListening, ListenRecorded, SendRecorded, record_written, record_starved, TellsRecord, TellsWhole, whole_record, no_record}
-use Rattle.beep_cmd.specs.Ends.{AcceptsAtMost, AreShut, AsksOnly, DialsOnce, EachOf, ended_line, ended_status, IsAcceptOf, IsDialOf, ListenCause, Listened, listen_starved, listen_written, listen_unwritten, most_reads, over, ReadsWithin, SendCause, SendsLines, Sent, send_starved, session, SessionCause, WritesLast, whole_line, line_begun, WritesLawfully}
+use Rattle.beep_cmd.specs.Ends.{AcceptsAtMost, AsksOnly, DialsOnce, EachOf, ended_line, ended_status, IsAcceptOf, IsDialOf, ListenCause, Listened, listen_starved, listen_written, listen_unwritten, over, SendCause, SendsLines, Sent, send_starved, session, SessionCause, WritesLast, whole_line, line_begun, WritesLawfully}
 use Rattle.beep_cmd.proofs.EndsLemmas.{sent}
-use Rattle.beep_cmd.proofs.ServingLemmas.{asks_once, each_none, each_of_it, each_one, none_read, session_cause}
+use Rattle.beep_cmd.proofs.ServingLemmas.{asks_once, each_none, each_of_it, each_one, session_cause}
 
 -- ---- a record and its status
 
@@ -77,7 +77,10 @@ tells_record role link (Ended.Spent octets) result old new some t = t
 
 module _ (role : Role) (settings : Settings) (cause : Ended) (before after : Seen) (r : Ran role settings cause before after) where
   pub cause_of : SessionCause cause role settings before after
-  cause_of = session_cause role settings before after before.counts.given refl r.given r.fresh r.last r.is_fresh r.shut before.counts.quiets (omega arith) cause r.caused r.shown
+  cause_of = ⊎_elim
+      (λ same. session_cause role settings before after before.counts.given refl r.given r.fresh r.last r.is_fresh r.shut before.counts.quiets (omega arith) r.exact cause
+      (subst (λ (e : Ended). IsCaused e (reads_of settings) (record { link = r.fresh; quiets = before.counts.quiets }) (record { link = r.last; quiets = after.counts.quiets })) (sym same) r.caused) r.shown)
+      (λ short. subst (λ (e : Ended). SessionCause e role settings before after) (sym short) tt) r.ended_is
 
   pub lawful_of : WritesLawfully role settings before after
   lawful_of = each_of_it role settings before after before.counts.given refl r.given r.fresh r.last r.is_fresh r.shut before.counts.quiets (omega arith) (λ link. WhereKnown (IsLawfulOn (terms_by role settings)) link.log) r.lawful
@@ -85,20 +88,8 @@ module _ (role : Role) (settings : Settings) (cause : Ended) (before after : See
   pub bounded_of : EachOf before after (λ link. IsBounded (reads_of settings) link.log)
   bounded_of = each_of_it role settings before after before.counts.given refl r.given r.fresh r.last r.is_fresh r.shut before.counts.quiets (omega arith) (λ link. IsBounded (reads_of settings) link.log) r.bounded
 
-  pub reads_within : ReadsWithin settings before after
-  reads_within = each_of_it role settings before after before.counts.given refl r.given r.fresh r.last r.is_fresh r.shut before.counts.quiets (omega arith) (λ link. link.reads ≤ most_reads settings) r.reads
-
-  pub shut_of : AreShut before after
-  shut_of = each_of_it role settings before after before.counts.given refl r.given r.fresh r.last r.is_fresh r.shut before.counts.quiets (omega arith) (λ link. link.is_open ≡ false) refl
-
 pub not_given_lawful : (role : Role) (settings : Settings) (cause : Ended) (old new : ℕ) (before after : Seen) → NotGiven cause old new before after → WritesLawfully role settings before after
 not_given_lawful role settings cause old new before after n = each_none (λ link. WhereKnown (IsLawfulOn (terms_by role settings)) link.log) before after n.given
-
-pub not_given_read : (settings : Settings) (cause : Ended) (old new : ℕ) (before after : Seen) → NotGiven cause old new before after → ReadsWithin settings before after
-not_given_read settings cause old new before after n = none_read settings before after n.given
-
-pub not_given_shut : (cause : Ended) (old new : ℕ) (before after : Seen) → NotGiven cause old new before after → AreShut before after
-not_given_shut cause old new before after n = each_none (λ link. link.is_open ≡ false) before after n.given
 
 pub send_asks : (settings : Settings) (before after : Seen) (host : List ℕ) → (is : IsDialOf settings (dial host settings.port)) → AsksThis (dial host settings.port) before after → DialsOnce settings before after
 send_asks settings before after host is a = asks_once (IsDialOf settings) (dial host settings.port) is a.0 before.asked after.asked a.1

@@ -1,19 +1,21 @@
 -- What ended a session shows in its link, and still shows after further ones.
-use Rattle.std.proofs.Common.{◌≡◌, ℕ, ◌+◌, ◌<◌, ◌≤◌, Bool, true, false, nat_le, Option, Some, None, List, [], ◌∷◌, ◌++◌, inl, inr, refl, ap, sym, ◌∙◌, subst, arith, append_assoc, length-append}
+use Rattle.std.proofs.Common.{◌≡◌, ℕ, ◌+◌, ◌*◌, ◌<◌, ◌≤◌, Bool, true, false, nat_le, Option, Some, None, List, [], ◌∷◌, ◌++◌, inl, inr, refl, ap, sym, ◌∙◌, subst, arith, append_assoc, length-append}
 use Rattle.std.specs.List.{AllByRecursion}
 use Rattle.std.proofs.lemmas.Bool.Decides.{nat_tests}
 use Rattle.std.specs.declared.result.Result.{Result}
 use Rattle.std.specs.declared.result.Result.TheVariants.{Ok, Err}
+use Rattle.beep_runs.specs.beep_wires.specs.declared.count.TheConstants.{COUNT_MAX}
 use Rattle.beep_runs.specs.beep_wires.specs.declared.links.WireError.{WireError}
 use Rattle.beep_runs.specs.beep_wires.specs.Counts.{Rose}
 use Rattle.beep_runs.specs.beep_wires.specs.Links.{Link, Ask, Asked, IsFresh, Asks, asked_by}
+use Rattle.beep_runs.specs.beep_link.specs.declared.buffers.TheConstants.{READ}
 use Rattle.beep_runs.specs.beep_link.specs.declared.ended.Ended.{Ended}
-use Rattle.beep_runs.specs.beep_link.specs.Causes.{IsCaused, IsUnused, ReadsGive, RoseBy, Seen, WhereKnown}
+use Rattle.beep_runs.specs.beep_link.specs.Causes.{IsCaused, IsUnused, LinkShows, ReadsGive, RoseBy, Seen, WhereKnown}
 use Rattle.beep_runs.specs.beep_journal.specs.declared.role.Role.{Role}
 use Rattle.beep_runs.specs.beep_steps.specs.Ends.{reads_of}
 use Rattle.beep_runs.specs.beep_steps.specs.Logs.{Shows, terms_by}
 use Rattle.beep_runs.specs.beep_settings.specs.declared.settings.Settings.{Settings}
-use Rattle.beep_cmd.specs.Ends.{HasCause, OneOf, EachOf, EndsIn, ShowsIn, SessionCause, AreShut, AsksOnly, ends_run, GaveBefore, GaveLink, most_reads, ReadsWithin}
+use Rattle.beep_cmd.specs.Ends.{HasCause, LinkTells, OneOf, EachOf, EndsIn, SessionCause, AreShut, AsksOnly, ends_run, GaveBefore, GaveLink, most_reads, ReadsWithin}
 use Rattle.beep_cmd.specs.Listening.{first_of}
 use Rattle.beep_cmd.specs.Serving.{AsksGave, GoesOn}
 
@@ -29,18 +31,32 @@ risen most a b c d k l = elim [ inl w ↦ inl (omega (arith, k, l, w)) | inr w �
 faulted : (a b : ℕ) → a ≡ 0 → Rose a b → 0 < b
 faulted a b e = elim [ inl w ↦ omega (arith, e, w) | inr w ↦ omega (arith, w) ]
 
+-- a count that was 0 and never stood at its greatest value
+from-none : (most old new : ℕ) → old ≡ 0 → new < COUNT_MAX → RoseBy most old new → most ≤ new
+from-none most old new none exact = elim [ inl w ↦ omega (arith, none, w) | inr w ↦ absurd (omega (arith, exact, w)) ]
+
+given-by : (octets old new : ℕ) → old ≡ 0 → new < COUNT_MAX → ReadsGive octets old new → octets ≤ READ * new
+given-by octets old new none exact = elim [ inl w ↦ omega (arith, none, w) | inr w ↦ absurd (omega (arith, exact, w)) ]
+
 -- what ended a session shows in its link when it is shut
-pub has_cause : (settings : Settings) (fresh last : Link) (quiets later : ℕ) → IsFresh fresh → (cause : Ended)
-    → IsCaused cause (reads_of settings) (record { link = fresh; quiets = quiets }) (record { link = last; quiets = later }) → HasCause settings cause (record last { is_open = false })
-has_cause settings fresh last quiets later f Ended.Released c = tt
-has_cause settings fresh last quiets later f (Ended.Broken rule place) c = tt
-has_cause settings fresh last quiets later f Ended.WriteFault c = tt
-has_cause settings fresh last quiets later f Ended.WireFault c = faulted fresh.faults last.faults f.no_faults c
-has_cause settings fresh last quiets later f Ended.NoMemory c = tt
-has_cause settings fresh last quiets later f (Ended.Refused code) c = tt
-has_cause settings fresh last quiets later f (Ended.Cut left) c = c
-has_cause settings fresh last quiets later f (Ended.Idle reads) c = (c.0, c.1)
-has_cause settings fresh last quiets later f (Ended.Spent octets) c = (c.0, c.1, subst (λ (n : ℕ). ReadsGive settings.octets n last.reads) f.no_reads c.2)
+module _ (settings : Settings) (fresh last : Link) (quiets later : ℕ) (f : IsFresh fresh) (exact : last.reads < COUNT_MAX) where
+  link_tells : (cause : Ended) → LinkShows cause (reads_of settings) (record { link = fresh; quiets = quiets }) (record { link = last; quiets = later }) → LinkTells settings cause (record last { is_open = false })
+  link_tells Ended.Released c = tt
+  link_tells (Ended.Broken rule place) c = tt
+  link_tells Ended.WriteFault c = tt
+  link_tells Ended.WireFault c = faulted fresh.faults last.faults f.no_faults c
+  link_tells Ended.NoMemory c = tt
+  link_tells (Ended.Refused code) c = tt
+  link_tells (Ended.Cut left) c = tt
+  link_tells (Ended.Idle reads) c = (c.0, c.1, from-none settings.idle fresh.reads last.reads f.no_reads exact c.3)
+  link_tells (Ended.Spent octets) c = (c.0, c.1, given-by settings.octets fresh.reads last.reads f.no_reads exact c.2)
+
+  pub has_cause : (cause : Ended) → IsCaused cause (reads_of settings) (record { link = fresh; quiets = quiets }) (record { link = last; quiets = later }) → HasCause settings cause (record last { is_open = false })
+  has_cause cause c = record {
+    cut = c.cut;
+    unfailed = λ other. c.unfailed other ∙ f.no_faults;
+    because = link_tells cause c.because;
+  }
 
 -- where no link was given nothing is said of any
 pub each_none : (P : Link → Type 0) (before after : Seen) → after.counts.given ≡ before.counts.given → EachOf before after P
@@ -66,17 +82,22 @@ module _ (role : Role) (settings : Settings) (before after : Seen) (link : ℕ) 
   pub each_of_it : (P : Link → Type 0) → P (record last { is_open = false }) → EachOf before after P
   each_of_it P p = each_one P before after link is one (subst P (sym shut) p)
 
-  pub session_cause : (cause : Ended) → IsCaused cause (record { octets = settings.octets; idle = settings.idle }) (record { link = fresh; quiets = quiets }) (record { link = last; quiets = after.counts.quiets })
-      → WhereKnown (Shows (terms_by role settings) cause) last.log → SessionCause cause role settings before after
-  session_cause Ended.Released c s = each_of_it (ShowsIn role settings Ended.Released) s
-  session_cause (Ended.Broken rule place) c s = of_it (EndsIn role settings (Ended.Broken rule place)) (tt, s)
-  session_cause Ended.WriteFault c s = tt
-  session_cause Ended.WireFault c s = of_it (EndsIn role settings Ended.WireFault) (faulted fresh.faults last.faults is_fresh.no_faults c, s)
-  session_cause Ended.NoMemory c s = tt
-  session_cause (Ended.Refused code) c s = of_it (EndsIn role settings (Ended.Refused code)) (tt, s)
-  session_cause (Ended.Cut left) c s = of_it (EndsIn role settings (Ended.Cut left)) (c, s)
-  session_cause (Ended.Idle reads) c s = (risen settings.idle before.counts.quiets quiets after.counts.quiets after.counts.quiets kept (omega arith) c.2, of_it (EndsIn role settings (Ended.Idle reads)) ((c.0, c.1), s))
-  session_cause (Ended.Spent octets) c s = of_it (EndsIn role settings (Ended.Spent octets)) ((c.0, c.1, subst (λ (n : ℕ). ReadsGive settings.octets n last.reads) is_fresh.no_reads c.2), s)
+  module _ (exact : last.reads < COUNT_MAX) where
+    ends_in : (cause : Ended) → IsCaused cause (reads_of settings) (record { link = fresh; quiets = quiets }) (record { link = last; quiets = after.counts.quiets })
+        → WhereKnown (Shows (terms_by role settings) cause) last.log → EndsIn role settings cause (record last { is_open = false })
+    ends_in cause c s = (has_cause settings fresh last quiets after.counts.quiets is_fresh exact cause c, s)
+
+    pub session_cause : (cause : Ended) → IsCaused cause (reads_of settings) (record { link = fresh; quiets = quiets }) (record { link = last; quiets = after.counts.quiets })
+        → WhereKnown (Shows (terms_by role settings) cause) last.log → SessionCause cause role settings before after
+    session_cause Ended.Released c s = each_of_it (EndsIn role settings Ended.Released) (ends_in Ended.Released c s)
+    session_cause (Ended.Broken rule place) c s = of_it (EndsIn role settings (Ended.Broken rule place)) (ends_in (Ended.Broken rule place) c s)
+    session_cause Ended.WriteFault c s = tt
+    session_cause Ended.WireFault c s = of_it (EndsIn role settings Ended.WireFault) (ends_in Ended.WireFault c s)
+    session_cause Ended.NoMemory c s = tt
+    session_cause (Ended.Refused code) c s = of_it (EndsIn role settings (Ended.Refused code)) (ends_in (Ended.Refused code) c s)
+    session_cause (Ended.Cut left) c s = of_it (EndsIn role settings (Ended.Cut left)) (ends_in (Ended.Cut left) c s)
+    session_cause (Ended.Idle reads) c s = (risen settings.idle before.counts.quiets quiets after.counts.quiets after.counts.quiets kept (omega arith) c.because.2, of_it (EndsIn role settings (Ended.Idle reads)) (ends_in (Ended.Idle reads) c s))
+    session_cause (Ended.Spent octets) c s = of_it (EndsIn role settings (Ended.Spent octets)) (ends_in (Ended.Spent octets) c s)
 
 -- ---- several sessions
 
@@ -118,7 +139,7 @@ module _ (before mid after : Seen) (f : GoesOn before mid) (g : GoesOn mid after
   -- the first of two causes that isn't a release holds as each does
   pub joined_cause : (role : Role) (settings : Settings) (first ended : Ended) → SessionCause first role settings before mid → SessionCause ended role settings mid after
       → SessionCause (first_of first ended) role settings before after
-  joined_cause role settings Ended.Released Ended.Released p q = each_joined (ShowsIn role settings Ended.Released) p q
+  joined_cause role settings Ended.Released Ended.Released p q = each_joined (EndsIn role settings Ended.Released) p q
   joined_cause role settings Ended.Released (Ended.Broken rule place) p q = cause_wider before mid after after f (stays after) role settings (Ended.Broken rule place) (λ e. cc) q
   joined_cause role settings Ended.Released Ended.WriteFault p q = tt
   joined_cause role settings Ended.Released Ended.WireFault p q = cause_wider before mid after after f (stays after) role settings Ended.WireFault (λ e. cc) q

@@ -5,7 +5,7 @@ use Rattle.std.specs.List.{filter}
 use Rattle.std.proofs.lemmas.Bool.Decides.{nat_tests}
 use Rattle.beep_runs.specs.prof_raw.specs.declared.line.TheConstants.{ENTRY_MAX}
 use Rattle.beep_runs.specs.prof_raw.specs.Entries.{has_some}
-use Rattle.beep_show.specs.beep_input.specs.Lines.{AreLines, first_long, lines_of, pieces_at_lf, without_cr}
+use Rattle.beep_show.specs.beep_input.specs.Lines.{AreLines, first_long, pieces_at_lf, without_cr}
 use Rattle.beep_runs.specs.beep_steps.specs.Resting.{AreShort}
 
 -- a test that isn't so

@@ -1,6 +1,6 @@
 -- What `send` and `listen` end with, status by status (RFC 3195, section 3).
 -- Each cause is read off the links after the run; the code hands on what ended a session.
-use Rattle.std.specs.Prelude.{◌≡◌, ◌≢◌, ℕ, Bool, ◌+◌, ◌<◌, ◌≤◌, ◌⊎◌, true, false, Option, Some, None, List, [], ◌∷◌, ◌++◌, length, chars}
+use Rattle.std.specs.Prelude.{◌≡◌, ◌≢◌, ℕ, Bool, ◌+◌, ◌*◌, ◌<◌, ◌≤◌, ◌⊎◌, true, false, Option, Some, None, List, [], ◌∷◌, ◌++◌, length, chars}
 use Rattle.std.specs.List.{AllByRecursion}
 use Rattle.beep_runs.specs.beep_wires.specs.Counts.{Rose}
 use Rattle.beep_runs.specs.beep_wires.specs.States.{SourceState, SinkState}
@@ -8,7 +8,8 @@ use Rattle.beep_runs.specs.beep_wires.specs.Transfer.{AppendsPrefix}
 use Rattle.std.specs.Io.KnownBytes.{Appends}
 use Rattle.beep_runs.specs.beep_wires.specs.Links.{Link, Ask, accept, dial, Asked}
 use Rattle.beep_runs.specs.beep_link.specs.declared.ended.Ended.{Ended}
-use Rattle.beep_runs.specs.beep_link.specs.Causes.{HasRead, IsBounded, IsQuiet, ReadsGive, RoseBy, Seen, WhereKnown}
+use Rattle.beep_runs.specs.beep_link.specs.declared.buffers.TheConstants.{READ}
+use Rattle.beep_runs.specs.beep_link.specs.Causes.{HasRead, is_cut, IsBounded, IsQuiet, RoseBy, Seen, WhereKnown}
 use Rattle.beep_runs.specs.beep_journal.specs.declared.role.Role.{Role}
 use Rattle.beep_runs.specs.beep_steps.specs.EachEnd.{EachEndOn}
 use Rattle.beep_runs.specs.beep_steps.specs.Ends.{reads_of}
@@ -62,18 +63,29 @@ abbrev pub EachOf : Seen → Seen → (Link → Type 0) → Type 0
 EachOf before after P = (link : ℕ) → before.counts.given ≤ link → link < after.counts.given
     → P (after.state link)
 
--- what ended a session shows in its link, whose log needn't be known
-abbrev pub HasCause : Settings → Ended → Link → Type 0
-HasCause settings Ended.Released link = Unit {0}
-HasCause settings (Ended.Broken rule place) link = Unit {0}
-HasCause settings Ended.WriteFault link = Unit {0}
-HasCause settings Ended.WireFault link = 0 < link.faults
-HasCause settings Ended.NoMemory link = Unit {0}
-HasCause settings (Ended.Refused code) link = Unit {0}
-HasCause settings (Ended.Cut left) link = link.has_ended ≡ true
-HasCause settings (Ended.Idle reads) link = (reads ≡ settings.idle) × IsQuiet settings.idle link.log
-HasCause settings (Ended.Spent octets) link = (octets ≡ settings.octets)
-    × HasRead settings.octets link.log × ReadsGive settings.octets 0 link.reads
+-- what else a link shows of what ended its session: a fault, so many quiet reads at its end and
+-- reads in all, or so many octets and as many reads as these need, of which each gives `READ` at
+-- most
+abbrev pub LinkTells : Settings → Ended → Link → Type 0
+LinkTells settings Ended.Released link = Unit {0}
+LinkTells settings (Ended.Broken rule place) link = Unit {0}
+LinkTells settings Ended.WriteFault link = Unit {0}
+LinkTells settings Ended.WireFault link = 0 < link.faults
+LinkTells settings Ended.NoMemory link = Unit {0}
+LinkTells settings (Ended.Refused code) link = Unit {0}
+LinkTells settings (Ended.Cut left) link = Unit {0}
+LinkTells settings (Ended.Idle reads) link = (reads ≡ settings.idle)
+    × IsQuiet settings.idle link.log × (settings.idle ≤ link.reads)
+LinkTells settings (Ended.Spent octets) link = (octets ≡ settings.octets)
+    × HasRead settings.octets link.log × (settings.octets ≤ READ * link.reads)
+
+-- what ended a session shows in its link, whose log needn't be known: the link has ended where that
+-- cut the session, and only there; a call failed only where that ended the session; and what else
+-- it tells
+pub record HasCause (settings : Settings) (cause : Ended) (link : Link) : Type 0 where
+  pub cut : link.has_ended ≡ is_cut cause
+  pub unfailed : cause ≢ Ended.WireFault → link.faults ≡ 0
+  pub because : LinkTells settings cause link
 
 -- the log of a link, where it is known, shows that the session of an end of this role ended so
 abbrev pub ShowsIn : Role → Settings → Ended → Link → Type 0
@@ -96,10 +108,14 @@ AreShut before after = EachOf before after (λ link. link.is_open ≡ false)
 abbrev pub ReadsWithin : Settings → Seen → Seen → Type 0
 ReadsWithin settings before after = EachOf before after (λ link. link.reads ≤ most_reads settings)
 
+-- in the run no more links were given than so many
+abbrev pub GivesAtMost : ℕ → Seen → Seen → Type 0
+GivesAtMost most before after = after.counts.given ≤ before.counts.given + most
+
 -- what ended one of the sessions of a run shows in its link; where they were released, in each
 abbrev pub SessionCause : Ended → Role → Settings → Seen → Seen → Type 0
 SessionCause Ended.Released role settings before after =
-    EachOf before after (ShowsIn role settings Ended.Released)
+    EachOf before after (EndsIn role settings Ended.Released)
 SessionCause (Ended.Broken rule place) role settings before after =
     OneOf before after (EndsIn role settings (Ended.Broken rule place))
 SessionCause Ended.WriteFault role settings before after = Unit {0}
@@ -254,9 +270,9 @@ pub data Sent (settings : Settings) (before after : Seen) (status : ℕ) (run : 
 
 -- ---- `listen`
 
--- what was written ends with this line
-abbrev pub EndsWith : List ℕ → SinkState → Type 0
-EndsWith line sink = (front : Option (List ℕ)) × Appends front sink.written line
+-- what was written since then ends with this line
+abbrev pub EndsWith : List ℕ → SinkState → SinkState → Type 0
+EndsWith line old new = (more : List ℕ) × Appends old.written new.written (more ++ line)
 
 -- what a run of `listen` that ended so shows: 5, where a write failed; 7, where it was out of
 -- memory; else what ended its first session that wasn't released, or the last accept, whose last
@@ -265,7 +281,7 @@ pub data Listened (settings : Settings) (before after : Seen) (status : ℕ) (ru
     : Type 0 where
   listen_written : (cause : Ended) → cause ≢ Ended.WriteFault → cause ≢ Ended.NoMemory
       → ListenCause cause settings before after → status ≡ ended_status cause
-      → (settings.recording ≡ false → EndsWith (ended_line cause) run.sink_after)
+      → (settings.recording ≡ false → EndsWith (ended_line cause) run.sink run.sink_after)
       → Listened settings before after status run
   listen_unwritten : status ≡ 5 → Rose run.sink.faults run.sink_after.faults
       → Listened settings before after status run

@@ -2,10 +2,10 @@
 ghost use Rattle.std.specs.Prelude.{◌≡◌, ◌≤◌, ℕ, true, false, IfOk, IfErr, OnErr};
 ghost use Rattle.beep_runs.specs.beep_journal.specs.declared.role.Role.{Role as RoleValue};
 ghost use Rattle.beep_runs.specs.beep_steps.specs.Ends.{AreFit};
-ghost use Rattle.beep_runs.specs.beep_link.specs.Causes.{IsWritten};
+ghost use Rattle.beep_runs.specs.beep_link.specs.Causes.{Grows, IsWritten};
 ghost use Rattle.beep_runs.specs.beep_wires.specs.States.{SourceState};
 ghost use Rattle.beep_runs.specs.Runs.{seen_by};
-ghost use Rattle.beep_cmd.specs.Ends.{AcceptsAtMost, AreShut, ends_run, ListenCause, Listened, ReadsWithin, WritesLawfully};
+ghost use Rattle.beep_cmd.specs.Ends.{AcceptsAtMost, AreShut, ends_run, GivesAtMost, ListenCause, Listened, ReadsWithin, WritesLawfully};
 ghost use Rattle.beep_cmd.specs.Listening.{AreKnown, EndsBy, first_of, WritesLines};
 ghost use Rattle.beep_cmd.specs.Serving.{NotAccepted, Served, WritesSession, WritesSessions};
 ghost use Rattle.beep_cmd.specs.Recording.{ListenRecorded};
@@ -40,6 +40,8 @@ pub(crate) fn listen<O: Sink, W: Wires>(
         WritesLawfully RoleValue.Listener settings.now (seen wires.old) (seen wires.new) }
     ensures shut { let seen = seen_by W.state W.counts W.asked W.lent in
         AreShut (seen wires.old) (seen wires.new) }
+    ensures given { let seen = seen_by W.state W.counts W.asked W.lent in
+        GivesAtMost settings.now.sessions (seen wires.old) (seen wires.new) }
     ensures link_reads { let seen = seen_by W.state W.counts W.asked W.lent in
         ReadsWithin settings.now (seen wires.old) (seen wires.new) }
     ensures asks { let seen = seen_by W.state W.counts W.asked W.lent in
@@ -77,11 +79,14 @@ fn listen_all<O: Sink, W: Wires>(
         WritesLawfully RoleValue.Listener settings.now (seen wires.old) (seen wires.new) }
     ensures shut { let seen = seen_by W.state W.counts W.asked W.lent in
         AreShut (seen wires.old) (seen wires.new) }
+    ensures given { let seen = seen_by W.state W.counts W.asked W.lent in
+        GivesAtMost settings.now.sessions (seen wires.old) (seen wires.new) }
     ensures link_reads { let seen = seen_by W.state W.counts W.asked W.lent in
         ReadsWithin settings.now (seen wires.old) (seen wires.new) }
     ensures asks { let seen = seen_by W.state W.counts W.asked W.lent in
         AcceptsAtMost settings.now (seen wires.old) (seen wires.new) }
     ensures written { IsWritten result (O.state output.old).faults (O.state output.new).faults }
+    ensures grew { Grows (O.state output.old).written (O.state output.new).written }
     ensures kept { (O.state output.old).faults ≤ (O.state output.new).faults }
 {
     let mut first = Ended::Released;
@@ -124,6 +129,7 @@ fn listen_once<O: Sink, W: Wires>(
         ReadsWithin settings.now (seen wires.old) (seen wires.new) }
     ensures written { IfOk result (λ ended.
         IsWritten ended (O.state output.old).faults (O.state output.new).faults) }
+    ensures grew { Grows (O.state output.old).written (O.state output.new).written }
     ensures kept { (O.state output.old).faults ≤ (O.state output.new).faults }
 {
     let link = match wires.accept(settings.port) {

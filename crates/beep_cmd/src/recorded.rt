@@ -8,7 +8,7 @@ ghost use Rattle.beep_runs.specs.beep_record.specs.declared.limits.TheConstants.
 ghost use Rattle.beep_runs.specs.beep_recorder.specs.Kept.{RecordsLink};
 ghost use Rattle.beep_runs.specs.beep_steps.specs.Resting.{AreShort};
 ghost use Rattle.beep_runs.specs.Runs.{seen_by};
-ghost use Rattle.beep_cmd.specs.Ends.{AcceptsAtMost, AreShut, DialsOnce, ended_status, ListenCause, ReadsWithin, WritesLawfully};
+ghost use Rattle.beep_cmd.specs.Ends.{AcceptsAtMost, AreShut, DialsOnce, ended_status, GivesAtMost, ListenCause, ReadsWithin, WritesLawfully};
 ghost use Rattle.beep_cmd.specs.Recording.{ListenRecorded, SendRecorded, TellsRecord, TellsWhole};
 
 use crate::closing::{finish, tell};
@@ -40,6 +40,8 @@ pub(crate) fn record_send<O: Sink, W: Wires>(
         WritesLawfully RoleValue.Initiator settings.now (seen wires.old) (seen wires.new) }
     ensures shut { let seen = seen_by W.state W.counts W.asked W.lent in
         AreShut (seen wires.old) (seen wires.new) }
+    ensures given { let seen = seen_by W.state W.counts W.asked W.lent in
+        GivesAtMost 1 (seen wires.old) (seen wires.new) }
     ensures link_reads { let seen = seen_by W.state W.counts W.asked W.lent in
         ReadsWithin settings.now (seen wires.old) (seen wires.new) }
     ensures asks { let seen = seen_by W.state W.counts W.asked W.lent in
@@ -71,6 +73,8 @@ pub(crate) fn record_listen<O: Sink, W: Wires>(
         WritesLawfully RoleValue.Listener settings.now (seen wires.old) (seen wires.new) }
     ensures shut { let seen = seen_by W.state W.counts W.asked W.lent in
         AreShut (seen wires.old) (seen wires.new) }
+    ensures given { let seen = seen_by W.state W.counts W.asked W.lent in
+        GivesAtMost settings.now.sessions (seen wires.old) (seen wires.new) }
     ensures link_reads { let seen = seen_by W.state W.counts W.asked W.lent in
         ReadsWithin settings.now (seen wires.old) (seen wires.new) }
     ensures asks { let seen = seen_by W.state W.counts W.asked W.lent in

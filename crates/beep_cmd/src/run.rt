@@ -11,7 +11,7 @@ ghost use Rattle.beep_runs.specs.beep_wires.specs.States.{SourceState};
 ghost use Rattle.beep_show.specs.Show.{Shown, Refused, IsPlain, NoFault, run_of};
 ghost use Rattle.beep_cmd.specs.Replay.{Replayed, IsLawful};
 ghost use Rattle.beep_cmd.specs.Pair.{Paired, IsRunnable};
-ghost use Rattle.beep_cmd.specs.Ends.{AcceptsAtMost, AreShut, DialsOnce, Listened, ReadsWithin, Sent, WritesLawfully};
+ghost use Rattle.beep_cmd.specs.Ends.{AcceptsAtMost, AreShut, DialsOnce, GivesAtMost, Listened, ReadsWithin, Sent, WritesLawfully};
 ghost use Rattle.beep_cmd.specs.Listening.{AreKnown, WritesLines};
 ghost use Rattle.beep_cmd.specs.Recording.{ListenRecorded};
 
@@ -98,7 +98,14 @@ pub fn beep_run<I: Source, O: Sink, W: Wires>(
         (settings : end_settings) → IsListen settings (map string_bytes words.now) → AcceptsAtMost
         settings (seen wires.old) (seen wires.new) }
 
-    // Each link that was given is shut, and was read no more often than the settings allow.
+    // No more links are given than are asked for. Each is shut, and was read no more often than the
+    // settings allow.
+    ensures send_given { let seen = seen_by W.state W.counts W.asked W.lent in
+        (settings : end_settings) → IsSend settings (map string_bytes words.now) → GivesAtMost 1
+        (seen wires.old) (seen wires.new) }
+    ensures listen_given { let seen = seen_by W.state W.counts W.asked W.lent in
+        (settings : end_settings) → IsListen settings (map string_bytes words.now) → GivesAtMost
+        settings.sessions (seen wires.old) (seen wires.new) }
     ensures shut { let seen = seen_by W.state W.counts W.asked W.lent in
         AreShut (seen wires.old) (seen wires.new) }
     ensures send_link_reads { let seen = seen_by W.state W.counts W.asked W.lent in

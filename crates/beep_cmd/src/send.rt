@@ -6,7 +6,7 @@ ghost use Rattle.beep_show.specs.beep_input.specs.declared.whole.TheConstants.{M
 ghost use Rattle.beep_runs.specs.beep_link.specs.declared.ended.Ended.{Ended as EndedValue};
 ghost use Rattle.beep_runs.specs.beep_steps.specs.Resting.{AreShort};
 ghost use Rattle.beep_runs.specs.Runs.{seen_by};
-ghost use Rattle.beep_cmd.specs.Ends.{AreShut, DialsOnce, ReadsWithin, SendCause, SendsLines, Sent, WritesLawfully};
+ghost use Rattle.beep_cmd.specs.Ends.{AreShut, DialsOnce, GivesAtMost, ReadsWithin, SendCause, SendsLines, Sent, WritesLawfully};
 ghost use Rattle.beep_show.specs.Show.{run_of};
 
 use crate::closing::{finish, finish_unlisted};
@@ -37,6 +37,8 @@ pub(crate) fn send<I: Source, O: Sink, W: Wires>(
         WritesLawfully RoleValue.Initiator settings.now (seen wires.old) (seen wires.new) }
     ensures shut { let seen = seen_by W.state W.counts W.asked W.lent in
         AreShut (seen wires.old) (seen wires.new) }
+    ensures given { let seen = seen_by W.state W.counts W.asked W.lent in
+        GivesAtMost 1 (seen wires.old) (seen wires.new) }
     ensures link_reads { let seen = seen_by W.state W.counts W.asked W.lent in
         ReadsWithin settings.now (seen wires.old) (seen wires.new) }
     ensures asks { let seen = seen_by W.state W.counts W.asked W.lent in
@@ -72,6 +74,8 @@ fn send_lines<W: Wires>(alloc: Global, settings: &Settings, lines: &Entries, wir
         WritesLawfully RoleValue.Initiator settings.now (seen wires.old) (seen wires.new) }
     ensures shut { let seen = seen_by W.state W.counts W.asked W.lent in
         AreShut (seen wires.old) (seen wires.new) }
+    ensures given { let seen = seen_by W.state W.counts W.asked W.lent in
+        GivesAtMost 1 (seen wires.old) (seen wires.new) }
     ensures link_reads { let seen = seen_by W.state W.counts W.asked W.lent in
         ReadsWithin settings.now (seen wires.old) (seen wires.new) }
     ensures asks { let seen = seen_by W.state W.counts W.asked W.lent in

@@ -1,6 +1,7 @@
 //! The lines that are to be written to the output.
 ghost use Rattle.std.specs.Prelude.{◌≡◌, ◌≤◌, [], IfErr, IfOk, OnErr, OnOk};
 ghost use Rattle.beep_wires.specs.Counts.{Rose};
+ghost use Rattle.beep_link.specs.Causes.{Grows};
 ghost use Rattle.beep_link.specs.declared.ended.Stop.{Stop as StopValue};
 ghost use Rattle.prof_raw.specs.Line.{line_of};
 ghost use Rattle.beep_lines.specs.Lines.{GathersAll, GathersSome, lines_of};
@@ -38,6 +39,7 @@ impl Lines {
         ensures err { OnErr result (GathersSome (O.state output.old).written
             (O.state output.new).written self.old.octets.octets
             (lines_of message.now) self.new.octets.octets) }
+        ensures grew { Grows (O.state output.old).written (O.state output.new).written }
         ensures failed { IfErr result (λ stop. stop ≡ StopValue.WriteFault
             → Rose (O.state output.old).faults (O.state output.new).faults) }
         ensures stopped { IfErr result (λ stop. IsOfOutput stop) }
@@ -60,6 +62,7 @@ impl Lines {
         ensures err { OnErr result (GathersSome (O.state output.old).written
             (O.state output.new).written self.old.octets.octets
             (line_of entry.now) self.new.octets.octets) }
+        ensures grew { Grows (O.state output.old).written (O.state output.new).written }
         ensures failed { IfErr result (λ stop. stop ≡ StopValue.WriteFault
             → Rose (O.state output.old).faults (O.state output.new).faults) }
         ensures stopped { IfErr result (λ stop. IsOfOutput stop) }
@@ -79,6 +82,7 @@ impl Lines {
         ensures room { OnOk result (room ≤ self.new.octets.spare) }
         ensures err { OnErr result (GathersSome (O.state output.old).written
             (O.state output.new).written self.old.octets.octets [] self.new.octets.octets) }
+        ensures grew { Grows (O.state output.old).written (O.state output.new).written }
         ensures failed { IfErr result (λ stop. stop ≡ StopValue.WriteFault
             → Rose (O.state output.old).faults (O.state output.new).faults) }
         ensures stopped { IfErr result (λ stop. IsOfOutput stop) }
@@ -103,6 +107,7 @@ impl Lines {
             (O.state output.new).written self.old.octets.octets []
             self.new.octets.octets) }
         ensures empty { self.new.octets.octets ≡ [] }
+        ensures grew { Grows (O.state output.old).written (O.state output.new).written }
         ensures failed { IfErr result (λ stop. stop ≡ StopValue.WriteFault
             → Rose (O.state output.old).faults (O.state output.new).faults) }
         ensures stopped { IfErr result (λ stop. stop ≡ StopValue.WriteFault) }

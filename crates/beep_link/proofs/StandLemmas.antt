@@ -4,7 +4,7 @@ use lib.Seq.{take-append_seam}
 use Rattle.beep_wires.specs.Log.{Entry, read, wrote, quiet, ended, Logs}
 use Rattle.beep_wires.specs.Writing.{AreWrites}
 use Rattle.std.proofs.KnownBytes.{Appends-nil, Appends-trans}
-use Rattle.beep_link.specs.Causes.{octets_read, GrewByWrites, IsBounded, IsOfReads, IsSpent, IsWithin, MayRead, ReadsWhere, SameLogReads, TellsLeft, WhereKnown, WithText}
+use Rattle.beep_link.specs.Causes.{octets_read, GrewByWrites, Grows, IsBounded, IsOfReads, IsSpent, IsWithin, MayRead, ReadsWhere, SameLogReads, TellsLeft, WhereKnown, WithText}
 use Rattle.beep_link.specs.declared.ended.Ended.{Ended}
 use Rattle.beep_link.specs.declared.left.Reads.{Reads}
 use Rattle.beep_link.specs.declared.left.Left.{Left}
@@ -72,6 +72,14 @@ known-empty P log p (inl e) = subst (WhereKnown P) (sym e) tt
 known-empty P log p (inr e) = subst (WhereKnown P) (sym e) p
 
 -- ---- what was written to the output
+
+-- nothing was written
+pub grown-none : (now : Option (List ℕ)) → Grows now now
+grown-none now = ([], Appends-nil now)
+
+-- it grew, and then again
+pub grown-more : (before mid now : Option (List ℕ)) → Grows before mid → Grows mid now → Grows before now
+grown-more before mid now (text, grew) (more, next) = (text ++ more, Appends-trans before mid now text more grew next)
 
 -- what holds of one text holds of the other
 pub text-map : (before now : Option (List ℕ)) (P Q : List ℕ → Type 0) → ((text : List ℕ) → P text → Q text) → WithText before now P → WithText before now Q

@@ -1,6 +1,6 @@
 -- What ends a session over a link, as the link's log and the counts of faults show it.
 -- The code counts as it reads; here the log is gone over, whole.
-use Rattle.std.specs.Prelude.{◌≡◌, ◌⊎◌, ℕ, ◌+◌, ◌-◌, ◌*◌, ◌≤◌, ◌<◌, true, false, Option, Some, None, List, [], ◌∷◌, length}
+use Rattle.std.specs.Prelude.{◌≡◌, ◌≢◌, ◌⊎◌, ℕ, ◌+◌, ◌-◌, ◌*◌, ◌≤◌, ◌<◌, Bool, true, false, Option, Some, None, List, [], ◌∷◌, length}
 use Rattle.std.specs.Borrow.{GName}
 use Rattle.std.specs.Io.KnownBytes.{Appends}
 use Rattle.beep_wires.specs.Log.{Entry, read, wrote, quiet, ended, Logs}
@@ -73,19 +73,40 @@ pub record Look : Type 0 where
   pub link : Link
   pub quiets : ℕ
 
--- each end that has its cause in the link, by the link before and after
-abbrev pub IsCaused : Ended → Reads → Look → Look → Type 0
-IsCaused Ended.Released reads old new = Unit {0}
-IsCaused (Ended.Broken rule place) reads old new = Unit {0}
-IsCaused Ended.WriteFault reads old new = Unit {0}
-IsCaused Ended.WireFault reads old new = Rose old.link.faults new.link.faults
-IsCaused Ended.NoMemory reads old new = Unit {0}
-IsCaused (Ended.Refused code) reads old new = Unit {0}
-IsCaused (Ended.Cut left) reads old new = new.link.has_ended ≡ true
-IsCaused (Ended.Idle count) reads old new = (count ≡ reads.idle) × IsQuiet reads.idle new.link.log
+-- the end of the link is what ended the session
+abbrev pub is_cut : Ended → Bool
+is_cut Ended.Released = false
+is_cut (Ended.Broken rule place) = false
+is_cut Ended.WriteFault = false
+is_cut Ended.WireFault = false
+is_cut Ended.NoMemory = false
+is_cut (Ended.Refused code) = false
+is_cut (Ended.Cut left) = true
+is_cut (Ended.Idle count) = false
+is_cut (Ended.Spent count) = false
+
+-- what else each end that has its cause in the link shows there, by the link before and after
+abbrev pub LinkShows : Ended → Reads → Look → Look → Type 0
+LinkShows Ended.Released reads old new = Unit {0}
+LinkShows (Ended.Broken rule place) reads old new = Unit {0}
+LinkShows Ended.WriteFault reads old new = Unit {0}
+LinkShows Ended.WireFault reads old new = Rose old.link.faults new.link.faults
+LinkShows Ended.NoMemory reads old new = Unit {0}
+LinkShows (Ended.Refused code) reads old new = Unit {0}
+LinkShows (Ended.Cut left) reads old new = Unit {0}
+LinkShows (Ended.Idle count) reads old new = (count ≡ reads.idle) × IsQuiet reads.idle new.link.log
     × RoseBy reads.idle old.quiets new.quiets
-IsCaused (Ended.Spent count) reads old new = (count ≡ reads.octets)
+    × RoseBy reads.idle old.link.reads new.link.reads
+LinkShows (Ended.Spent count) reads old new = (count ≡ reads.octets)
     × HasRead reads.octets new.link.log × ReadsGive reads.octets old.link.reads new.link.reads
+
+-- what ended a session over a link, by the link before and after: the link gave its end where that
+-- cut the session, and only there; a call failed only where that ended the session; and what else
+-- the cause shows
+pub record IsCaused (cause : Ended) (reads : Reads) (old new : Look) : Type 0 where
+  pub cut : new.link.has_ended ≡ is_cut cause
+  pub unfailed : cause ≢ Ended.WireFault → new.link.faults ≡ old.link.faults
+  pub because : LinkShows cause reads old new
 
 -- a fault of the link, or lack of memory: the turns end so at any place
 abbrev pub IsOfFaults : Ended → Type 0
@@ -136,6 +157,10 @@ abbrev pub GrewByWrites : Option (List Entry) → Option (List Entry) → Type 0
 GrewByWrites old new = (more : List Entry) × (octets : List ℕ) × Logs old new more
     × AreWrites more octets
 
+-- an output only grew: it holds what it held before, and then some octets
+abbrev pub Grows : Option (List ℕ) → Option (List ℕ) → Type 0
+Grows before now = (text : List ℕ) × Appends before now text
+
 -- from what an output held before to what it holds now it grew by some octets, of which this holds;
 -- an output that doesn't tell what it holds may have grown by any
 abbrev pub WithText : Option (List ℕ) → Option (List ℕ) → (List ℕ → Type 0) → Type 0
@@ -155,9 +180,10 @@ IsSpent (Ended.Cut octets) reads left = ⊥
 IsSpent (Ended.Idle count) reads left = (count ≡ reads.idle) × (reads.idle ≤ left.quiets)
 IsSpent (Ended.Spent count) reads left = (count ≡ reads.octets) × (left.octets ≡ 0)
 
--- how many reads there may still be, but for the last
+-- how many reads there may still be: as many for each octet as may be quiet, one after another,
+-- since one that gives octets comes after fewer quiet ones
 abbrev pub reads_left : Reads → Left → ℕ
-reads_left reads left = left.octets * (reads.idle + 1) + (reads.idle - left.quiets)
+reads_left reads left = left.octets * reads.idle - left.quiets
 
 -- a log that is known shows what may still be read
 abbrev pub TellsLeft : Reads → Left → Option (List Entry) → Type 0
@@ -186,10 +212,11 @@ pub record CountsQuiet (before : ℕ) (left : Left) (quiets : ℕ) : Type 0 wher
   pub kept : before ≤ quiets
   pub rose : RoseBy left.quiets before quiets
 
--- since a link had been read so often it was read often enough for the octets that came
-abbrev pub CountsReads : Reads → ℕ → Left → ℕ → Type 0
-CountsReads reads before left count =
-    (reads.octets + READ * before ≤ left.octets + READ * count) ⊎ (COUNT_MAX ≤ count)
+-- since a link had been read so often it was read often enough for the octets that came, and for
+-- the latest reads that were quiet
+pub record CountsReads (reads : Reads) (before : ℕ) (left : Left) (count : ℕ) : Type 0 where
+  pub octets : (reads.octets + READ * before ≤ left.octets + READ * count) ⊎ (COUNT_MAX ≤ count)
+  pub quiets : RoseBy left.quiets before count
 
 -- the octets that came are as many as one read gives, or fewer
 abbrev pub fits_buffer : Got → Type 0

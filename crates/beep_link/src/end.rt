@@ -2,7 +2,7 @@
 ghost use Rattle.std.specs.Prelude.{◌≡◌, ◌≢◌, ◌≤◌, ◌++◌, ◌∷◌, [], false, ℕ, List, IfErr, IfNone, IfOk, IfSome, OnOk};
 ghost use Rattle.beep_wires.specs.Counts.{Rose};
 ghost use Rattle.beep_wires.specs.Log.{Entry, read as came, wrote, quiet, ended as over};
-ghost use Rattle.beep_link.specs.Causes.{ended_by, IsOfFaults, IsOfReads, WithText};
+ghost use Rattle.beep_link.specs.Causes.{ended_by, Grows, IsOfFaults, IsOfReads, WithText};
 ghost use Rattle.beep_link.specs.declared.ended.Ended.{Ended as EndedValue};
 ghost use Rattle.beep_link.specs.declared.ended.Stop.{Stop as StopValue};
 ghost use Rattle.beep_link.specs.declared.end.TheConstants.{FRAME_ROOM};
@@ -57,6 +57,7 @@ pub trait End {
             → IfErr result (λ stop. WithText (O.state output.old).written
             (O.state output.new).written (λ more. Self.tells (Self.terms self.old)
             (ended_by stop) (came bytes.now ∷ log) (text ++ more))) }
+        ensures grew { Grows (O.state output.old).written (O.state output.new).written }
         ensures failed { IfErr result (λ stop. stop ≡ StopValue.WriteFault
             → Rose (O.state output.old).faults (O.state output.new).faults) }
         ensures terms { Self.terms self.new ≡ Self.terms self.old }

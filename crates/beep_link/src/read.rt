@@ -29,6 +29,8 @@ pub(crate) fn read_once<W: Wires>(
     ensures end { (W.state wires.new link).has_ended ≡ gives_end result }
     ensures failed { OnErr result
         (Rose (W.state wires.old link).faults (W.state wires.new link).faults) }
+    ensures unfailed { OnOk result
+        ((W.state wires.new link).faults ≡ (W.state wires.old link).faults) }
     ensures moves { IfOk result (λ got. Moves got reads left.old left.new
         (W.state wires.old link).log (W.state wires.new link).log) }
     ensures counted { (before : ℕ) → CountsQuiet before left.old (W.counts wires.old).quiets

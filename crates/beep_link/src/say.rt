@@ -38,9 +38,12 @@ pub(crate) fn say<E: End, W: Wires>(
         (W.state wires.old link).log → IfErr result (λ ended.
         WhereKnown (λ log. WithText before now (E.tells (E.terms end.old) ended log))
         (W.state wires.new link).log) }
-    ensures failed { IfErr result (λ ended. (ended ≡ EndedValue.NoMemory)
+    ensures failed { IfErr result (λ ended. ((ended ≡ EndedValue.NoMemory)
+        × ((W.state wires.new link).faults ≡ (W.state wires.old link).faults))
         ⊎ ((ended ≡ EndedValue.WireFault)
         × Rose (W.state wires.old link).faults (W.state wires.new link).faults)) }
+    ensures unfailed { OnOk result
+        ((W.state wires.new link).faults ≡ (W.state wires.old link).faults) }
 
     // What stays.
     ensures empty { OnOk result (going.new.octets ≡ []) }

@@ -1,7 +1,8 @@
 //! The turns over a link.
-ghost use Rattle.std.specs.Prelude.{◌≡◌, ◌≤◌, ◌<◌, ◌+◌, ◌*◌, ℕ, [], List, Option, true, false, OnOk, IfErr, vec_len};
+ghost use Rattle.std.specs.Prelude.{◌≡◌, ◌≤◌, ◌<◌, ◌+◌, ◌*◌, ℕ, min, [], List, Option, true, false, OnOk, IfErr, vec_len};
 ghost use Rattle.beep_wires.specs.Links.{Link};
-ghost use Rattle.beep_link.specs.Causes.{CountsQuiet, CountsReads, IsBounded, IsCaused, IsUnused, IsWritten, Keeps, reads_left, ReadsWhere, TellsLeft, WhereKnown, WithText};
+ghost use Rattle.beep_wires.specs.declared.count.TheConstants.{COUNT_MAX};
+ghost use Rattle.beep_link.specs.Causes.{CountsQuiet, CountsReads, Grows, IsBounded, IsCaused, IsUnused, IsWritten, Keeps, reads_left, ReadsWhere, TellsLeft, WhereKnown, WithText};
 ghost use Rattle.beep_link.specs.declared.buffers.TheConstants.{READ};
 ghost use Rattle.beep_link.specs.declared.ended.Ended.{Ended as EndedValue};
 
@@ -29,6 +30,7 @@ pub fn run_turns<E: End, W: Wires, O: Sink>(
         (record { link = W.state wires.old link; quiets = (W.counts wires.old).quiets })
         (record { link = W.state wires.new link; quiets = (W.counts wires.new).quiets }) }
     ensures written { IsWritten result (O.state output.old).faults (O.state output.new).faults }
+    ensures grew { Grows (O.state output.old).written (O.state output.new).written }
     ensures shown { E.stands end.old [] [] [] → WhereKnown (λ log.
         WithText (O.state output.old).written (O.state output.new).written
         (E.tells (E.terms end.old) result log)) (W.state wires.new link).log }
@@ -53,8 +55,10 @@ pub fn run_turns<E: End, W: Wires, O: Sink>(
           lent = W.lent wires.new;
         }) }
     ensures kept { (O.state output.old).faults ≤ (O.state output.new).faults }
-    ensures reads { (W.state wires.new link).reads ≤ (W.state wires.old link).reads
-        + (reads.octets * (reads.idle + 1) + reads.idle + 1) }
+    ensures reads { (W.state wires.new link).reads
+        ≤ (W.state wires.old link).reads + reads.octets * reads.idle }
+    ensures exact { (W.state wires.old link).reads ≡ 0
+        → (W.state wires.new link).reads < COUNT_MAX }
     ensures bounded { IsBounded reads (W.state wires.new link).log }
 {
     let Ok(mut buffers) = Buffers::new(alloc) else {
@@ -104,17 +108,20 @@ fn turn<E: End, W: Wires, O: Sink>(
     ensures shown { OnOk result (TellsLeft reads left.new (W.state wires.new link).log) }
     ensures bounded { IsBounded reads (W.state wires.old link).log
         → IsBounded reads (W.state wires.new link).log }
+    ensures unfailed { OnOk result
+        ((W.state wires.new link).faults ≡ (W.state wires.old link).faults) }
     ensures counted { (before : ℕ) → CountsQuiet before left.old (W.counts wires.old).quiets
         → OnOk result (CountsQuiet before left.new (W.counts wires.new).quiets) }
     ensures came { (before : ℕ) → CountsReads reads before left.old (W.state wires.old link).reads
         → OnOk result (CountsReads reads before left.new (W.state wires.new link).reads) }
-    ensures caused { (before : Link) (quiets : ℕ) → before.faults ≤ (W.state wires.old link).faults
+    ensures caused { (before : Link) (quiets : ℕ) → before.faults ≡ (W.state wires.old link).faults
         → CountsQuiet quiets left.old (W.counts wires.old).quiets
         → CountsReads reads before.reads left.old (W.state wires.old link).reads
         → IfErr result (λ ended. IsCaused ended reads (record { link = before; quiets = quiets })
         (record { link = W.state wires.new link; quiets = (W.counts wires.new).quiets })) }
     ensures written { IfErr result (λ ended.
         IsWritten ended (O.state output.old).faults (O.state output.new).faults) }
+    ensures grew { Grows (O.state output.old).written (O.state output.new).written }
 
     // What stays.
     ensures keeps { Keeps link
@@ -131,7 +138,8 @@ fn turn<E: End, W: Wires, O: Sink>(
           lent = W.lent wires.new;
         }) }
     ensures kept { (O.state output.old).faults ≤ (O.state output.new).faults }
-    ensures reads { (W.state wires.new link).reads ≤ (W.state wires.old link).reads + 1 }
+    ensures reads { (W.state wires.new link).reads
+        ≤ (W.state wires.old link).reads + min 1 (reads_left reads left.old) }
     ensures buffer { vec_len buffers.new.coming ≡ READ }
     ensures empty { OnOk result (buffers.new.going.octets ≡ []) }
     ensures terms { E.terms end.new ≡ E.terms end.old }

@@ -9,7 +9,7 @@ ghost use Rattle.beep_steps.specs.beep_mgmt.specs.Form.{fault};
 ghost use Rattle.beep_steps.specs.beep_mgmt.specs.Message.{message_text};
 ghost use Rattle.beep_steps.specs.beep_decide.specs.Decide.{note_of};
 ghost use Rattle.beep_steps.specs.beep_talk.specs.Plan.{PlainPlan};
-ghost use Rattle.beep_steps.specs.beep_link.specs.Causes.{ended_by, WithText};
+ghost use Rattle.beep_steps.specs.beep_link.specs.Causes.{ended_by, Grows, WithText};
 ghost use Rattle.beep_steps.specs.beep_link.specs.declared.end.TheConstants.{FRAME_ROOM};
 ghost use Rattle.beep_steps.specs.beep_link.specs.declared.ended.Stop.{Stop as StopValue};
 ghost use Rattle.beep_listener.specs.declared.listener.TheConstants.{TAKEN};
@@ -251,6 +251,7 @@ impl End for Listener {
             WithText (O.state output.old).written (O.state output.new).written
             (λ more. TellsScripted (plan_of self.old.session) (ended_by stop)
             (came bytes.now ∷ log) (text ++ more))) }
+        ensures grew { Grows (O.state output.old).written (O.state output.new).written }
         ensures failed { IfErr result (λ stop. stop ≡ StopValue.WriteFault
             → Rose (O.state output.old).faults (O.state output.new).faults) }
         ensures terms { plan_of self.new.session ≡ plan_of self.old.session }

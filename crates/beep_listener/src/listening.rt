@@ -1,11 +1,12 @@
 //! A listener over one link.
-ghost use Rattle.std.specs.Prelude.{◌≡◌, ◌≤◌, ◌+◌, ◌*◌, ◌∷◌, [], map, false, true, IfOk, OnOk};
+ghost use Rattle.std.specs.Prelude.{◌≡◌, ◌≤◌, ◌<◌, ◌+◌, ◌*◌, ◌∷◌, [], map, false, true, IfOk, OnOk};
 ghost use Rattle.std.specs.List.{list_all};
 ghost use Rattle.beep_steps.specs.beep_answering.specs.Decided.{NoneTunes};
 ghost use Rattle.beep_steps.specs.beep_answering.specs.Sent.{is_uri};
 ghost use Rattle.beep_steps.specs.beep_decide.specs.Plain.{plain_offer};
 ghost use Rattle.beep_steps.specs.beep_journal.specs.declared.role.Role.{Role as RoleValue};
-ghost use Rattle.beep_steps.specs.beep_link.specs.Causes.{IsBounded, IsCaused, IsUnused, IsWritten, Keeps, WhereKnown, WithText};
+ghost use Rattle.beep_steps.specs.beep_wires.specs.declared.count.TheConstants.{COUNT_MAX};
+ghost use Rattle.beep_steps.specs.beep_link.specs.Causes.{Grows, IsBounded, IsCaused, IsUnused, IsWritten, Keeps, WhereKnown, WithText};
 ghost use Rattle.beep_listener.specs.Listening.{is_whole, listener_plan, plan_of, AreLinesOf, HasLinesOf, KeepsWhere};
 ghost use Rattle.beep_listener.specs.Speaking.{notes_of};
 ghost use Rattle.beep_listener.specs.SpeakingTurning.{ListensScripted};
@@ -44,6 +45,7 @@ pub fn listen_end<W: Wires, O: Sink>(
         (record { link = W.state wires.old link; quiets = (W.counts wires.old).quiets })
         (record { link = W.state wires.new link; quiets = (W.counts wires.new).quiets }) }
     ensures written { IsWritten result (O.state output.old).faults (O.state output.new).faults }
+    ensures grew { Grows (O.state output.old).written (O.state output.new).written }
 
     // What the log shows, where it is known: what was written is lawful, and why the session
     // ended.
@@ -97,8 +99,10 @@ pub fn listen_end<W: Wires, O: Sink>(
           lent = W.lent wires.new;
         }) }
     ensures kept { (O.state output.old).faults ≤ (O.state output.new).faults }
-    ensures reads { (W.state wires.new link).reads ≤ (W.state wires.old link).reads
-        + (settings.now.octets * (settings.now.idle + 1) + settings.now.idle + 1) }
+    ensures reads { (W.state wires.new link).reads
+        ≤ (W.state wires.old link).reads + settings.now.octets * settings.now.idle }
+    ensures exact { (W.state wires.old link).reads ≡ 0
+        → (W.state wires.new link).reads < COUNT_MAX }
 {
     let Ok(mut listener) = begin(alloc, settings) else {
         return Ended::NoMemory;

@@ -1,7 +1,7 @@
 -- What links in memory do is what all links ensure.
 use Rattle.std.proofs.Common.{◌≡◌, ℕ, ◌+◌, ◌<◌, ◌≤◌, min, Bool, true, false, ◌||◌, List, [], ◌∷◌, ◌++◌, length, take, Option, Some, None, option_map, Result, Ok, Err, inl, inr, refl, sym, ap, ap₂, subst, ◌∙◌, arith}
 use Rattle.std.specs.List.{slice_get}
-use Rattle.std.specs.Result.{OnErr, IfOk}
+use Rattle.std.specs.Result.{OnOk, OnErr, IfOk}
 use Rattle.std.proofs.lemmas.Bool.{cases_lt}
 use Rattle.beep_wires.specs.declared.count.TheConstants.{COUNT_MAX}
 use Rattle.beep_wires.specs.declared.failed.Failed.{Failed}
@@ -115,6 +115,10 @@ module _ (w w2 : Wiring) (link : ℕ) (buf filled : List ℕ) (alive : (link_at 
       let p = open-peer w.peers link alive in
       subst (λ (n : ℕ). Rose (link_at w link).faults n) (sym (faults-more peer_unread w w2 link (ap (λ v. v.peers) reads.2) p.0 p.1 refl)) (rises (link_at w link).faults)
 
+  pub read-unfailed : (r : Result Got Failed) → Reads link r buf filled w w2 → OnOk r ((link_at w2 link).faults ≡ (link_at w link).faults)
+  read-unfailed (Ok got) reads = faults-kept (λ p. peer_read p (length buf)) w w2 link (ap (λ v. v.peers) reads.3) (λ p. refl)
+  read-unfailed (Err e) reads = tt
+
   pub read-kept : (r : Result Got Failed) → Reads link r buf filled w w2 → (link_at w link).faults ≤ (link_at w2 link).faults
   read-kept (Ok got) reads = omega (arith, faults-kept (λ p. peer_read p (length buf)) w w2 link (ap (λ v. v.peers) reads.3) (λ p. refl))
   read-kept (Err e) reads =
@@ -156,6 +160,10 @@ module _ (w w2 : Wiring) (link : ℕ) (bytes : List ℕ) (alive : (link_at w lin
   write-failed (Err e) writes =
       let p = open-peer w.peers link alive in
       subst (λ (n : ℕ). Rose (link_at w link).faults n) (sym (faults-more peer_unwritten w w2 link (ap (λ v. v.peers) writes.1) p.0 p.1 refl)) (rises (link_at w link).faults)
+
+  pub write-unfailed : (r : Result ℕ Failed) → Writes link r bytes w w2 → OnOk r ((link_at w2 link).faults ≡ (link_at w link).faults)
+  write-unfailed (Ok n) writes = faults-kept (λ p. peer_written p (take n bytes)) w w2 link (ap (λ v. v.peers) writes.2) (λ p. refl)
+  write-unfailed (Err e) writes = tt
 
   pub write-kept : (r : Result ℕ Failed) → Writes link r bytes w w2 → (link_at w link).faults ≤ (link_at w2 link).faults
   write-kept (Ok n) writes = omega (arith, faults-kept (λ p. peer_written p (take n bytes)) w w2 link (ap (λ v. v.peers) writes.2) (λ p. refl))

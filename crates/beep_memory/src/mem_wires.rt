@@ -306,6 +306,8 @@ impl Wires for MemWires {
         ensures end { (link_at self.new link).has_ended ≡ gives_end result }
         ensures failed { OnErr result
             (Rose (link_at self.old link).faults (link_at self.new link).faults) }
+        ensures unfailed { OnOk result
+            ((link_at self.new link).faults ≡ (link_at self.old link).faults) }
         ensures kept { (link_at self.old link).faults ≤ (link_at self.new link).faults }
         ensures counted { (link_at self.new link).reads ≡ next_count (link_at self.old link).reads }
         ensures others { SameBeside link (link_at self.old) (link_at self.new) }
@@ -332,6 +334,8 @@ impl Wires for MemWires {
         ensures end { (link_at self.new link).has_ended ≡ (link_at self.old link).has_ended }
         ensures failed { OnErr result
             (Rose (link_at self.old link).faults (link_at self.new link).faults) }
+        ensures unfailed { OnOk result
+            ((link_at self.new link).faults ≡ (link_at self.old link).faults) }
         ensures kept { (link_at self.old link).faults ≤ (link_at self.new link).faults }
         ensures counted { (link_at self.new link).reads ≡ (link_at self.old link).reads }
         ensures others { SameBeside link (link_at self.old) (link_at self.new) }

@@ -1,5 +1,6 @@
 -- What became of a link that was asked for, used and shut.
-use Rattle.std.proofs.Common.{◌≡◌, ◌≢◌, ◌⊎◌, inl, inr, ⊎_elim, ℕ, ◌+◌, ◌≤◌, false, List, Option, None, Some, sym, ap, ◌∙◌, subst, arith}
+use Rattle.std.proofs.Common.{◌≡◌, ◌≢◌, ◌⊎◌, inl, inr, ⊎_elim, ℕ, ◌+◌, ◌≤◌, ◌<◌, false, List, Option, None, Some, sym, ap, ◌∙◌, subst, arith}
+use Rattle.beep_listener.specs.beep_wires.specs.declared.count.TheConstants.{COUNT_MAX}
 use Rattle.beep_listener.specs.beep_wires.specs.Links.{Link, Counts, IsFresh, SameBeside}
 use Rattle.beep_listener.specs.beep_journal.specs.declared.role.Role.{Role}
 use Rattle.beep_listener.specs.beep_lawful.specs.declared.terms.Terms.{Terms}
@@ -45,20 +46,23 @@ module _ (role : Role) (settings : Settings) (cause : Ended) (before given used 
     (keeps : Keeps link given used) (caused : IsCaused cause (reads_of settings) (record { link = given.state link; quiets = given.counts.quiets }) (record { link = used.state link; quiets = used.counts.quiets }))
     (lawful : WhereKnown (IsLawfulOn (terms_by role settings)) (used.state link).log) (shown : WhereKnown (Shows (terms_by role settings) cause) (used.state link).log)
     (bounded : IsBounded (reads_of settings) (used.state link).log) (reads : (used.state link).reads ≤ (given.state link).reads + most_reads settings)
+    (exact : (given.state link).reads ≡ 0 → (used.state link).reads < COUNT_MAX)
     (shut : after.state link ≡ record (used.state link) { is_open = false }) (beside : SameBeside link used.state after.state) (counts : after.counts ≡ used.counts) where
-  ran-by : (result : Ended) → IsCaused result (reads_of settings) (record { link = given.state link; quiets = given.counts.quiets }) (record { link = used.state link; quiets = used.counts.quiets })
-      → WhereKnown (Shows (terms_by role settings) result) (used.state link).log → Ran role settings result before after
-  ran-by result c t = record {
+  ran-by : (result : Ended) → (result ≡ cause) ⊎ (result ≡ Ended.NoMemory) → WhereKnown (Shows (terms_by role settings) result) (used.state link).log → Ran role settings result before after
+  ran-by result is_by t = record {
     fresh = given.state link;
     last = used.state link;
     is_fresh = fresh;
-    caused = subst (λ (q : ℕ). IsCaused result (reads_of settings) (record { link = given.state link; quiets = before.counts.quiets }) (record { link = used.state link; quiets = q }))
+    ended = cause;
+    ended_is = is_by;
+    caused = subst (λ (q : ℕ). IsCaused cause (reads_of settings) (record { link = given.state link; quiets = before.counts.quiets }) (record { link = used.state link; quiets = q }))
         (ap (λ (k : Counts). k.quiets) (sym counts))
-        (subst (λ (q : ℕ). IsCaused result (reads_of settings) (record { link = given.state link; quiets = q }) (record { link = used.state link; quiets = used.counts.quiets })) quiets c);
+        (subst (λ (q : ℕ). IsCaused cause (reads_of settings) (record { link = given.state link; quiets = q }) (record { link = used.state link; quiets = used.counts.quiets })) quiets caused);
     lawful = lawful;
     shown = t;
     bounded = bounded;
     reads = reads-of (most_reads settings) (given.state link).reads (used.state link).reads fresh.no_reads reads;
+    exact = exact fresh.no_reads;
     shut = subst (λ (n : ℕ). after.state n ≡ record (used.state link) { is_open = false }) is shut;
     given = ap (λ (k : Counts). k.given) counts ∙ keeps.given ∙ one;
     others = subst (λ (n : ℕ). SameBeside n before.state after.state) is (λ n away. beside n away ∙ keeps.others n away ∙ others n away);
@@ -66,10 +70,8 @@ module _ (role : Role) (settings : Settings) (cause : Ended) (before given used 
 
   -- what ended the session ended the run, or memory ran out as the record was made
   pub ran : (result : Ended) → (result ≡ cause) ⊎ (result ≡ Ended.NoMemory) → Ran role settings result before after
-  ran result = elim [
-    | inl same ↦ subst (λ (e : Ended). Ran role settings e before after) (sym same) (ran-by cause caused shown)
-    | inr short ↦ subst (λ (e : Ended). Ran role settings e before after) (sym short) (ran-by Ended.NoMemory tt (starved-known (terms_by role settings) cause (used.state link).log shown))
-  ]
+  ran result is_by = ran-by result is_by (⊎_elim (λ same. subst (λ (e : Ended). WhereKnown (Shows (terms_by role settings) e) (used.state link).log) (sym same) shown)
+      (λ short. subst (λ (e : Ended). WhereKnown (Shows (terms_by role settings) e) (used.state link).log) (sym short) (starved-known (terms_by role settings) cause (used.state link).log shown)) is_by)
 
   -- the record is of the link that was given
   pub recorded : (known : Option Recording) (result : Ended) (old new : List ℕ) → known ≡ Some (record { first = before.counts.given; role = role })

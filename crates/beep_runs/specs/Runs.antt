@@ -1,9 +1,10 @@
 -- A run over one link that is recorded: what became of the link, by all that is known of links
 -- before the run and after it.
 -- The code hands on what ended the session.
-use Rattle.std.specs.Prelude.{◌≡◌, ◌≢◌, ℕ, ◌+◌, ◌*◌, ◌≤◌, ◌⊎◌, false, Option, List, Result, IfOk, IfErr, chars}
+use Rattle.std.specs.Prelude.{◌≡◌, ◌≢◌, ℕ, ◌+◌, ◌*◌, ◌≤◌, ◌<◌, ◌⊎◌, false, Option, List, Result, IfOk, IfErr, chars}
 use Rattle.std.specs.Borrow.{GName}
 use Rattle.beep_listener.specs.beep_wires.specs.declared.links.WireError.{WireError}
+use Rattle.beep_listener.specs.beep_wires.specs.declared.count.TheConstants.{COUNT_MAX}
 use Rattle.beep_listener.specs.beep_wires.specs.Counts.{Rose}
 use Rattle.beep_listener.specs.beep_wires.specs.Links.{Link, Counts, Ask, accept, dial, Asked, Asks, asked_by, IsFresh, SameBeside}
 use Rattle.beep_listener.specs.beep_journal.specs.declared.role.Role.{Role}
@@ -31,26 +32,29 @@ abbrev pub seen_by : {W : Type 0} → (W → ℕ → Link) → (W → Counts) �
 seen_by state counts asked lent wires =
     seen_of (state wires) (counts wires) (asked wires) (lent wires)
 
--- how often a link is read at most: each octet that may be read comes in a read of its own, after
--- as many quiet ones as there may be, and so many and one more come after the last
+-- how often a link is read at most: as many reads for each octet that may be read as may be quiet,
+-- one after another, since fewer of them come before one that gives some
 abbrev pub most_reads : Settings → ℕ
-most_reads settings = settings.octets * (settings.idle + 1) + settings.idle + 1
+most_reads settings = settings.octets * settings.idle
 
--- a link was given, the session of an end of this role on it ended by this, and it was shut: what
--- its log shows where it is known, that no more and no more often was read than the settings allow,
--- and that nothing else changed
+-- a link was given, the session of an end of this role on it ended by this, unless memory ran out
+-- after it ended, and it was shut: what its log shows where it is known, that no more and no more
+-- often was read than the settings allow, that each read was counted, and that nothing else changed
 pub record Ran (role : Role) (settings : Settings) (cause : Ended) (before after : Seen)
     : Type 0 where
   pub fresh : Link
   pub last : Link
   pub is_fresh : IsFresh fresh
-  pub caused : IsCaused cause (reads_of settings)
+  pub ended : Ended
+  pub ended_is : (cause ≡ ended) ⊎ (cause ≡ Ended.NoMemory)
+  pub caused : IsCaused ended (reads_of settings)
       (record { link = fresh; quiets = before.counts.quiets })
       (record { link = last; quiets = after.counts.quiets })
   pub lawful : WhereKnown (IsLawfulOn (terms_by role settings)) last.log
   pub shown : WhereKnown (Shows (terms_by role settings) cause) last.log
   pub bounded : IsBounded (reads_of settings) last.log
   pub reads : last.reads ≤ most_reads settings
+  pub exact : last.reads < COUNT_MAX
   pub shut : after.state before.counts.given ≡ record last { is_open = false }
   pub given : after.counts.given ≡ before.counts.given + 1
   pub others : SameBeside before.counts.given before.state after.state

@@ -9,7 +9,7 @@ ghost use Rattle.beep_steps.specs.beep_talk.specs.declared.plan.Command.{Command
 ghost use Rattle.beep_steps.specs.beep_talk.specs.Plan.{PlainPlan};
 ghost use Rattle.beep_steps.specs.beep_speaking.specs.declared.emit.Emit.{Emit as EmitValue};
 ghost use Rattle.beep_steps.specs.beep_session.specs.Lawfully.{terms_of};
-ghost use Rattle.beep_steps.specs.beep_link.specs.Causes.{ended_by, WithText};
+ghost use Rattle.beep_steps.specs.beep_link.specs.Causes.{ended_by, Grows, WithText};
 ghost use Rattle.beep_steps.specs.beep_answering.specs.Sent.{is_uri as is_uri_text};
 ghost use Rattle.beep_steps.specs.beep_link.specs.declared.end.TheConstants.{FRAME_ROOM};
 ghost use Rattle.beep_steps.specs.beep_link.specs.declared.ended.Stop.{Stop as StopValue};
@@ -288,6 +288,7 @@ impl End for Sender<'_> {
             → StandsBy self.old (moments log) → IfErr result (λ stop.
             WithText (O.state _output.old).written (O.state _output.new).written
             (λ _. TellsAsking (plan_of self.old) (ended_by stop) (came bytes.now ∷ log))) }
+        ensures grew { Grows (O.state _output.old).written (O.state _output.new).written }
         ensures failed { IfErr result (λ stop. stop ≡ StopValue.WriteFault
             → Rose (O.state _output.old).faults (O.state _output.new).faults) }
         ensures terms { plan_of self.new ≡ plan_of self.old }

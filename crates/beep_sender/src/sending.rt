@@ -1,6 +1,7 @@
 //! A sender over one link.
-ghost use Rattle.std.specs.Prelude.{◌≡◌, ◌≢◌, ◌≤◌, ◌+◌, ◌*◌, [], IfOk};
+ghost use Rattle.std.specs.Prelude.{◌≡◌, ◌≢◌, ◌≤◌, ◌<◌, ◌+◌, ◌*◌, [], IfOk};
 ghost use Rattle.beep_steps.specs.beep_journal.specs.declared.role.Role.{Role as RoleValue};
+ghost use Rattle.beep_steps.specs.beep_wires.specs.declared.count.TheConstants.{COUNT_MAX};
 ghost use Rattle.beep_steps.specs.beep_link.specs.Causes.{IsBounded, IsCaused, IsUnused, Keeps, WhereKnown};
 ghost use Rattle.beep_steps.specs.beep_link.specs.declared.ended.Ended.{Ended as EndedValue};
 ghost use Rattle.beep_steps.specs.Ends.{AreFit, reads_of};
@@ -84,8 +85,10 @@ pub fn send_end<W: Wires>(
           asked = W.asked wires.new;
           lent = W.lent wires.new;
         }) }
-    ensures reads { (W.state wires.new link).reads ≤ (W.state wires.old link).reads
-        + (settings.now.octets * (settings.now.idle + 1) + settings.now.idle + 1) }
+    ensures reads { (W.state wires.new link).reads
+        ≤ (W.state wires.old link).reads + settings.now.octets * settings.now.idle }
+    ensures exact { (W.state wires.old link).reads ≡ 0
+        → (W.state wires.new link).reads < COUNT_MAX }
 {
     let Ok(mut sender) = begin(alloc, settings, lines) else {
         return Ended::NoMemory;

@@ -1,7 +1,7 @@
 -- What links over TCP do is what all links ensure.
 use Rattle.std.proofs.Common.{◌≡◌, ℕ, ◌≤◌, true, false, length, Option, Some, None, option_map, Result, Ok, Err, inl, inr, refl, sym, ap, ap₂, subst, ◌∙◌, arith}
 use Rattle.std.specs.List.{slice_get}
-use Rattle.std.specs.Result.{OnErr}
+use Rattle.std.specs.Result.{OnOk, OnErr}
 use Rattle.std.proofs.lemmas.Bool.{cases_lt}
 use Rattle.beep_wires.specs.declared.count.TheConstants.{COUNT_MAX}
 use Rattle.beep_wires.specs.declared.failed.Failed.{Failed}
@@ -39,6 +39,10 @@ failed-more : {A : Type 0} (r : Result A Failed) (old new : ℕ) → new ≡ fau
 failed-more (Ok value) old new is = tt
 failed-more (Err e) old new is = subst (λ (n : ℕ). Rose old n) (sym is) (rises old)
 
+kept-count : {A : Type 0} (r : Result A Failed) (old new : ℕ) → new ≡ faults_after r old → OnOk r (new ≡ old)
+kept-count (Ok value) old new is = is
+kept-count (Err e) old new is = tt
+
 never-fewer : {A : Type 0} (r : Result A Failed) (old new : ℕ) → new ≡ faults_after r old → OnErr r (old ≤ COUNT_MAX) → old ≤ new
 never-fewer (Ok value) old new is few = omega (arith, is)
 never-fewer (Err e) old new is few = omega (arith, is, few)
@@ -66,6 +70,9 @@ module _ (w w2 : Sockets) (link : ℕ) (alive : (link_at w link).is_open ≡ tru
 
   pub read-failed : OnErr r (Rose (link_at w link).faults (link_at w2 link).faults)
   read-failed = failed-more r _ _ read-faults
+
+  pub read-unfailed : OnOk r ((link_at w2 link).faults ≡ (link_at w link).faults)
+  read-unfailed = kept-count r _ _ read-faults
 
   pub read-kept : OnErr r ((link_at w link).faults ≤ COUNT_MAX) → (link_at w link).faults ≤ (link_at w2 link).faults
   read-kept few = never-fewer r _ _ read-faults few
@@ -102,6 +109,9 @@ module _ (w w2 : Sockets) (link : ℕ) (alive : (link_at w link).is_open ≡ tru
 
   pub write-failed : OnErr r (Rose (link_at w link).faults (link_at w2 link).faults)
   write-failed = failed-more r _ _ write-faults
+
+  pub write-unfailed : OnOk r ((link_at w2 link).faults ≡ (link_at w link).faults)
+  write-unfailed = kept-count r _ _ write-faults
 
   pub write-kept : OnErr r ((link_at w link).faults ≤ COUNT_MAX) → (link_at w link).faults ≤ (link_at w2 link).faults
   write-kept few = never-fewer r _ _ write-faults few

@@ -217,6 +217,8 @@ impl<R: Net<Listener = TcpListener, Stream = TcpStream> + Drop> Wires for StdWir
         ensures end { (link_at self.new link).has_ended ≡ gives_end result }
         ensures failed { OnErr result
             (Rose (link_at self.old link).faults (link_at self.new link).faults) }
+        ensures unfailed { OnOk result
+            ((link_at self.new link).faults ≡ (link_at self.old link).faults) }
         ensures kept { (link_at self.old link).faults ≤ (link_at self.new link).faults }
         ensures counted { (link_at self.new link).reads ≡ next_count (link_at self.old link).reads }
         ensures others { SameBeside link (link_at self.old) (link_at self.new) }
@@ -242,6 +244,8 @@ impl<R: Net<Listener = TcpListener, Stream = TcpStream> + Drop> Wires for StdWir
         ensures end { (link_at self.new link).has_ended ≡ (link_at self.old link).has_ended }
         ensures failed { OnErr result
             (Rose (link_at self.old link).faults (link_at self.new link).faults) }
+        ensures unfailed { OnOk result
+            ((link_at self.new link).faults ≡ (link_at self.old link).faults) }
         ensures kept { (link_at self.old link).faults ≤ (link_at self.new link).faults }
         ensures counted { (link_at self.new link).reads ≡ (link_at self.old link).reads }
         ensures others { SameBeside link (link_at self.old) (link_at self.new) }

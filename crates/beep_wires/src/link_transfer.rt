@@ -20,6 +20,8 @@ pub fn write_link<W: Wires>(wires: &mut W, link: u32, bytes: &[u8]) -> Result<()
         (record { log = (W.state wires.new link).log; story = W.story wires.new }) bytes.now) }
     ensures failed { OnErr result
         (Rose (W.state wires.old link).faults (W.state wires.new link).faults) }
+    ensures unfailed { OnOk result
+        ((W.state wires.new link).faults ≡ (W.state wires.old link).faults) }
     ensures empty { length bytes.now ≡ 0 → IsOk result × (wires.new ≡ wires.old) }
 
     // What stays.

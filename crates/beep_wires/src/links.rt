@@ -1,5 +1,5 @@
 //! What links are made, read and written by.
-ghost use Rattle.std.specs.Prelude.{◌≡◌, ◌<◌, ◌≤◌, ℕ, Option, true, false, List, length, IfOk, OnErr};
+ghost use Rattle.std.specs.Prelude.{◌≡◌, ◌<◌, ◌≤◌, ℕ, Option, true, false, List, length, IfOk, OnOk, OnErr};
 ghost use Rattle.std.specs.Borrow.{GName};
 ghost use Rattle.beep_wires.specs.Counts.{next_count, Rose};
 ghost use Rattle.beep_wires.specs.Log.{Event, Logs, Enters, IsPart};
@@ -88,6 +88,8 @@ pub trait Wires {
         ensures end { (state self.new link).has_ended ≡ gives_end result }
         ensures failed { OnErr result
             (Rose (state self.old link).faults (state self.new link).faults) }
+        ensures unfailed { OnOk result
+            ((state self.new link).faults ≡ (state self.old link).faults) }
         ensures kept { (state self.old link).faults ≤ (state self.new link).faults }
         ensures counted { (state self.new link).reads ≡ next_count (state self.old link).reads }
         ensures others { SameBeside link (state self.old) (state self.new) }
@@ -110,6 +112,8 @@ pub trait Wires {
         ensures end { (state self.new link).has_ended ≡ (state self.old link).has_ended }
         ensures failed { OnErr result
             (Rose (state self.old link).faults (state self.new link).faults) }
+        ensures unfailed { OnOk result
+            ((state self.new link).faults ≡ (state self.old link).faults) }
         ensures kept { (state self.old link).faults ≤ (state self.new link).faults }
         ensures counted { (state self.new link).reads ≡ (state self.old link).reads }
         ensures others { SameBeside link (state self.old) (state self.new) }

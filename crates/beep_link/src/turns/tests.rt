@@ -1,7 +1,7 @@
 ghost use Rattle.std.specs.Prelude.{◌≡◌, ◌≤◌, ℕ, List, true, IfErr, OnOk};
 ghost use Rattle.beep_wires.specs.Counts.{Rose};
 ghost use Rattle.beep_wires.specs.Log.{Entry};
-ghost use Rattle.beep_link.specs.Causes.{WithText};
+ghost use Rattle.beep_link.specs.Causes.{Grows, WithText};
 ghost use Rattle.beep_link.specs.declared.ended.Stop.{Stop as StopValue};
 
 use super::*;
@@ -57,6 +57,7 @@ impl End for Echo {
         ensures stopped { (log : List Entry) (text : List ℕ) → Unit {0} → IfErr result
             (λ _. WithText (O.state _output.old).written (O.state _output.new).written
             (λ _. Unit {0})) }
+        ensures grew { Grows (O.state _output.old).written (O.state _output.new).written }
         ensures failed { IfErr result (λ stop. stop ≡ StopValue.WriteFault
             → Rose (O.state _output.old).faults (O.state _output.new).faults) }
         ensures kept { (O.state _output.old).faults ≤ (O.state _output.new).faults }

@@ -4,7 +4,7 @@ ghost use Rattle.beep_steps.specs.beep_wires.specs.Counts.{Rose};
 ghost use Rattle.beep_steps.specs.beep_inbox.specs.Laws.{part_marks};
 ghost use Rattle.beep_steps.specs.beep_journal.specs.Log.{Moment, got_all};
 ghost use Rattle.beep_steps.specs.beep_session.specs.Lawfully.{terms_of};
-ghost use Rattle.beep_steps.specs.beep_link.specs.Causes.{ended_by, WithText};
+ghost use Rattle.beep_steps.specs.beep_link.specs.Causes.{ended_by, Grows, WithText};
 ghost use Rattle.beep_steps.specs.beep_link.specs.declared.ended.Stop.{Stop as StopValue};
 ghost use Rattle.beep_lines.specs.Bodies.{body_of, IsOver};
 ghost use Rattle.beep_lines.specs.Lines.{lines_of, GathersAll, GathersSome};
@@ -58,6 +58,7 @@ impl Listener {
             → IfErr result (λ stop.
             RefusesOn (terms_of self.old.session) stop (got_all bytes.now log)) }
         ensures plan { plan_of self.new.session ≡ plan_of self.old.session }
+        ensures grew { Grows (O.state output.old).written (O.state output.new).written }
         ensures failed { IfErr result (λ stop. stop ≡ StopValue.WriteFault
             → Rose (O.state output.old).faults (O.state output.new).faults) }
         ensures kept { (O.state output.old).faults ≤ (O.state output.new).faults }
@@ -107,6 +108,7 @@ impl Listener {
             → IfErr result (λ stop.
             RefusesOn (terms_of self.old.session) stop (got_all bytes.now log)) }
         ensures plan { plan_of self.new.session ≡ plan_of self.old.session }
+        ensures grew { Grows (O.state output.old).written (O.state output.new).written }
         ensures failed { IfErr result (λ stop. stop ≡ StopValue.WriteFault
             → Rose (O.state output.old).faults (O.state output.new).faults) }
         ensures kept { (O.state output.old).faults ≤ (O.state output.new).faults }
@@ -219,6 +221,7 @@ impl Listener {
             ((text ++ more) ++ self.new.lines.octets.octets))) }
         ensures stopped { IfErr result (λ stop. SaysNothing stop) }
         ensures unrefusing { IfErr result (λ stop. IsOtherStop stop) }
+        ensures grew { Grows (O.state output.old).written (O.state output.new).written }
         ensures failed { IfErr result (λ stop. stop ≡ StopValue.WriteFault
             → Rose (O.state output.old).faults (O.state output.new).faults) }
         ensures kept { (O.state output.old).faults ≤ (O.state output.new).faults }
@@ -254,6 +257,7 @@ impl Listener {
             ((text ++ more) ++ self.new.lines.octets.octets))) }
         ensures stopped { IfErr result (λ stop. SaysNothing stop) }
         ensures unrefusing { IfErr result (λ stop. IsOtherStop stop) }
+        ensures grew { Grows (O.state output.old).written (O.state output.new).written }
         ensures failed { IfErr result (λ stop. stop ≡ StopValue.WriteFault
             → Rose (O.state output.old).faults (O.state output.new).faults) }
         ensures kept { (O.state output.old).faults ≤ (O.state output.new).faults }
@@ -291,6 +295,7 @@ impl Listener {
             self.new.lines.octets.octets) }
         ensures stopped { IfErr result (λ stop. SaysNothing stop) }
         ensures unrefusing { IfErr result (λ stop. IsOtherStop stop) }
+        ensures grew { Grows (O.state output.old).written (O.state output.new).written }
         ensures failed { IfErr result (λ stop. stop ≡ StopValue.WriteFault
             → Rose (O.state output.old).faults (O.state output.new).faults) }
         ensures kept { (O.state output.old).faults ≤ (O.state output.new).faults }
@@ -333,6 +338,7 @@ impl Listener {
             self.new.lines.octets.octets) }
         ensures stopped { IfErr result (λ stop. SaysNothing stop) }
         ensures unrefusing { IfErr result (λ stop. IsOtherStop stop) }
+        ensures grew { Grows (O.state output.old).written (O.state output.new).written }
         ensures failed { IfErr result (λ stop. stop ≡ StopValue.WriteFault
             → Rose (O.state output.old).faults (O.state output.new).faults) }
         ensures kept { (O.state output.old).faults ≤ (O.state output.new).faults }

@@ -12,7 +12,7 @@ use Rattle.beep_cmd.proofs.listen.listen.Goals as goal
 pub returns-clause-listened : goal.returns-clause-listened
 returns-clause-listened g c = λ source.
     let O = g.O.Sink in
-    listened c.args.settings.now _ _ source (O.state c.args.output.now) (O.state c.listen_all-ended.new.output) (O.state c.finish.new.output) c.finish.result c.listen_all-ended.ensures.kept c.listen_all-ended.result c.listen_all-ended.ensures.caused c.listen_all-ended.ensures.written c.finish.ensures.written c.finish.ensures.none
+    listened c.args.settings.now _ _ source (O.state c.args.output.now) (O.state c.listen_all-ended.new.output) (O.state c.finish.new.output) c.finish.result c.listen_all-ended.ensures.kept c.listen_all-ended.ensures.grew c.listen_all-ended.result c.listen_all-ended.ensures.caused c.listen_all-ended.ensures.written c.finish.ensures.written c.finish.ensures.none
 
 pub returns-then-settings-clause-listened : goal.returns-then-settings-clause-listened
 returns-then-settings-clause-listened g c = λ source.

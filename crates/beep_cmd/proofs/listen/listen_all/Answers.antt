@@ -1,6 +1,7 @@
 use Rattle.std.proofs.Common.{◌≡◌, ◌+◌, ◌≤◌, false, inl, inr, sym, ap, ◌∙◌, subst, arith}
 use Rattle.beep_runs.specs.beep_link.specs.declared.ended.Ended.{Ended}
 use Rattle.beep_runs.specs.beep_link.specs.Causes.{Seen, WhereKnown}
+use Rattle.beep_runs.specs.beep_link.proofs.StandLemmas.{grown-more}
 use Rattle.beep_runs.specs.beep_journal.specs.declared.role.Role.{Role}
 use Rattle.beep_runs.specs.beep_steps.specs.Logs.{IsLawfulOn, terms_by}
 use Rattle.beep_cmd.specs.Ends.{ends_run, IsAcceptOf, most_reads, SessionCause, seen_of}
@@ -23,6 +24,12 @@ pub returns-clause-asks : goal.returns-clause-asks
 returns-clause-asks g c =
     let P = IsAcceptOf c.args.settings.now in
     asks_fewer P c.loop.counter c.args.settings.now.sessions _ _ (omega (arith, c.loop.invariant.given, c.loop-test.false)) (gave_only P c.loop.counter _ _ c.loop.invariant.asks)
+
+pub returns-then-ends_run-clause-grew : goal.returns-then-ends_run-clause-grew
+returns-then-ends_run-clause-grew g c = grown-more _ (g.O.Sink.state c.loop.output).written _ c.loop.invariant.grew c.in-Ok.ensures.grew
+
+pub returns-in-Err-clause-grew : goal.returns-in-Err-clause-grew
+returns-in-Err-clause-grew g c = grown-more _ (g.O.Sink.state c.loop.output).written _ c.loop.invariant.grew c.in-Err.ensures.grew
 
 pub returns-then-ends_run-clause-lines : goal.returns-then-ends_run-clause-lines
 returns-then-ends_run-clause-lines g c = λ known.
@@ -82,5 +89,6 @@ loop-preserved g c =
       lines = λ known. lines_further settings before mid after c.loop.first c.in-Ok.ended (g.O.Sink.state c.args.output.now).written (g.O.Sink.state c.loop.output).written (g.O.Sink.state c.listen_once.new.output).written i.goes s.goes_on
           (i.lines (known_before before mid after s.goes_on known)) s.one (c.in-Ok.ensures.lines (known_after before mid after i.goes_on.given known)) c.first_of-first.result c.first_of-first.ensures goes;
       asks = gave_more (IsAcceptOf settings) c.loop.counter 1 before.asked mid.asked after.asked i.asks s.asks;
+      grew = grown-more _ (g.O.Sink.state c.loop.output).written _ i.grew c.in-Ok.ensures.grew;
       kept = omega (arith, i.kept, c.in-Ok.ensures.kept);
     }

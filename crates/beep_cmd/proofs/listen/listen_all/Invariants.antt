@@ -2,6 +2,7 @@
 -- released shows in its link.
 use Rattle.std.proofs.Common.{◌≡◌, ◌+◌, ◌≤◌, false, List}
 use Rattle.beep_cmd.specs.Ends.{AreShut, ends_run, IsAcceptOf, ReadsWithin, SessionCause, seen_of, WritesLawfully}
+use Rattle.beep_runs.specs.beep_link.specs.Causes.{Grows}
 use Rattle.beep_runs.specs.beep_journal.specs.declared.role.Role.{Role}
 use Rattle.beep_cmd.specs.Listening.{AreKnown, run_cause, Session}
 use Rattle.beep_cmd.specs.Serving.{AsksGave, GoesOn, WritesSessions}
@@ -22,5 +23,6 @@ invariant-loop g l =
       goes : ends_run l.first ≡ false;
       lines : AreKnown before now → WritesSessions l.settings before now (λ (sessions : List Session). l.first ≡ run_cause sessions) (g.O.Sink.state l.fn.output).written (g.O.Sink.state l.output).written;
       asks : AsksGave (IsAcceptOf l.settings) l.counter before.asked now.asked;
+      grew : Grows (g.O.Sink.state l.fn.output).written (g.O.Sink.state l.output).written;
       kept : (g.O.Sink.state l.fn.output).faults ≤ (g.O.Sink.state l.output).faults;
     }

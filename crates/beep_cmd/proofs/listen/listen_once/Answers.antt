@@ -19,4 +19,4 @@ returns-clause-lines g c = λ known.
     let s = c.shut.ensures in
     let one : after.counts.given ≡ before.counts.given + 1 = ap (λ (k : Counts). k.given) s.same_counts ∙ e.keeps.given ∙ i.given in
     session_lines c.args.settings.now c.listen_end-ended.result before used after c.in-Ok.link i.number one s.shut (O.state c.args.output.now).written (O.state c.listen_end-ended.new.output).written e.lines e.flushed e.shown e.unrefused e.waits e.bounded e.rested e.each
-    (has_cause c.args.settings.now _ (used.state c.in-Ok.link) _ used.counts.quiets i.fresh c.listen_end-ended.result e.caused) known
+    (has_cause c.args.settings.now _ (used.state c.in-Ok.link) _ used.counts.quiets i.fresh (e.exact i.fresh.no_reads) c.listen_end-ended.result e.caused) known

@@ -11,7 +11,7 @@ use Rattle.beep_show.specs.beep_words.proofs.UsableLemmas.{send_is_usable, liste
 use Rattle.beep_runs.specs.beep_link.specs.declared.ended.Ended.{Ended}
 use Rattle.beep_runs.specs.beep_steps.specs.Ends.{AreFit}
 use Rattle.beep_runs.specs.beep_steps.proofs.FitLemmas.{fit}
-use Rattle.beep_cmd.specs.Ends.{AcceptsAtMost, DialsOnce, IsAcceptOf, IsDialOf, Listened, listen_starved, ReadsWithin, seen_of, Sent, session, WritesLawfully}
+use Rattle.beep_cmd.specs.Ends.{AcceptsAtMost, DialsOnce, GivesAtMost, IsAcceptOf, IsDialOf, Listened, listen_starved, ReadsWithin, seen_of, Sent, session, WritesLawfully}
 use Rattle.beep_cmd.specs.Pair.{Paired}
 use Rattle.beep_runs.specs.beep_link.specs.Causes.{Seen, WhereKnown}
 use Rattle.beep_runs.specs.beep_journal.specs.declared.role.Role.{Role}
@@ -83,6 +83,8 @@ returns-in-Ok-Some-Show g c =
       listen_lawful = λ settings w. absurd (other_listen settings w);
       dials = λ settings w. absurd (other_send settings w);
       accepts = λ settings w. absurd (other_listen settings w);
+      send_given = λ settings w. absurd (other_send settings w);
+      listen_given = λ settings w. absurd (other_listen settings w);
       shut = none_shut (seen_of (g.W.Wires.state c.args.wires.now) (g.W.Wires.counts c.args.wires.now) (g.W.Wires.asked c.args.wires.now) (g.W.Wires.lent c.args.wires.now));
       send_link_reads = λ settings w. absurd (other_send settings w);
       listen_link_reads = λ settings w. absurd (other_listen settings w);
@@ -127,6 +129,8 @@ returns-in-Ok-Some-Replay g c =
       listen_lawful = λ settings w. absurd (other_listen settings w);
       dials = λ settings w. absurd (other_send settings w);
       accepts = λ settings w. absurd (other_listen settings w);
+      send_given = λ settings w. absurd (other_send settings w);
+      listen_given = λ settings w. absurd (other_listen settings w);
       shut = none_shut (seen_of (g.W.Wires.state c.args.wires.now) (g.W.Wires.counts c.args.wires.now) (g.W.Wires.asked c.args.wires.now) (g.W.Wires.lent c.args.wires.now));
       send_link_reads = λ settings w. absurd (other_send settings w);
       listen_link_reads = λ settings w. absurd (other_listen settings w);
@@ -172,6 +176,8 @@ returns-in-Ok-Some-Send g c =
       listen_lawful = λ settings w. absurd (other settings w);
       dials = λ settings w. subst (λ (s : EndSettings). DialsOnce s before after) (same settings is w) c.send.ensures.asks;
       accepts = λ settings w. absurd (other settings w);
+      send_given = λ settings w. c.send.ensures.given;
+      listen_given = λ settings w. absurd (other settings w);
       shut = c.send.ensures.shut;
       send_link_reads = λ settings w. subst (λ (s : EndSettings). ReadsWithin s before after) (same settings is w) c.send.ensures.link_reads;
       listen_link_reads = λ settings w. absurd (other settings w);
@@ -219,6 +225,8 @@ returns-in-Ok-Some-Listen g c =
       listen_lawful = λ settings w. subst (λ (s : EndSettings). WritesLawfully Role.Listener s before after) (same settings is w) c.listen.ensures.lawful;
       dials = λ settings w. absurd (other settings w);
       accepts = λ settings w. subst (λ (s : EndSettings). AcceptsAtMost s before after) (same settings is w) c.listen.ensures.asks;
+      send_given = λ settings w. absurd (other settings w);
+      listen_given = λ settings w. subst (λ (s : EndSettings). GivesAtMost s.sessions before after) (same settings is w) c.listen.ensures.given;
       shut = c.listen.ensures.shut;
       send_link_reads = λ settings w. absurd (other settings w);
       listen_link_reads = λ settings w. subst (λ (s : EndSettings). ReadsWithin s before after) (same settings is w) c.listen.ensures.link_reads;
@@ -266,6 +274,8 @@ returns-in-Ok-Some-Pair g c =
       listen_lawful = λ settings w. absurd (listen settings w);
       dials = λ settings w. absurd (send settings w);
       accepts = λ settings w. absurd (listen settings w);
+      send_given = λ settings w. absurd (send settings w);
+      listen_given = λ settings w. absurd (listen settings w);
       shut = none_shut (seen_of (g.W.Wires.state c.args.wires.now) (g.W.Wires.counts c.args.wires.now) (g.W.Wires.asked c.args.wires.now) (g.W.Wires.lent c.args.wires.now));
       send_link_reads = λ settings w. absurd (send settings w);
       listen_link_reads = λ settings w. absurd (listen settings w);
@@ -311,6 +321,8 @@ returns-in-Ok-None g c =
       listen_lawful = λ settings w. absurd (listen settings w);
       dials = λ settings w. absurd (send settings w);
       accepts = λ settings w. absurd (listen settings w);
+      send_given = λ settings w. absurd (send settings w);
+      listen_given = λ settings w. absurd (listen settings w);
       shut = none_shut (seen_of (g.W.Wires.state c.args.wires.now) (g.W.Wires.counts c.args.wires.now) (g.W.Wires.asked c.args.wires.now) (g.W.Wires.lent c.args.wires.now));
       send_link_reads = λ settings w. absurd (send settings w);
       listen_link_reads = λ settings w. absurd (listen settings w);
@@ -350,6 +362,8 @@ returns-in-Err g c =
       listen_lawful = λ settings w. each_none (λ link. WhereKnown (IsLawfulOn (terms_by Role.Listener settings)) link.log) seen seen refl;
       dials = λ settings w. asks_none (IsDialOf settings) 1 (g.W.Wires.asked c.args.wires.now);
       accepts = λ settings w. asks_none (IsAcceptOf settings) settings.sessions (g.W.Wires.asked c.args.wires.now);
+      send_given = λ settings w. omega arith;
+      listen_given = λ settings w. omega arith;
       shut = none_shut (seen_of (g.W.Wires.state c.args.wires.now) (g.W.Wires.counts c.args.wires.now) (g.W.Wires.asked c.args.wires.now) (g.W.Wires.lent c.args.wires.now));
       send_link_reads = λ settings w. none_read settings seen seen refl;
       listen_link_reads = λ settings w. none_read settings seen seen refl;

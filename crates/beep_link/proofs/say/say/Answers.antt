@@ -105,6 +105,7 @@ loop-preserved g c =
           (c.in-Ok.ensures.said log text (subst (λ octets. E.stands c.loop.end log octets text) (sym c.loop.invariant.empty) k))) h)
           (λ log front rest h. text-map before now _ _ (λ text k. g.met.E.End.writes c.gather_some.new.end log front rest text k) h)
           _ _ w.wrote.more w.wrote.logs w.wrote.writes (c.loop.invariant.stands before now s);
+      unfailed = w.unfailed ∙ c.loop.invariant.unfailed;
       keeps = Keeps-wrote c.args.link _ _ _ c.loop.invariant.keeps w.still_open w.kept w.others w.same_counts w.same_asked w.same_lent;
       writes = grew-more _ now.log next.log w.wrote.more c.as_slice.result.now c.loop.invariant.writes w.wrote.logs w.wrote.writes;
       same_counts = w.same_counts ∙ c.loop.invariant.same_counts;

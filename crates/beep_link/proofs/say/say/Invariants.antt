@@ -12,6 +12,7 @@ invariant-loop g l =
       terms : E.terms l.end ≡ E.terms l.initial.end;
       stands : (before now : Option (List ℕ)) → WhereKnown (λ log. WithText before now (E.stands l.initial.end log [])) (W.state l.initial.wires l.link).log
           → WhereKnown (λ log. WithText before now (E.stands l.end log [])) (W.state l.wires l.link).log;
+      unfailed : (W.state l.wires l.link).faults ≡ (W.state l.initial.wires l.link).faults;
       keeps : Keeps l.link (record { state = W.state l.initial.wires; counts = W.counts l.initial.wires; asked = W.asked l.initial.wires; lent = W.lent l.initial.wires })
           (record { state = W.state l.wires; counts = W.counts l.wires; asked = W.asked l.wires; lent = W.lent l.wires });
       writes : GrewByWrites (W.state l.initial.wires l.link).log (W.state l.wires l.link).log;

@@ -3,8 +3,16 @@ use Rattle.std.proofs.Common.{rules, ℕ, List, ◌∙◌, [], arith, subst, sym
 use Rattle.beep_link.specs.Causes.{ReadsWhere, WhereKnown, WithText}
 use Rattle.beep_link.specs.declared.ended.Ended.{Ended}
 use Rattle.beep_link.proofs.KeepLemmas.{Keeps-trans}
-use Rattle.beep_link.proofs.StandLemmas.{text-none, known-empty, unread-bounded}
+use Rattle.beep_link.proofs.StandLemmas.{grown-more, text-none, known-empty, unread-bounded}
 use Rattle.beep_link.proofs.turns.run_turns.Goals as goal
+
+pub returns-in-Err-clause-caused : goal.returns-in-Err-clause-caused
+returns-in-Err-clause-caused g c =
+    let W = g.W.Wires in
+    let i = c.loop-ended.invariant in c.in-Err.ensures.caused (W.state c.args.wires.now c.args.link) (W.counts c.args.wires.now).quiets i.unfailed i.counted i.came
+
+pub returns-in-Err-clause-grew : goal.returns-in-Err-clause-grew
+returns-in-Err-clause-grew g c = grown-more _ (g.O.Sink.state c.loop-ended.output).written _ c.loop-ended.invariant.grew c.turn.ensures.grew
 
 pub returns-in-Err-clause-shown : goal.returns-in-Err-clause-shown
 returns-in-Err-clause-shown g c begun =
@@ -57,6 +65,8 @@ loop-ended-preserved g c = record {
   counted = c.in-Ok-turn.ensures.counted _ c.loop-ended.invariant.counted;
   came = c.in-Ok-turn.ensures.came _ c.loop-ended.invariant.came;
   keeps = Keeps-trans c.args.link _ _ _ c.loop-ended.invariant.keeps c.turn.ensures.keeps;
+  grew = grown-more _ (g.O.Sink.state c.loop-ended.output).written _ c.loop-ended.invariant.grew c.turn.ensures.grew;
+  unfailed = c.loop-ended.invariant.unfailed ∙ sym c.in-Ok-turn.ensures.unfailed;
   kept = omega (arith, c.loop-ended.invariant.kept, c.turn.ensures.kept);
   reads = omega (arith, c.loop-ended.invariant.reads, c.turn.ensures.reads, c.in-Ok-turn.ensures.falls);
 }

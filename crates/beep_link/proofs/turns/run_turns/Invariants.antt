@@ -1,6 +1,6 @@
 -- The log shows what may still be read, and so do the reads; and the end stands for the log.
 use Rattle.std.proofs.Common.{◌≡◌, ℕ, List, ◌≤◌, ◌+◌, ◌*◌, false, [], vec_len}
-use Rattle.beep_link.specs.Causes.{CountsQuiet, CountsReads, IsBounded, Keeps, reads_left, ReadsWhere, TellsLeft, WhereKnown, WithText}
+use Rattle.beep_link.specs.Causes.{CountsQuiet, CountsReads, Grows, IsBounded, Keeps, reads_left, ReadsWhere, TellsLeft, WhereKnown, WithText}
 use Rattle.beep_link.specs.declared.buffers.TheConstants.{READ}
 use Rattle.beep_link.specs.declared.ended.Ended.{Ended}
 use Rattle.beep_link.proofs.turns.run_turns.Given as goal
@@ -21,8 +21,10 @@ invariant-loop-ended g l =
       came : CountsReads l.reads (W.state l.fn.wires l.link).reads l.left (W.state l.wires l.link).reads;
       keeps : Keeps l.link (record { state = W.state l.fn.wires; counts = W.counts l.fn.wires; asked = W.asked l.fn.wires; lent = W.lent l.fn.wires })
           (record { state = W.state l.wires; counts = W.counts l.wires; asked = W.asked l.wires; lent = W.lent l.wires });
+      grew : Grows (g.O.Sink.state l.fn.output).written (g.O.Sink.state l.output).written;
+      unfailed : (W.state l.fn.wires l.link).faults ≡ (W.state l.wires l.link).faults;
       kept : (g.O.Sink.state l.fn.output).faults ≤ (g.O.Sink.state l.output).faults;
-      reads : (W.state l.wires l.link).reads + reads_left l.reads l.left ≤ (W.state l.fn.wires l.link).reads + (l.reads.octets * (l.reads.idle + 1) + l.reads.idle);
+      reads : (W.state l.wires l.link).reads + reads_left l.reads l.left ≤ (W.state l.fn.wires l.link).reads + l.reads.octets * l.reads.idle;
     }
 
 abbrev pub decreases-loop-ended : goal.decreases-loop-ended

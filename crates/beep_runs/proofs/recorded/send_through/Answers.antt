@@ -19,9 +19,9 @@ returns-clause-sends g c =
     let s = c.shut.ensures in
     let p = c.put_record.ensures in
     record {
-      ran = ran Role.Initiator settings c.send_end-ended.result before _ _ after c.in-Ok.link i.number i.fresh i.others i.given i.quiets e.keeps e.caused e.lawful e.shown e.bounded e.reads s.shut s.others s.same_counts c.put_record.result p.ended;
+      ran = ran Role.Initiator settings c.send_end-ended.result before _ _ after c.in-Ok.link i.number i.fresh i.others i.given i.quiets e.keeps e.caused e.lawful e.shown e.bounded e.reads e.exact s.shut s.others s.same_counts c.put_record.result p.ended;
       sent = sent_all settings c.args.lines.now c.send_end-ended.result c.put_record.result before used after c.in-Ok.link i.number s.shut e.sent e.unrefused e.waits e.rested e.each p.ended;
-      recorded = recorded Role.Initiator settings c.send_end-ended.result before _ _ after c.in-Ok.link i.number i.fresh i.others i.given i.quiets e.keeps e.caused e.lawful e.shown e.bounded e.reads s.shut s.others s.same_counts g.K.Known.known c.put_record.result c.args.out.now.octets c.put_record.new.out.octets c.requires.known p.whole p.none;
+      recorded = recorded Role.Initiator settings c.send_end-ended.result before _ _ after c.in-Ok.link i.number i.fresh i.others i.given i.quiets e.keeps e.caused e.lawful e.shown e.bounded e.reads e.exact s.shut s.others s.same_counts g.K.Known.known c.put_record.result c.args.out.now.octets c.put_record.new.out.octets c.requires.known p.whole p.none;
       failed = tt;
       same_out = tt;
       asks = search rules;

@@ -9,7 +9,7 @@ invariant-loop-at g l = record {
   within : l.at ≤ length l.bytes;
   alive : (g.W.Wires.state l.wires l.link).is_open ≡ true;
   end : (g.W.Wires.state l.wires l.link).has_ended ≡ (g.W.Wires.state l.initial.wires l.link).has_ended;
-  kept : (g.W.Wires.state l.initial.wires l.link).faults ≤ (g.W.Wires.state l.wires l.link).faults;
+  unfailed : (g.W.Wires.state l.wires l.link).faults ≡ (g.W.Wires.state l.initial.wires l.link).faults;
   counted : (g.W.Wires.state l.wires l.link).reads ≡ (g.W.Wires.state l.initial.wires l.link).reads;
   others : SameBeside l.link (g.W.Wires.state l.initial.wires) (g.W.Wires.state l.wires);
   same_counts : g.W.Wires.counts l.wires ≡ g.W.Wires.counts l.initial.wires;

@@ -5,6 +5,7 @@ use Rattle.std.specs.List.{flat_map}
 use Rattle.prof_raw.specs.Entries.{entries_of}
 use Rattle.prof_raw.specs.Line.{line_of}
 use Rattle.beep_lines.specs.Lines.{GathersAll, GathersSome, lines_of}
+use Rattle.beep_link.proofs.StandLemmas.{grown-more}
 use Rattle.beep_lines.proofs.LineLemmas.{one-more, one-stopped}
 use Rattle.beep_lines.proofs.lines.Lines.put.Goals as goal
 
@@ -19,8 +20,12 @@ loop-place-preserved g c =
       wrote = one-more (state c.args.output.now).written (state c.loop-place.output).written (state c.put_entry.new.output).written
           (c.args.self.now.octets.octets ++ flat_map line_of (entries_of body)) c.loop-place.self.octets.octets (flat_map line_of (entries_of (drop c.loop-place.at body))) (line_of entry)
           (flat_map line_of (entries_of (drop c.in-Some.place.end body))) c.put_entry.new.self.octets.octets c.loop-place.invariant.wrote (ap (flat_map line_of) c.in-Some.ensures.entry) put;
+      grew = grown-more _ (state c.loop-place.output).written _ c.loop-place.invariant.grew c.put_entry.ensures.grew;
       kept = omega (arith, c.loop-place.invariant.kept, c.put_entry.ensures.kept);
     }
+
+pub returns-in_err-put_entry-clause-grew : goal.returns-in_err-put_entry-clause-grew
+returns-in_err-put_entry-clause-grew g c = grown-more _ (g.O.Sink.state c.loop-place.output).written _ c.loop-place.invariant.grew c.put_entry.ensures.grew
 
 pub returns-in_err-put_entry-clause-err : goal.returns-in_err-put_entry-clause-err
 returns-in_err-put_entry-clause-err g c =

@@ -3,7 +3,7 @@ use Rattle.std.proofs.Common.{◌≡◌, ◌-◌, ◌≤◌, ◌++◌, List, ℕ
 use Rattle.std.specs.List.{flat_map}
 use Rattle.prof_raw.specs.Entries.{entries_of}
 use Rattle.prof_raw.specs.Line.{line_of}
-use Rattle.beep_link.specs.Causes.{WithText}
+use Rattle.beep_link.specs.Causes.{Grows, WithText}
 use Rattle.beep_lines.proofs.lines.Lines.put.Given as goal
 
 abbrev pub invariant-loop-place : goal.invariant-loop-place
@@ -11,6 +11,7 @@ invariant-loop-place g l = record {
   within : l.at ≤ length l.body;
   wrote : WithText (g.O.Sink.state l.fn.output).written (g.O.Sink.state l.output).written
       (λ more. l.fn.self.octets.octets ++ flat_map line_of (entries_of l.body) ≡ more ++ l.self.octets.octets ++ flat_map line_of (entries_of (drop l.at l.body)));
+  grew : Grows (g.O.Sink.state l.fn.output).written (g.O.Sink.state l.output).written;
   kept : (g.O.Sink.state l.fn.output).faults ≤ (g.O.Sink.state l.output).faults;
 }
 

@@ -23,7 +23,8 @@ returns-then-is_empty-clause-err g c =
     let state = g.O.Sink.state in
     let octets = take c.args.count a.taken.items in
     let none : body_of c.args.number c.args.ansno a.bodies ≡ [] = empty-of _ (ap (λ x. length x == 0) (sym c.octets.ensures) ∙ sym c.is_empty.ensures ∙ c.if-is_empty.true) in
-    let put : OnErr c.put-put.result (GathersSome (state c.args.output.now).written (state c.put-put.new.output).written a.lines.octets.octets (lines_of octets) c.put-put.new.self.octets.octets) = search rules in
+    let put : OnErr c.put-put.result (GathersSome (state c.args.output.now).written (state c.put-put.new.output).written a.lines.octets.octets (lines_of octets) c.put-put.new.self.octets.octets) = subst (λ xs. OnErr c.put-put.result (GathersSome (state c.args.output.now).written (state c.put-put.new.output).written a.lines.octets.octets (lines_of (take c.args.count xs)) c.put-put.new.self.octets.octets))
+    c.deref.ensures.value c.put-put.ensures.err in
     err-then c.put-put.result _ _ (λ o. subst (λ b. GathersSome (state c.args.output.now).written (state c.put-put.new.output).written a.lines.octets.octets (lines_of (b ++ octets)) c.put-put.new.self.octets.octets)
     (sym none) o) put
 

@@ -2,7 +2,7 @@
 use Rattle.std.proofs.Common.{◌≡◌, ◌∙◌, ◌++◌, ◌+◌, refl, subst, length, take, arith}
 use Rattle.beep_steps.specs.beep_journal.specs.Log.{got_all}
 use Rattle.beep_steps.specs.beep_link.specs.Causes.{ended_by}
-use Rattle.beep_steps.specs.beep_link.proofs.StandLemmas.{text-map}
+use Rattle.beep_steps.specs.beep_link.proofs.StandLemmas.{grown-more, grown-none, text-map}
 use Rattle.beep_steps.specs.beep_session.specs.Lawfully.{terms_of}
 use Rattle.beep_steps.specs.beep_talk.specs.Plan.{PlainPlan}
 use Rattle.beep_steps.specs.Logs.{StopsOn}
@@ -59,6 +59,9 @@ returns-then-bytes-at-clause-heard g c log text s =
     text-map (state c.args.output.now).written (state c.loop.output).written _ _
     (λ more t. subst (λ x. Listens l.session l.bodies l.lines.octets.octets x (text ++ more)) (got-whole c.loop.at bytes log whole) t) (c.loop.invariant.listens log text s)
 
+pub returns-in-Err-clause-grew : goal.returns-in-Err-clause-grew
+returns-in-Err-clause-grew g c = grown-more _ (g.O.Sink.state c.loop.output).written _ c.loop.invariant.grew c.hear_some.ensures.grew
+
 pub loop-init : goal.loop-init
 loop-init g c = record {
   within = omega arith;
@@ -72,6 +75,7 @@ loop-init g c = record {
   goes = λ log u. omega arith;
   used = λ plan log s. omega arith;
   more = λ log text l. omega arith;
+  grew = grown-none (g.O.Sink.state c.args.output.now).written;
   kept = omega arith;
 }
 
@@ -111,6 +115,7 @@ loop-preserved g c =
       more = λ log text s.
           let some = e.more (got_all (take c.loop.at bytes) log) (i.listens log text s).2.on (rest-some c.loop.at bytes (omega (arith, c.if-bytes-at.false))) in
           omega (arith, some, i.more log text s);
+      grew = grown-more _ (state c.loop.output).written _ i.grew c.hear_some.ensures.grew;
       kept = omega (arith, i.kept, c.hear_some.ensures.kept);
     }
 

@@ -1,7 +1,7 @@
 -- The octets so far are used, and each event uses one at least.
 use Rattle.std.proofs.Common.{◌≡◌, ◌≤◌, ◌++◌, ℕ, List, length, take}
 use Rattle.beep_steps.specs.beep_journal.specs.Log.{Moment, got_all}
-use Rattle.beep_steps.specs.beep_link.specs.Causes.{WithText}
+use Rattle.beep_steps.specs.beep_link.specs.Causes.{Grows, WithText}
 use Rattle.beep_steps.specs.beep_talk.specs.Plan.{PlainPlan}
 use Rattle.beep_steps.specs.Serving.{ServesOn}
 use Rattle.beep_listener.specs.Listening.{Listens, UnrefusedOn, plan_of}
@@ -22,5 +22,6 @@ invariant-loop g l = record {
   goes : (log : List Moment) → UnrefusedOn l.fn.self.session log → l.counter ≤ l.at;
   used : (plan : PlainPlan) (log : List Moment) → ServesOn plan l.fn.self.session log → l.counter ≤ l.at;
   more : (log : List Moment) (text : List ℕ) → Listens l.fn.self.session l.fn.self.bodies l.fn.self.lines.octets.octets log text → l.counter ≤ l.at;
+  grew : Grows (g.O.Sink.state l.fn.output).written (g.O.Sink.state l.output).written;
   kept : (g.O.Sink.state l.fn.output).faults ≤ (g.O.Sink.state l.output).faults;
 }

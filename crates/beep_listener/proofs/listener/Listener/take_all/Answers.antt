@@ -4,7 +4,7 @@ use Rattle.beep_steps.specs.beep_session.specs.Session.{Held}
 use Rattle.beep_steps.specs.beep_inbox.specs.Laws.{part_marks}
 use Rattle.beep_lines.specs.Lines.{GathersAll, GathersSome}
 use Rattle.beep_steps.specs.beep_link.specs.Causes.{WithText}
-use Rattle.beep_steps.specs.beep_link.proofs.StandLemmas.{take-front, text-map}
+use Rattle.beep_steps.specs.beep_link.proofs.StandLemmas.{grown-more, grown-none, take-front, text-map}
 use Rattle.beep_steps.specs.Logs.{StaysOn}
 use Rattle.beep_steps.specs.Serving.{ServesOn}
 use Rattle.beep_steps.proofs.CallLemmas.{stays, stays-trans}
@@ -55,6 +55,12 @@ returns-in_err-took-clause-wrote g c log text t =
     (state c.loop.output).written (state c.took.new.output).written
     (subst (λ x. GathersSome (state c.loop.output).written (state c.took.new.output).written l.lines.octets.octets (part_lines c.args.number part x l.bodies) later) same c.in_err-took.ensures.err)) (c.loop.invariant.taking log text t))
 
+pub returns-in_err-took-clause-grew : goal.returns-in_err-took-clause-grew
+returns-in_err-took-clause-grew g c = grown-more _ (g.O.Sink.state c.loop.output).written _ c.loop.invariant.grew c.took.ensures.grew
+
+pub returns-then-is_last-2-clause-grew : goal.returns-then-is_last-2-clause-grew
+returns-then-is_last-2-clause-grew g c = grown-more _ (g.O.Sink.state c.loop.output).written _ c.loop.invariant.grew c.took.ensures.grew
+
 pub loop-init : goal.loop-init
 loop-init g c = record {
   stays = stays c.args.self.now.session;
@@ -64,6 +70,7 @@ loop-init g c = record {
   taking = λ log text t.
       let a = c.args.self.now in
       text-here text (g.O.Sink.state c.args.output.now).written (λ x. ListensTaking c.args.number 0 a.session a.bodies a.lines.octets.octets log x) t;
+  grew = grown-none (g.O.Sink.state c.args.output.now).written;
   kept = omega arith;
 }
 
@@ -97,6 +104,7 @@ loop-preserved g c =
           (subst (λ x. GathersAll (state c.loop.output).written (state c.took.new.output).written l.lines.octets.octets (part_lines c.args.number part x l.bodies) n.lines.octets.octets) same
           c.in_ok-took.ensures.ok)))
           (c.loop.invariant.taking log text t);
+      grew = grown-more _ (state c.loop.output).written _ c.loop.invariant.grew c.took.ensures.grew;
       kept = omega (arith, c.loop.invariant.kept, c.took.ensures.kept);
     }
 

@@ -1,7 +1,7 @@
 -- What was taken so far leaves what the session stands for.
 use Rattle.std.proofs.Common.{◌≡◌, ◌≤◌, ◌++◌, ℕ, List}
 use Rattle.beep_steps.specs.beep_journal.specs.Log.{Moment}
-use Rattle.beep_steps.specs.beep_link.specs.Causes.{WithText}
+use Rattle.beep_steps.specs.beep_link.specs.Causes.{Grows, WithText}
 use Rattle.beep_steps.specs.Logs.{StaysOn}
 use Rattle.beep_steps.specs.Serving.{KeepsServing, ServesOn}
 use Rattle.beep_steps.specs.beep_talk.specs.Plan.{PlainPlan}
@@ -19,5 +19,6 @@ invariant-loop g l = record {
   taking : (log : List Moment) (text : List ℕ) → ListensTaking l.number 0 l.fn.self.session l.fn.self.bodies l.fn.self.lines.octets.octets log text
       → WithText (g.O.Sink.state l.fn.output).written (g.O.Sink.state l.output).written
       (λ more. ListensTaking l.number l.counter l.self.session l.self.bodies l.self.lines.octets.octets log (text ++ more));
+  grew : Grows (g.O.Sink.state l.fn.output).written (g.O.Sink.state l.output).written;
   kept : (g.O.Sink.state l.fn.output).faults ≤ (g.O.Sink.state l.output).faults;
 }

@@ -8,7 +8,7 @@ use Rattle.beep_steps.specs.Refusing.{RefusesOn}
 use Rattle.beep_steps.specs.beep_link.specs.declared.ended.Ended.{Ended}
 use Rattle.beep_steps.specs.beep_link.specs.declared.ended.Stop.{Stop}
 use Rattle.beep_listener.specs.Turning.{goes_refused}
-use Rattle.beep_steps.specs.beep_link.proofs.StandLemmas.{text-map}
+use Rattle.beep_steps.specs.beep_link.proofs.StandLemmas.{grown-more, text-map}
 use Rattle.beep_steps.specs.Serving.{ServesOn}
 use Rattle.beep_steps.proofs.OnLemmas.{nothing-stops, ok-then, stopped-on}
 use Rattle.beep_steps.proofs.RefusesLemmas.{stop-refuses}
@@ -97,3 +97,9 @@ returns-in-Err-clause-stopped g c log text s =
     ))
     (failed-tells (plan_of a.session) text before mid after all h.session h.bodies h.lines.octets.octets c.flush.new.self.octets.octets c.hear_all-heard.ensures.plan
     (read octets ∷ log) refl c.in-Err.ensures.err stop c.in-Err.ensures.stopped shows w.0 w.1)
+
+pub returns-in-Ok-clause-grew : goal.returns-in-Ok-clause-grew
+returns-in-Ok-clause-grew g c = grown-more _ (g.O.Sink.state c.hear_all-heard.new.output).written _ c.hear_all-heard.ensures.grew c.flush.ensures.grew
+
+pub returns-in-Err-clause-grew : goal.returns-in-Err-clause-grew
+returns-in-Err-clause-grew g c = grown-more _ (g.O.Sink.state c.hear_all-heard.new.output).written _ c.hear_all-heard.ensures.grew c.flush.ensures.grew

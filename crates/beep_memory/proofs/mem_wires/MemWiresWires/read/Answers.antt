@@ -1,4 +1,4 @@
-use Rattle.beep_memory.proofs.MeetLemmas.{read-open, read-end, read-failed, read-kept, read-counted, read-others, read-counts}
+use Rattle.beep_memory.proofs.MeetLemmas.{read-open, read-end, read-failed, read-unfailed, read-kept, read-counted, read-others, read-counts}
 use Rattle.beep_memory.proofs.mem_wires.MemWiresWires.read.Goals as goal
 
 pub returns-clause-still_open : goal.returns-clause-still_open
@@ -12,6 +12,10 @@ returns-clause-end c =
 pub returns-clause-failed : goal.returns-clause-failed
 returns-clause-failed c =
     read-failed c.args.self.now c.read_link.new.self c.args.link c.args.buf.now c.read_link.new.buf c.requires.alive c.read_link.result c.read_link.ensures.reads
+
+pub returns-clause-unfailed : goal.returns-clause-unfailed
+returns-clause-unfailed c =
+    read-unfailed c.args.self.now c.read_link.new.self c.args.link c.args.buf.now c.read_link.new.buf c.requires.alive c.read_link.result c.read_link.ensures.reads
 
 pub returns-clause-kept : goal.returns-clause-kept
 returns-clause-kept c =

@@ -1,4 +1,4 @@
-use Rattle.beep_memory.proofs.MeetLemmas.{write-open, write-end, write-failed, write-kept, write-counted, write-others, write-counts}
+use Rattle.beep_memory.proofs.MeetLemmas.{write-open, write-end, write-failed, write-unfailed, write-kept, write-counted, write-others, write-counts}
 use Rattle.beep_memory.proofs.mem_wires.MemWiresWires.write.Goals as goal
 
 pub returns-clause-still_open : goal.returns-clause-still_open
@@ -12,6 +12,10 @@ returns-clause-end c =
 pub returns-clause-failed : goal.returns-clause-failed
 returns-clause-failed c =
     write-failed c.args.self.now c.write_link.new.self c.args.link c.args.bytes.now c.requires.alive c.write_link.result c.write_link.ensures.writes
+
+pub returns-clause-unfailed : goal.returns-clause-unfailed
+returns-clause-unfailed c =
+    write-unfailed c.args.self.now c.write_link.new.self c.args.link c.args.bytes.now c.requires.alive c.write_link.result c.write_link.ensures.writes
 
 pub returns-clause-kept : goal.returns-clause-kept
 returns-clause-kept c =

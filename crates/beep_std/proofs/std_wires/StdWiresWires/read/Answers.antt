@@ -1,4 +1,4 @@
-use Rattle.beep_std.proofs.MeetLemmas.{read-open, read-end, read-failed, read-kept, read-counted, read-others, read-counts}
+use Rattle.beep_std.proofs.MeetLemmas.{read-open, read-end, read-failed, read-unfailed, read-kept, read-counted, read-others, read-counts}
 use Rattle.beep_std.proofs.std_wires.StdWiresWires.read.Goals as goal
 
 pub returns-clause-still_open : goal.returns-clause-still_open
@@ -9,6 +9,9 @@ returns-clause-end g c = read-end c.args.self.now c.read_link.new.self c.args.li
 
 pub returns-clause-failed : goal.returns-clause-failed
 returns-clause-failed g c = read-failed c.args.self.now c.read_link.new.self c.args.link c.requires.alive c.read_link.result c.read_link.ensures.after
+
+pub returns-clause-unfailed : goal.returns-clause-unfailed
+returns-clause-unfailed g c = read-unfailed c.args.self.now c.read_link.new.self c.args.link c.requires.alive c.read_link.result c.read_link.ensures.after
 
 pub returns-clause-kept : goal.returns-clause-kept
 returns-clause-kept g c = read-kept c.args.self.now c.read_link.new.self c.args.link c.requires.alive c.read_link.result c.read_link.ensures.after c.read_link.ensures.counts
