@@ -12,7 +12,7 @@ use Rattle.beep_input.specs.Whole.{IsGathered, ReadsFew, Stopped}
 use Rattle.beep_input.specs.Gathering.{StopsAtOnce, HasCome}
 
 -- a count that rose in a part of a call rose in it
-rose_later : (a b c : ℕ) → a ≤ b → Rose b c → Rose a c
+pub rose_later : (a b c : ℕ) → a ≤ b → Rose b c → Rose a c
 rose_later a b c h (inl w) = inl (omega arith)
 rose_later a b c h (inr w) = inr w
 

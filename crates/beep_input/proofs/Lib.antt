@@ -1,4 +1,6 @@
 -- Proofs.
+mod FedLemmas
 mod FoundLemmas
 mod GatherLemmas
 mod LineLemmas
+mod ListingLemmas

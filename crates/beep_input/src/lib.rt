@@ -1,8 +1,9 @@
-//! An input that is read whole before it is looked at, and its lines.
+//! An input that is read whole: its octets, or its lines, which are listed as they come.
 #![tactic(auto)]
 
 pub mod laws;
 mod lines;
+mod listing;
 mod whole;
 
 pub use lines::{Unlisted, line_past, read_lines};

@@ -1,17 +1,15 @@
 //! The lines of an input: what stands between its LFs.
-ghost use Rattle.std.specs.Prelude.{◌≡◌, ◌+◌, ◌≤◌, false, None, ◌∷◌, [], ◌++◌, ◌==◌, if◌then◌else◌, drop, take, length, IfOk, IfErr, OnOk, OnErr};
-ghost use Rattle.std.specs.List.{filter};
-ghost use Rattle.prof_raw.specs.Entries.{has_some};
-ghost use Rattle.beep_input.specs.Lines.{GivesLines, IsUnlisted, pieces_at_lf, without_cr, lines_of, first_long, line_after};
-ghost use Rattle.beep_input.specs.Walk.{lf_len, Stops};
-ghost use Rattle.beep_input.specs.declared.whole.TheConstants.{MAX_INPUT};
+ghost use Rattle.std.specs.Prelude.{◌≡◌, ◌+◌, ◌≤◌, ◌<◌, false, ◌==◌, [], take, length, if◌then◌else◌, IfOk, IfErr};
+ghost use Rattle.beep_wires.specs.States.{SourceState};
+ghost use Rattle.beep_input.specs.Lines.{GivesLines, IsUnlisted, line_after};
+ghost use Rattle.beep_input.specs.Listing.{Gathers, Holds, MOST, unlisted_by};
+ghost use Rattle.beep_input.specs.declared.whole.TheConstants.{MAX_INPUT, PIECE};
 
-use crate::whole::{MAX_INPUT, Unread, read_input};
-use beep_octets::NoMemory;
+use crate::listing::Gathered;
+use crate::whole::{MAX_INPUT, PIECE, Unread, read_at};
 use beep_wires::Source;
-use memchr::memchr;
-use prof_raw::{ENTRY_MAX, Entries};
-use std::alloc::Global;
+use prof_raw::Entries;
+use std::alloc::{AllocError, Global};
 
 /// Why the lines of an input aren't listed.
 #[derive(Clone, Copy, Debug, PartialEq, Eq)]
@@ -24,6 +22,17 @@ pub enum Unlisted {
     NoMemory,
 }
 
+impl Unlisted {
+    fn of(why: Unread) -> Unlisted
+        ensures { result ≡ unlisted_by why }
+    {
+        match why {
+            Unread::Fault => Unlisted::Fault,
+            Unread::NoMemory => Unlisted::NoMemory,
+        }
+    }
+}
+
 /// Reads an input to its end, and lists its lines. Each has 1 to 8,192 octets and no LF.
 pub fn read_lines<I: Source>(alloc: Global, input: &mut I) -> Result<Entries, Unlisted>
     requires going { (I.state input.old).ended ≡ false }
@@ -32,71 +41,70 @@ pub fn read_lines<I: Source>(alloc: Global, input: &mut I) -> Result<Entries, Un
     ensures err { IfErr result (λ why. IsUnlisted why (I.state input.old) (I.state input.new)) }
     ensures reads { (I.state input.new).reads ≤ (I.state input.old).reads + (MAX_INPUT + 1) }
 {
-    let octets = match read_input(alloc, input) {
-        Ok(octets) => octets,
-        Err(Unread::Fault) => return Err(Unlisted::Fault),
-        Err(Unread::NoMemory) => return Err(Unlisted::NoMemory),
-    };
-    if octets.len() > MAX_INPUT {
-        return Err(Unlisted::Bad(line_past(octets.as_slice())));
+    let mut gathered = Gathered::new(alloc);
+    let mut piece = Vec::new(alloc);
+    if let Err(AllocError) = piece.resize(PIECE, 0) {
+        return Err(Unlisted::NoMemory);
     }
-    split_lines(alloc, octets.as_slice())
+    match gather(input, piece.as_mut_slice(), &mut gathered) {
+        Ok(true) => gathered.finish(),
+        Ok(false) => end_or_past(input, piece.as_mut_slice(), gathered),
+        Err(why) => Err(why),
+    }
 }
 
-/// The lines of octets that were read.
-fn split_lines(alloc: Global, octets: &[u8]) -> Result<Entries, Unlisted>
-    ensures lines { IfOk result (λ lines. lines ≡ lines_of octets.now) }
-    ensures none_long { OnOk result (first_long 1 (pieces_at_lf octets.now) ≡ None) }
-    ensures err { IfErr result (λ why. Stops why octets.now) }
+/// Reads an input to its end, and answers true there, or as much as is kept.
+fn gather<I: Source>(
+    input: &mut I,
+    piece: &mut [u8],
+    gathered: &mut Gathered,
+) -> Result<bool, Unlisted>
+    requires going { (I.state input.old).ended ≡ false }
+    requires room { length piece.old ≡ PIECE }
+    requires none { Holds [] gathered.old }
+    ensures ok { IfOk result (λ ended. Gathers ended gathered.new
+        (I.state input.old) (I.state input.new)) }
+    ensures err { IfErr result (λ why. IsUnlisted why (I.state input.old) (I.state input.new)) }
+    ensures reads { (I.state input.new).reads ≤ (I.state input.old).reads + MAX_INPUT }
+    ensures room { length piece.new ≡ PIECE }
 {
-    let mut lines = Entries::new(alloc);
-    let mut number = 1;
-    let mut at = 0;
-    while at < octets.len() {
-        let end = lf_place(octets, at);
-        let line = without_cr(&octets[at..end]);
-        if line.len() > ENTRY_MAX {
-            return Err(Unlisted::Bad(number));
+    let mut left = MAX_INPUT;
+    while 0 < left {
+        // The last reads have less room, at the end of the buffer.
+        let at = PIECE - PIECE.min(left);
+        match read_at(input, piece, at) {
+            Ok(0) => return Ok(true),
+            Ok(n) => {
+                let Ok(()) = gathered.feed(&piece[at..at + n]) else {
+                    return Err(Unlisted::NoMemory);
+                };
+                left -= n;
+            }
+            Err(why) => return Err(Unlisted::of(why)),
         }
-        let Ok(()) = put_line(&mut lines, line) else {
-            return Err(Unlisted::NoMemory);
-        };
-        number += 1;
-        at = end + 1;
     }
-    Ok(lines)
+    Ok(false)
 }
 
-/// Appends a line, but for an empty one.
-fn put_line(lines: &mut Entries, line: &[u8]) -> Result<(), NoMemory>
-    ensures { OnOk result (lines.new ≡ lines.old ++ filter has_some (line.now ∷ [])) }
+/// Looks whether an input of which as much was read as is kept has ended.
+fn end_or_past<I: Source>(
+    input: &mut I,
+    piece: &mut [u8],
+    gathered: Gathered,
+) -> Result<Entries, Unlisted>
+    requires going { (I.state input.old).ended ≡ false }
+    requires room { length piece.old ≡ PIECE }
+    requires few { gathered.listing.number < MOST }
+    ensures ok { (from : SourceState) → Gathers false gathered from (I.state input.old)
+        → IfOk result (λ lines. GivesLines lines from (I.state input.new)) }
+    ensures err { (from : SourceState) → Gathers false gathered from (I.state input.old)
+        → IfErr result (λ why. IsUnlisted why from (I.state input.new)) }
+    ensures reads { (I.state input.new).reads ≤ (I.state input.old).reads + 1 }
 {
-    if line.is_empty() {
-        return Ok(());
-    }
-    lines.push(line)
-}
-
-/// The place of the first LF from `from` on, or the end.
-fn lf_place(octets: &[u8], from: usize) -> usize
-    requires { from ≤ length octets.now }
-    ensures value { result ≡ from + lf_len (drop from octets.now) }
-    ensures place { (from ≤ result) × (result ≤ length octets.now) }
-{
-    match memchr(b'\n', &octets[from..]) {
-        Some(count) => from + count,
-        None => octets.len(),
-    }
-}
-
-fn without_cr(line: &[u8]) -> &[u8]
-    ensures { result.now ≡ without_cr line.now }
-{
-    let count = line.len();
-    if 0 < count && line[count - 1] == b'\r' {
-        &line[..count - 1]
-    } else {
-        line
+    match read_at(input, piece, PIECE - 1) {
+        Ok(0) => gathered.finish(),
+        Ok(_) => Err(Unlisted::Bad(gathered.listing.number)),
+        Err(why) => Err(Unlisted::of(why)),
     }
 }
 

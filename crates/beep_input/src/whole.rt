@@ -14,7 +14,7 @@ use std::alloc::Global;
 pub const MAX_INPUT: usize = 16777216;
 
 /// How many octets more there is room for when none is left: what a pipe gives at once.
-const PIECE: usize = 65536;
+pub(crate) const PIECE: usize = 65536;
 
 /// Why an input isn't kept.
 #[derive(Clone, Copy, Debug, PartialEq, Eq)]
@@ -91,7 +91,7 @@ fn make_room(octets: &mut Vec<u8>, count: usize) -> Result<(), NoMemory>
 }
 
 /// Reads into a buffer from a place on.
-fn read_at<I: Source>(input: &mut I, buf: &mut [u8], at: usize) -> Result<usize, Unread>
+pub(crate) fn read_at<I: Source>(input: &mut I, buf: &mut [u8], at: usize) -> Result<usize, Unread>
     requires going { (I.state input.old).ended ≡ false }
     requires within { at < length buf.old }
     ensures front { take at buf.new ≡ take at buf.old }

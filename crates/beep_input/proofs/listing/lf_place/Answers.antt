@@ -3,7 +3,7 @@ use Rattle.std.proofs.Common.{◌≡◌, ℕ, ◌-◌, ◌<◌, true, ◌==◌, 
 use Rattle.std.proofs.lemmas.List.{take_rest}
 use Rattle.memchr.specs.Find.{Passes, is_byte}
 use Rattle.beep_input.proofs.FoundLemmas.{none-found, lf-at, lf-none}
-use Rattle.beep_input.proofs.lines.lf_place.Goals as goal
+use Rattle.beep_input.proofs.listing.lf_place.Goals as goal
 
 hay-length : (octets : List ℕ) (from : ℕ) → length (take (length octets - from) (drop from octets)) ≡ length octets - from
 hay-length octets from = subst (λ (h : List ℕ). length h ≡ length octets - from) (sym (take_rest octets from)) (length-drop from octets)
