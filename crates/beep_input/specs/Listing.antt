@@ -14,10 +14,6 @@ use Rattle.beep_input.specs.declared.listing.Gathered.{Gathered}
 use Rattle.beep_input.specs.Lines.{first_long, line_after, lines_of, pieces_at_lf, without_cr}
 use Rattle.beep_input.specs.Walk.{lf_len}
 
--- the greatest number of a line that is counted
-abbrev pub MOST : ℕ
-MOST = 4294967296
-
 -- the number of a piece whose line is too long
 abbrev pub long_at : ℕ → List ℕ → Option ℕ
 long_at number piece = if nat_lt ENTRY_MAX (length (without_cr piece)) then Some number else None

@@ -1,8 +1,9 @@
 //! The lines of an input: what stands between its LFs.
 ghost use Rattle.std.specs.Prelude.{◌≡◌, ◌+◌, ◌≤◌, ◌<◌, false, ◌==◌, [], take, length, if◌then◌else◌, IfOk, IfErr};
+ghost use Rattle.beep_octets.specs.Numbers.{numbers_32};
 ghost use Rattle.beep_wires.specs.States.{SourceState};
 ghost use Rattle.beep_input.specs.Lines.{GivesLines, IsUnlisted, line_after};
-ghost use Rattle.beep_input.specs.Listing.{Gathers, Holds, MOST, unlisted_by};
+ghost use Rattle.beep_input.specs.Listing.{Gathers, Holds, unlisted_by};
 ghost use Rattle.beep_input.specs.declared.whole.TheConstants.{MAX_INPUT, PIECE};
 
 use crate::listing::Gathered;
@@ -94,7 +95,7 @@ fn end_or_past<I: Source>(
 ) -> Result<Entries, Unlisted>
     requires going { (I.state input.old).ended ≡ false }
     requires room { length piece.old ≡ PIECE }
-    requires few { gathered.listing.number < MOST }
+    requires few { gathered.listing.number < numbers_32 }
     ensures ok { (from : SourceState) → Gathers false gathered from (I.state input.old)
         → IfOk result (λ lines. GivesLines lines from (I.state input.new)) }
     ensures err { (from : SourceState) → Gathers false gathered from (I.state input.old)

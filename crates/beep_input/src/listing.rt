@@ -1,10 +1,11 @@
 //! The lines of an input, listed as its octets come.
 ghost use Rattle.std.specs.Prelude.{◌≡◌, ◌+◌, ◌≤◌, ◌<◌, ℕ, List, None, ◌∷◌, [], ◌++◌, ◌==◌, if◌then◌else◌, drop, take, length, IfOk, IfErr, OnOk};
+ghost use Rattle.beep_octets.specs.Numbers.{numbers_32};
 ghost use Rattle.std.specs.List.{filter};
 ghost use Rattle.std.specs.Option.{option_or};
 ghost use Rattle.prof_raw.specs.Entries.{has_some};
 ghost use Rattle.beep_input.specs.Lines.{first_long, lines_of, pieces_at_lf, without_cr};
-ghost use Rattle.beep_input.specs.Listing.{Holds, long_at, MOST};
+ghost use Rattle.beep_input.specs.Listing.{Holds, long_at};
 ghost use Rattle.beep_input.specs.Walk.{lf_len, Stops};
 
 use crate::lines::Unlisted;
@@ -50,7 +51,7 @@ impl Gathered {
 
     /// Lists the lines that these octets end, and keeps those after the last LF.
     pub(crate) fn feed(&mut self, octets: &[u8]) -> Result<(), NoMemory>
-        requires few { self.old.listing.number + length octets.now ≤ MOST }
+        requires few { self.old.listing.number + length octets.now ≤ numbers_32 }
         ensures held { (before : List ℕ) → Holds before self.old
             → OnOk result (Holds (before ++ octets.now) self.new) }
     {
@@ -68,7 +69,7 @@ impl Gathered {
 
     /// Lists the line that was begun and ends with these octets.
     fn end_line(&mut self, part: &[u8]) -> Result<(), NoMemory>
-        requires few { self.old.listing.number < MOST }
+        requires few { self.old.listing.number < numbers_32 }
         ensures held { (before : List ℕ) → Holds before self.old
             → lf_len part.now ≡ length part.now
             → OnOk result (Holds (before ++ (part.now ++ 10 ∷ [])) self.new) }
@@ -85,7 +86,7 @@ impl Gathered {
 
     /// The lines of an input of which nothing more comes: the last one may have no LF.
     pub(crate) fn finish(mut self) -> Result<Entries, Unlisted>
-        requires few { self.listing.number < MOST }
+        requires few { self.listing.number < numbers_32 }
         ensures ok { (octets : List ℕ) → Holds octets self → IfOk result (λ lines.
             (first_long 1 (pieces_at_lf octets) ≡ None) × (lines ≡ lines_of octets)) }
         ensures err { (octets : List ℕ) → Holds octets self
@@ -103,7 +104,7 @@ impl Gathered {
 
 /// Lists the line of a piece, where it and those before it aren't too long.
 fn put(listing: &mut Listing, piece: &[u8]) -> Result<(), NoMemory>
-    requires few { listing.old.number < MOST }
+    requires few { listing.old.number < numbers_32 }
     ensures counted { OnOk result (listing.new.number ≡ listing.old.number + 1) }
     ensures long { OnOk result (listing.new.long
         ≡ option_or listing.old.long (long_at listing.old.number piece.now)) }
