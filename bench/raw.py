@@ -6,10 +6,12 @@ usage: bench/raw.py [ROUNDS]
 In each of ROUNDS (5) rounds every run is made once, and beside it that of bench/raw.c, a sender and a collector in C that
 make the same frames in the same exchanges and check nothing. The table has the medians, from the start of the sender to
 the end of both processes: lines and MB a second, microseconds on the processor for a line at both ends together, and the
-ratios to the C pair, of the time and of the processor. What the collector writes is compared with what was sent. Then,
-where there is strace, the system calls of both ends for a line.
+ratios to the C pair, of the time and of the processor. Each end has a processor of its own, where there are two: else the
+scheduler has both on one now and then. What the collector writes is compared with what was sent. Then, where there is
+strace, the system calls of both ends for a line.
 """
 import filecmp
+import os
 import re
 import resource
 import shutil
@@ -39,6 +41,12 @@ def free_port():
         return str(link.getsockname()[1])
 
 
+def own_processor(end):
+    """What gives a process that begins the processor of this end, 0 or 1."""
+    processors = sorted(os.sched_getaffinity(0))
+    return lambda: os.sched_setaffinity(0, {processors[end % len(processors)]})
+
+
 def processor():
     used = resource.getrusage(resource.RUSAGE_CHILDREN)
     return used.ru_utime + used.ru_stime
@@ -58,11 +66,12 @@ def measure(words, lines, before=((), ())):
     got = lines.with_suffix(".got")
     with open(got, "wb") as output, open(lines, "rb") as source:
         used = processor()
-        collector = subprocess.Popen([*before[0], *words[0]], stdout=output)
+        collector = subprocess.Popen([*before[0], *words[0]], stdout=output, preexec_fn=own_processor(0))
         # Until it has its port a sender fails at once.
         time.sleep(0.5)
         start = time.perf_counter()
-        subprocess.run([*before[1], *words[1]], stdin=source, stdout=subprocess.DEVNULL, check=True)
+        subprocess.run([*before[1], *words[1]], stdin=source, stdout=subprocess.DEVNULL, check=True,
+                       preexec_fn=own_processor(1))
         if collector.wait() != 0:
             sys.exit("the collector fails")
         took = time.perf_counter() - start
