@@ -1,7 +1,9 @@
 //! One read or write of the system, which a signal may interrupt.
 ghost use Rattle.std.specs.Prelude.{◌<◌, ◌≤◌, length, IfOk};
 ghost use Rattle.std.specs.Io.{ReadsAtMost};
+ghost use Rattle.std.specs.Io.KnownBytes.{ReadConsumes, WriteAppends};
 ghost use Rattle.beep_wires.specs.Got.{GotWithin};
+ghost use Rattle.beep_std.specs.Octets.{GotConsumes};
 
 use beep_wires::{Failed, Got};
 use std::io::{ErrorKind, Read, Write};
@@ -13,7 +15,8 @@ pub const TRIES: u32 = 16;
 /// Reads once. An interrupted read is asked again, up to [`TRIES`] times in all, and then has
 /// failed.
 pub(crate) fn read_once<R: Read>(from: &mut R, buf: &mut [u8]) -> Result<usize, Failed>
-    ensures { ReadsAtMost result buf.new }
+    ensures within { ReadsAtMost result buf.new }
+    ensures octets { ReadConsumes (R.remaining from.old) (R.remaining from.new) result buf.new }
 {
     for _ in 0..TRIES {
         match from.read(buf) {
@@ -30,7 +33,8 @@ pub(crate) fn read_once<R: Read>(from: &mut R, buf: &mut [u8]) -> Result<usize, 
 
 /// Reads a link once, likewise. A read that had to wait too long was quiet.
 pub(crate) fn got_once<R: Read>(from: &mut R, buf: &mut [u8]) -> Result<Got, Failed>
-    ensures { GotWithin result buf.new }
+    ensures within { GotWithin result buf.new }
+    ensures octets { GotConsumes (R.remaining from.old) (R.remaining from.new) result buf.new }
 {
     for _ in 0..TRIES {
         match from.read(buf) {
@@ -48,7 +52,8 @@ pub(crate) fn got_once<R: Read>(from: &mut R, buf: &mut [u8]) -> Result<Got, Fai
 
 /// Writes once, likewise. Taking nothing is a failure.
 pub(crate) fn write_once<W: Write>(to: &mut W, bytes: &[u8]) -> Result<usize, Failed>
-    ensures { IfOk result (λ n. (0 < n) × (n ≤ length bytes.now)) }
+    ensures within { IfOk result (λ n. (0 < n) × (n ≤ length bytes.now)) }
+    ensures octets { WriteAppends (W.contents to.old) (W.contents to.new) result bytes.now }
 {
     for _ in 0..TRIES {
         match to.write(bytes) {

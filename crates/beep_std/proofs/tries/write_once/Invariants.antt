@@ -1,0 +1,6 @@
+-- The calls so far were interrupted, and wrote nothing.
+use Rattle.std.specs.Io.KnownBytes.{Keeps}
+use Rattle.beep_std.proofs.tries.write_once.Given as goal
+
+abbrev pub invariant-loop : goal.invariant-loop
+invariant-loop g l = Keeps (g.W.Write.contents l.initial.to) (g.W.Write.contents l.to)
