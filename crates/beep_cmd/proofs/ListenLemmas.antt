@@ -1,5 +1,5 @@
 -- What a run of `listen` wrote: session after session, and then its last line.
-use Rattle.std.proofs.Common.{◌≡◌, ◌⊎◌, inl, inr, ℕ, ◌+◌, ◌≤◌, Bool, true, false, if◌then◌else◌, List, [], ◌∷◌, Option, Some, refl, sym, ap, ◌∙◌, subst, arith}
+use Rattle.std.proofs.Common.{◌≡◌, ◌⊎◌, inl, inr, ℕ, ◌+◌, ◌≤◌, Bool, true, false, if◌then◌else◌, List, [], ◌∷◌, Option, Some, None, refl, sym, ap, ◌∙◌, subst, arith}
 use Rattle.std.specs.Io.KnownBytes.{Appends}
 use Rattle.std.proofs.KnownBytes.{Appends-nil, Appends-trans}
 use Rattle.beep_runs.specs.beep_wires.specs.Counts.{Rose}
@@ -9,7 +9,7 @@ use Rattle.beep_runs.specs.beep_wires.specs.States.{SinkState}
 use Rattle.beep_runs.specs.beep_journal.specs.declared.role.Role.{Role}
 use Rattle.beep_runs.specs.beep_settings.specs.declared.settings.Settings.{Settings}
 use Rattle.beep_runs.specs.beep_link.specs.declared.ended.Ended.{Ended}
-use Rattle.beep_runs.specs.beep_link.specs.Causes.{IsBounded, Seen, WhereKnown, WithText}
+use Rattle.beep_runs.specs.beep_link.specs.Causes.{Grows, IsBounded, Seen, WhereKnown, WithText}
 use Rattle.beep_runs.specs.beep_steps.specs.Refusing.{GoesUnrefused, ReadsOnlyGoing}
 use Rattle.beep_runs.specs.beep_steps.specs.EachEnd.{EachEndOn}
 use Rattle.beep_runs.specs.beep_steps.specs.Ends.{reads_of}
@@ -17,19 +17,9 @@ use Rattle.beep_runs.specs.beep_steps.specs.Resting.{TellsIdle}
 use Rattle.beep_runs.specs.beep_steps.specs.Logs.{moments, Shows, terms_by}
 use Rattle.beep_runs.specs.beep_listener.specs.Listening.{is_whole, listener_plan, AreLinesOf, HasLinesOf, KeepsWhere}
 use Rattle.beep_cmd.specs.Ends.{ended_line, ended_status, ends_run, HasCause, WritesLast, whole_line}
-use Rattle.beep_cmd.specs.Listening.{AreKnown, EndsBy, first_of, run_cause, Session, SessionsOver, text_of, WritesLines, WritesOf}
+use Rattle.beep_cmd.specs.Listening.{EndsBy, first_of, run_cause, Session, SessionsOver, text_of, WritesLines, WritesOf}
 use Rattle.beep_cmd.proofs.FlushedLemmas.{one-text}
 use Rattle.beep_cmd.specs.Serving.{GoesOn, WritesSession, WritesSessions}
-
--- ---- which logs are known
-
-pub known_before : (before mid after : Seen) → GoesOn mid after → AreKnown before after → AreKnown before mid
-known_before before mid after g known link least less =
-    let it = known link least (omega (arith, less, g.given)) in
-    (it.0, ap (λ (l : Link). l.log) (sym (g.same link less)) ∙ it.1)
-
-pub known_after : (before mid after : Seen) → before.counts.given ≤ mid.counts.given → AreKnown before after → AreKnown mid after
-known_after before mid after more known link least less = known link (omega (arith, more, least)) less
 
 -- ---- one session
 
@@ -66,10 +56,21 @@ module _ (settings : Settings) (cause : Ended) (before used after : Seen) (link 
           because = subst (λ (n : ℕ). HasCause settings cause (after.state n)) is (subst (HasCause settings cause) (sym shut) because);
         }
 
-    pub session_lines : AreKnown before after → WritesSession settings cause before after old new
-    session_lines known =
-        let it = known before.counts.given (omega arith) (omega (arith, one)) in
-        session_by it.0 (sym at_it ∙ it.1)
+    -- by its link alone: the output grew by some text
+    session_unknown : Grows old new → (used.state link).log ≡ None → WritesSession settings cause before after old new
+    session_unknown grew of = record {
+      text = grew.0;
+      lines = grew.1;
+      writes = subst (WhereKnown (WritesOf settings (record { cause = cause; text = grew.0 }))) (sym (at_it ∙ of)) tt;
+      because = subst (λ (n : ℕ). HasCause settings cause (after.state n)) is (subst (HasCause settings cause) (sym shut) because);
+    }
+
+    session_with : Grows old new → (log : Option (List Entry)) → (used.state link).log ≡ log → WritesSession settings cause before after old new
+    session_with grew None of = session_unknown grew of
+    session_with grew (Some log) of = session_by log of
+
+    pub session_lines : Grows old new → WritesSession settings cause before after old new
+    session_lines grew = session_with grew (used.state link).log refl
 
 -- ---- session after session
 

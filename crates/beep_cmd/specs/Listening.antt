@@ -2,7 +2,7 @@
 -- 3195, section 3).
 -- The code writes as it hears, and keeps no text; here each link's log is gone over when all are
 -- shut.
-use Rattle.std.specs.Prelude.{◌≡◌, ◌⊎◌, ℕ, ◌+◌, ◌≤◌, false, if◌then◌else◌, Some, List, [], ◌∷◌, ◌++◌}
+use Rattle.std.specs.Prelude.{◌≡◌, ◌⊎◌, ℕ, ◌+◌, ◌≤◌, false, if◌then◌else◌, List, [], ◌∷◌, ◌++◌}
 use Rattle.std.specs.Io.KnownBytes.{Appends}
 use Rattle.beep_runs.specs.beep_wires.specs.Counts.{Rose}
 use Rattle.beep_runs.specs.beep_wires.specs.Log.{Entry}
@@ -18,7 +18,7 @@ use Rattle.beep_runs.specs.beep_steps.specs.Ends.{reads_of}
 use Rattle.beep_runs.specs.beep_steps.specs.Logs.{moments, Shows, terms_by}
 use Rattle.beep_runs.specs.beep_steps.specs.Resting.{TellsIdle}
 use Rattle.beep_runs.specs.beep_listener.specs.Listening.{is_whole, listener_plan, AreLinesOf, HasLinesOf, KeepsWhere}
-use Rattle.beep_cmd.specs.Ends.{ended_line, ended_status, ends_run, EachOf, HasCause, WritesLast}
+use Rattle.beep_cmd.specs.Ends.{ended_line, ended_status, ends_run, HasCause, WritesLast}
 
 -- ---- what ends a run
 
@@ -47,11 +47,6 @@ run_cause (session ∷ earlier) =
     if ends_run session.cause then session.cause else first_of (run_cause earlier) session.cause
 
 -- ---- what is written
-
--- the log of each link that was given in the run is known
-abbrev pub AreKnown : Seen → Seen → Type 0
-AreKnown before after =
-    EachOf before after (λ link. (log : List Entry) × (link.log ≡ Some log))
 
 -- what was written of a session is the lines that its log shows, or a beginning of them where it
 -- ended out of memory, by a refusal or by a fault of the output, which has the lines of the log
@@ -94,8 +89,9 @@ EndsBy settings before after cause sessions = (cause ≡ run_cause sessions)
     × ((cause ≡ Ended.WireFault) × Rose before.counts.accepts after.counts.accepts
     ⊎ (cause ≡ Ended.NoMemory))
 
--- a run of so many sessions wrote the lines of each, one after another, and then the last line of
--- what ended it; or where a write of that failed, a beginning of it
+-- a run of so many sessions wrote what each of them did, one after another, of which the log of its
+-- link shows the lines where it is known, and then the last line of what ended the run; or where a
+-- write of that failed, a beginning of it
 pub record WritesLines (settings : Settings) (before after : Seen) (status : ℕ)
     (old new : SinkState) : Type 0 where
   pub sessions : List Session

@@ -6,7 +6,7 @@ ghost use Rattle.beep_runs.specs.beep_link.specs.Causes.{Grows, IsWritten};
 ghost use Rattle.beep_runs.specs.beep_wires.specs.States.{SourceState};
 ghost use Rattle.beep_runs.specs.Runs.{seen_by};
 ghost use Rattle.beep_cmd.specs.Ends.{AcceptsAtMost, AreShut, ends_run, GivesAtMost, ListenCause, Listened, ReadsWithin, WritesLawfully};
-ghost use Rattle.beep_cmd.specs.Listening.{AreKnown, EndsBy, first_of, WritesLines};
+ghost use Rattle.beep_cmd.specs.Listening.{EndsBy, first_of, WritesLines};
 ghost use Rattle.beep_cmd.specs.Serving.{NotAccepted, Served, WritesSession, WritesSessions};
 ghost use Rattle.beep_cmd.specs.Recording.{ListenRecorded};
 ghost use Rattle.beep_show.specs.Show.{run_of};
@@ -33,9 +33,8 @@ pub(crate) fn listen<O: Sink, W: Wires>(
         (source : SourceState) → Listened settings.now (seen wires.old) (seen wires.new) result
         (run_of source source (O.state output.old) (O.state output.new)) }
     ensures lines { let seen = seen_by W.state W.counts W.asked W.lent in
-        settings.now.recording ≡ false → AreKnown (seen wires.old) (seen wires.new) → WritesLines
-        settings.now (seen wires.old) (seen wires.new) result (O.state output.old)
-        (O.state output.new) }
+        settings.now.recording ≡ false → WritesLines settings.now (seen wires.old)
+        (seen wires.new) result (O.state output.old) (O.state output.new) }
     ensures lawful { let seen = seen_by W.state W.counts W.asked W.lent in
         WritesLawfully RoleValue.Listener settings.now (seen wires.old) (seen wires.new) }
     ensures shut { let seen = seen_by W.state W.counts W.asked W.lent in
@@ -72,9 +71,9 @@ fn listen_all<O: Sink, W: Wires>(
     ensures caused { let seen = seen_by W.state W.counts W.asked W.lent in
         ListenCause result settings.now (seen wires.old) (seen wires.new) }
     ensures lines { let seen = seen_by W.state W.counts W.asked W.lent in
-        AreKnown (seen wires.old) (seen wires.new) → WritesSessions settings.now (seen wires.old)
-        (seen wires.new) (EndsBy settings.now (seen wires.old) (seen wires.new) result)
-        (O.state output.old).written (O.state output.new).written }
+        WritesSessions settings.now (seen wires.old) (seen wires.new) (EndsBy settings.now
+        (seen wires.old) (seen wires.new) result) (O.state output.old).written
+        (O.state output.new).written }
     ensures lawful { let seen = seen_by W.state W.counts W.asked W.lent in
         WritesLawfully RoleValue.Listener settings.now (seen wires.old) (seen wires.new) }
     ensures shut { let seen = seen_by W.state W.counts W.asked W.lent in
@@ -117,9 +116,8 @@ fn listen_once<O: Sink, W: Wires>(
     ensures failed { let seen = seen_by W.state W.counts W.asked W.lent in
         IfErr result (λ ended. NotAccepted ended settings.now (seen wires.old) (seen wires.new)) }
     ensures lines { let seen = seen_by W.state W.counts W.asked W.lent in
-        IfOk result (λ ended. AreKnown (seen wires.old) (seen wires.new) → WritesSession
-        settings.now ended (seen wires.old) (seen wires.new) (O.state output.old).written
-        (O.state output.new).written) }
+        IfOk result (λ ended. WritesSession settings.now ended (seen wires.old) (seen wires.new)
+        (O.state output.old).written (O.state output.new).written) }
     ensures same_output { IfErr result (λ ended. output.new ≡ output.old) }
     ensures lawful { let seen = seen_by W.state W.counts W.asked W.lent in
         WritesLawfully RoleValue.Listener settings.now (seen wires.old) (seen wires.new) }

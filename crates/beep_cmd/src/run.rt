@@ -12,7 +12,7 @@ ghost use Rattle.beep_show.specs.Show.{Shown, Refused, IsPlain, NoFault, run_of}
 ghost use Rattle.beep_cmd.specs.Replay.{Replayed, IsLawful};
 ghost use Rattle.beep_cmd.specs.Pair.{Paired, IsRunnable};
 ghost use Rattle.beep_cmd.specs.Ends.{AcceptsAtMost, AreShut, DialsOnce, GivesAtMost, Listened, ReadsWithin, Sent, WritesLawfully};
-ghost use Rattle.beep_cmd.specs.Listening.{AreKnown, WritesLines};
+ghost use Rattle.beep_cmd.specs.Listening.{WritesLines};
 ghost use Rattle.beep_cmd.specs.Recording.{ListenRecorded};
 
 use crate::listen::listen;
@@ -69,9 +69,8 @@ pub fn beep_run<I: Source, O: Sink, W: Wires>(
         result (O.state output.old) (O.state output.new) }
     ensures listen_lines { let seen = seen_by W.state W.counts W.asked W.lent in
         (settings : end_settings) → IsListen settings (map string_bytes words.now)
-        → settings.recording ≡ false → AreKnown (seen wires.old) (seen wires.new) → WritesLines
-        settings (seen wires.old) (seen wires.new) result (O.state output.old)
-        (O.state output.new) }
+        → settings.recording ≡ false → WritesLines settings (seen wires.old) (seen wires.new)
+        result (O.state output.old) (O.state output.new) }
     ensures paired { (settings : pair_settings) → IsPair settings (map string_bytes words.now)
         → Paired settings result (run_of (I.state input.old) (I.state input.new)
         (O.state output.old) (O.state output.new)) }

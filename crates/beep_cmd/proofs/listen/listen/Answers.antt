@@ -20,16 +20,16 @@ returns-then-settings-clause-listened g c = λ source.
     listened_recorded c.args.settings.now _ _ c.record_listen.result source (O.state c.args.output.now) (O.state c.record_listen.new.output) c.if-settings.true c.record_listen.ensures.recorded
 
 pub returns-clause-lines : goal.returns-clause-lines
-returns-clause-lines g c = λ recording known.
+returns-clause-lines g c = λ recording.
     let W = g.W.Wires in
     let O = g.O.Sink in
-    last_line c.args.settings.now _ _ c.listen_all-ended.result c.finish.result (O.state c.args.output.now) (O.state c.listen_all-ended.new.output) (O.state c.finish.new.output) c.listen_all-ended.ensures.kept (c.listen_all-ended.ensures.lines known) c.finish.ensures.written
+    last_line c.args.settings.now _ _ c.listen_all-ended.result c.finish.result (O.state c.args.output.now) (O.state c.listen_all-ended.new.output) (O.state c.finish.new.output) c.listen_all-ended.ensures.kept c.listen_all-ended.ensures.lines c.finish.ensures.written
 
 pub returns-then-settings-clause-lines : goal.returns-then-settings-clause-lines
-returns-then-settings-clause-lines g c = λ recording known. absurd (let h : true ≡ false = sym c.if-settings.true ∙ recording in cc)
+returns-then-settings-clause-lines g c = λ recording. absurd (let h : true ≡ false = sym c.if-settings.true ∙ recording in cc)
 
 pub returns-in_default-clause-lines : goal.returns-in_default-clause-lines
-returns-in_default-clause-lines g c = λ recording known. none_written c.args.settings.now _ (g.O.Sink.state c.args.output.now)
+returns-in_default-clause-lines g c = λ recording. none_written c.args.settings.now _ (g.O.Sink.state c.args.output.now)
 
 pub returns-in_default-clause-recorded : goal.returns-in_default-clause-recorded
 returns-in_default-clause-recorded g c =

@@ -6,7 +6,7 @@ use Rattle.beep_runs.specs.beep_journal.specs.declared.role.Role.{Role}
 use Rattle.beep_runs.specs.beep_steps.specs.Logs.{IsLawfulOn, terms_by}
 use Rattle.beep_cmd.specs.Ends.{ends_run, IsAcceptOf, most_reads, SessionCause, seen_of}
 use Rattle.beep_cmd.proofs.EndsLemmas.{rose_later}
-use Rattle.beep_cmd.proofs.ListenLemmas.{all_lines, lines_ended, lines_further, lines_unlinked, known_after, known_before}
+use Rattle.beep_cmd.proofs.ListenLemmas.{all_lines, lines_ended, lines_further, lines_unlinked}
 use Rattle.beep_cmd.proofs.ServingLemmas.{asks_fewer, asks_then, gave_more, gave_only, each_joined, joined_cause, first_goes, goes_further}
 use Rattle.beep_cmd.proofs.listen.listen_all.Goals as goal
 
@@ -32,7 +32,7 @@ pub returns-in-Err-clause-grew : goal.returns-in-Err-clause-grew
 returns-in-Err-clause-grew g c = grown-more _ (g.O.Sink.state c.loop.output).written _ c.loop.invariant.grew c.in-Err.ensures.grew
 
 pub returns-then-ends_run-clause-lines : goal.returns-then-ends_run-clause-lines
-returns-then-ends_run-clause-lines g c = λ known.
+returns-then-ends_run-clause-lines g c =
     let W = g.W.Wires in
     let O = g.O.Sink in
     let settings = c.args.settings.now in
@@ -42,10 +42,10 @@ returns-then-ends_run-clause-lines g c = λ known.
     let i = c.loop.invariant in
     let s = c.in-Ok.ensures.served in
     lines_ended settings before mid after c.loop.first c.in-Ok.ended (O.state c.args.output.now).written (O.state c.loop.output).written (O.state c.listen_once.new.output).written i.goes s.goes_on
-    (i.lines (known_before before mid after s.goes_on known)) s.one (c.in-Ok.ensures.lines (known_after before mid after i.goes_on.given known)) (sym c.ends_run.ensures ∙ c.if-ends_run.true)
+    i.lines s.one c.in-Ok.ensures.lines (sym c.ends_run.ensures ∙ c.if-ends_run.true)
 
 pub returns-in-Err-clause-lines : goal.returns-in-Err-clause-lines
-returns-in-Err-clause-lines g c = λ known.
+returns-in-Err-clause-lines g c =
     let W = g.W.Wires in
     let O = g.O.Sink in
     let settings = c.args.settings.now in
@@ -55,17 +55,17 @@ returns-in-Err-clause-lines g c = λ known.
     let i = c.loop.invariant in
     let n = c.in-Err.ensures.failed in
     lines_unlinked settings before mid after c.loop.first c.in-Err.ended (O.state c.args.output.now).written (O.state c.loop.output).written (O.state c.listen_once.new.output).written i.goes n.goes_on
-    (i.lines (known_before before mid after n.goes_on known)) n.none (ap (λ o. (O.state o).written) c.in-Err.ensures.same_output) c.in-Err.ended
+    i.lines n.none (ap (λ o. (O.state o).written) c.in-Err.ensures.same_output) c.in-Err.ended
     (elim n.failed [ inl wire ↦ inl (wire.0, rose_later before.counts.accepts mid.counts.accepts after.counts.accepts i.goes_on.accepts wire.1) | inr short ↦ inr short ])
 
 pub returns-clause-lines : goal.returns-clause-lines
-returns-clause-lines g c = λ known.
+returns-clause-lines g c =
     let W = g.W.Wires in
     let O = g.O.Sink in
     let settings = c.args.settings.now in
     let before : Seen = seen_of (W.state c.args.wires.now) (W.counts c.args.wires.now) (W.asked c.args.wires.now) (W.lent c.args.wires.now) in
     let mid : Seen = seen_of (W.state c.loop.wires) (W.counts c.loop.wires) (W.asked c.loop.wires) (W.lent c.loop.wires) in
-    all_lines settings before mid c.loop.first (O.state c.args.output.now).written (O.state c.loop.output).written (omega (arith, c.loop.invariant.given, c.loop-test.false)) (c.loop.invariant.lines known)
+    all_lines settings before mid c.loop.first (O.state c.args.output.now).written (O.state c.loop.output).written (omega (arith, c.loop.invariant.given, c.loop-test.false)) c.loop.invariant.lines
 
 pub loop-preserved : goal.loop-preserved
 loop-preserved g c =
@@ -86,8 +86,8 @@ loop-preserved g c =
       shut = each_joined before mid after i.goes_on s.goes_on (λ link. link.is_open ≡ false) i.shut c.in-Ok.ensures.shut;
       reads = each_joined before mid after i.goes_on s.goes_on (λ link. link.reads ≤ most_reads settings) i.reads c.in-Ok.ensures.link_reads;
       goes = ap ends_run c.first_of-first.ensures ∙ first_goes c.loop.first c.in-Ok.ended i.goes goes;
-      lines = λ known. lines_further settings before mid after c.loop.first c.in-Ok.ended (g.O.Sink.state c.args.output.now).written (g.O.Sink.state c.loop.output).written (g.O.Sink.state c.listen_once.new.output).written i.goes s.goes_on
-          (i.lines (known_before before mid after s.goes_on known)) s.one (c.in-Ok.ensures.lines (known_after before mid after i.goes_on.given known)) c.first_of-first.result c.first_of-first.ensures goes;
+      lines = lines_further settings before mid after c.loop.first c.in-Ok.ended (g.O.Sink.state c.args.output.now).written (g.O.Sink.state c.loop.output).written (g.O.Sink.state c.listen_once.new.output).written i.goes s.goes_on
+          i.lines s.one c.in-Ok.ensures.lines c.first_of-first.result c.first_of-first.ensures goes;
       asks = gave_more (IsAcceptOf settings) c.loop.counter 1 before.asked mid.asked after.asked i.asks s.asks;
       grew = grown-more _ (g.O.Sink.state c.loop.output).written _ i.grew c.in-Ok.ensures.grew;
       kept = omega (arith, i.kept, c.in-Ok.ensures.kept);

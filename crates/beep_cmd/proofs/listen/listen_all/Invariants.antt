@@ -4,7 +4,7 @@ use Rattle.std.proofs.Common.{◌≡◌, ◌+◌, ◌≤◌, false, List}
 use Rattle.beep_cmd.specs.Ends.{AreShut, ends_run, IsAcceptOf, ReadsWithin, SessionCause, seen_of, WritesLawfully}
 use Rattle.beep_runs.specs.beep_link.specs.Causes.{Grows}
 use Rattle.beep_runs.specs.beep_journal.specs.declared.role.Role.{Role}
-use Rattle.beep_cmd.specs.Listening.{AreKnown, run_cause, Session}
+use Rattle.beep_cmd.specs.Listening.{run_cause, Session}
 use Rattle.beep_cmd.specs.Serving.{AsksGave, GoesOn, WritesSessions}
 use Rattle.beep_cmd.proofs.listen.listen_all.Given as goal
 
@@ -21,7 +21,7 @@ invariant-loop g l =
       shut : AreShut before now;
       reads : ReadsWithin l.settings before now;
       goes : ends_run l.first ≡ false;
-      lines : AreKnown before now → WritesSessions l.settings before now (λ (sessions : List Session). l.first ≡ run_cause sessions) (g.O.Sink.state l.fn.output).written (g.O.Sink.state l.output).written;
+      lines : WritesSessions l.settings before now (λ (sessions : List Session). l.first ≡ run_cause sessions) (g.O.Sink.state l.fn.output).written (g.O.Sink.state l.output).written;
       asks : AsksGave (IsAcceptOf l.settings) l.counter before.asked now.asked;
       grew : Grows (g.O.Sink.state l.fn.output).written (g.O.Sink.state l.output).written;
       kept : (g.O.Sink.state l.fn.output).faults ≤ (g.O.Sink.state l.output).faults;
