@@ -1,6 +1,6 @@
 -- The link is open, and hasn't ended.
 use Rattle.std.proofs.Common.{◌≡◌, true, false}
-use Rattle.beep_recorder.proofs.recorder.tests.hear.Given as goal
+use Rattle.wire_cases.proofs.links.hear_link.Given as goal
 
 abbrev pub invariant-loop : goal.invariant-loop
 invariant-loop g l = record {
