@@ -4,7 +4,7 @@ use denote.Struct.Props.{props}
 use Rattle.beep_frame.specs.declared.kind.Kind.{Kind}
 use Rattle.beep_frame.specs.Frame.{same_kind}
 use Rattle.beep_hearing.proofs.StillLemmas.{still-reached}
-use Rattle.hearing_tests.proofs.ear.pass.Goals as goal
+use Rattle.lives_cases.proofs.ear.pass.Goals as goal
 
 no-rpy : (kind : Kind) → (kind ≡ Kind.Msg) ⊎ (kind ≡ Kind.Err) → same_kind Kind.Rpy kind ≡ false
 no-rpy kind (inl e) = ap (same_kind Kind.Rpy) e
