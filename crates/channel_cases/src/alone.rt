@@ -17,10 +17,10 @@ pub(crate) fn new_channel(alloc: Global) -> Result<Channel, NoMemory>
 
 /// The size of a first request: the rule that its header breaks.
 pub(crate) fn judge(alloc: Global, fields: &mut Fields<'_>, out: &mut Octets) -> Result<(), Bad> {
-    let channel = new_channel(alloc)?;
     let Some(head) = Head::new(Kind::Msg, 1, 0, false, 0, fields.number()?, 0) else {
         return Err(Bad::Field);
     };
+    let channel = new_channel(alloc)?;
     put_word(name_of(channel.judge(&head)), out)?;
     Ok(())
 }
@@ -35,12 +35,12 @@ fn name_of(rule: Option<Rule>) -> &'static str {
 
 /// The ackno of a SEQ in a life in which nothing was sent: whether it is obeyed.
 pub(crate) fn acked(alloc: Global, fields: &mut Fields<'_>, out: &mut Octets) -> Result<(), Bad> {
-    let mut channel = new_channel(alloc)?;
     let seq = Seq {
         channel: 1,
         ackno: fields.number()?,
         window: 4096,
     };
+    let mut channel = new_channel(alloc)?;
     match channel.acked(&seq) {
         Ok(()) => put_word("ok", out)?,
         Err(_) => put_word("bad", out)?,
@@ -51,10 +51,22 @@ pub(crate) fn acked(alloc: Global, fields: &mut Fields<'_>, out: &mut Octets) ->
 /// The octets of a first request, and those of a second: the positions of both, or why they are
 /// refused, the first frame, and whether another one is ready then.
 pub(crate) fn fill(alloc: Global, fields: &mut Fields<'_>, out: &mut Octets) -> Result<(), Bad> {
+    let first = fields.number()?;
+    let second = fields.number()?;
     let mut channel = new_channel(alloc)?;
-    ask(alloc, &mut channel, fields.number()?, out)?;
-    ask(alloc, &mut channel, fields.number()?, out)?;
-    cut(alloc, &mut channel, out)?;
+    fill_channel(alloc, &mut channel, first, second, out)
+}
+
+fn fill_channel(
+    alloc: Global,
+    channel: &mut Channel,
+    first: u32,
+    second: u32,
+    out: &mut Octets,
+) -> Result<(), Bad> {
+    ask(alloc, channel, first, out)?;
+    ask(alloc, channel, second, out)?;
+    cut(alloc, channel, out)?;
     put_yes(channel.is_ready(), out)?;
     Ok(())
 }

@@ -5,43 +5,55 @@ use crate::give::give_all;
 use beep_channel::Channel;
 use beep_frame::Head;
 use beep_inbox::Part;
-use beep_octets::{NoMemory, Octets};
+use beep_octets::Octets;
 use case_lines::{Bad, Fields, begin, put_number, put_word, put_yes};
 use std::alloc::Global;
-
-/// The two ends.
-#[derive(Drop)]
-struct Ends {
-    a: Channel,
-    b: Channel,
-}
-
-fn new_ends(alloc: Global) -> Result<Ends, NoMemory> {
-    Ok(Ends {
-        a: new_channel(alloc)?,
-        b: new_channel(alloc)?,
-    })
-}
 
 /// The most octets of a frame, and four turns: what the other end takes in each, and whether both
 /// ends are drained at last.
 pub(crate) fn play(alloc: Global, fields: &mut Fields<'_>, out: &mut Octets) -> Result<(), Bad> {
     let most = fields.number()?;
-    let mut ends = new_ends(alloc)?;
+    let mut a = new_channel(alloc)?;
+    play_with(&mut a, most, fields, out)
+}
+
+fn play_with(
+    a: &mut Channel,
+    most: u32,
+    fields: &mut Fields<'_>,
+    out: &mut Octets,
+) -> Result<(), Bad> {
+    let mut b = new_channel(out.alloc())?;
+    turns(a, &mut b, most, fields, out)
+}
+
+fn turns(
+    a: &mut Channel,
+    b: &mut Channel,
+    most: u32,
+    fields: &mut Fields<'_>,
+    out: &mut Octets,
+) -> Result<(), Bad> {
     for _turn in 0..4 {
-        turn(&mut ends, fields.next()?, most, out)?;
+        turn(a, b, fields.next()?, most, out)?;
     }
-    put_yes(ends.a.is_drained() && ends.b.is_drained(), out)?;
+    put_yes(a.is_drained() && b.is_drained(), out)?;
     Ok(())
 }
 
 /// `a`, or `b`, and the messages that it gives before the first frame goes.
-fn turn(ends: &mut Ends, text: &str, most: u32, out: &mut Octets) -> Result<(), Bad> {
+fn turn(
+    a: &mut Channel,
+    b: &mut Channel,
+    text: &str,
+    most: u32,
+    out: &mut Octets,
+) -> Result<(), Bad> {
     if let Some(messages) = text.strip_prefix("a ") {
-        return pass(&mut ends.a, &mut ends.b, messages, most, out);
+        return pass(a, b, messages, most, out);
     }
     if let Some(messages) = text.strip_prefix("b ") {
-        return pass(&mut ends.b, &mut ends.a, messages, most, out);
+        return pass(b, a, messages, most, out);
     }
     Err(Bad::Field)
 }

@@ -15,12 +15,22 @@ use std::alloc::Global;
 /// whether the session is released.
 pub(crate) fn judge(alloc: Global, fields: &mut Fields<'_>, out: &mut Octets) -> Result<(), Bad> {
     fields.next()?;
+    let past = fields.next()?;
     let mut story = Story::new(alloc, false);
-    story.play(fields.next()?)?;
+    story.play(past)?;
     story.items.reverse();
+    put_judged(alloc, story.items.as_slice(), out)
+}
+
+/// Writes what a judge finds in a journal, the earliest item first.
+fn put_judged(alloc: Global, items: &[JournalItem], out: &mut Octets) -> Result<(), Bad> {
     let mut judge = Judge::new(alloc)?;
-    for item in story.items.as_slice() {
-        if let Some(rule) = judged(&mut judge, item)? {
+    put_found(&mut judge, items, out)
+}
+
+fn put_found(judge: &mut Judge, items: &[JournalItem], out: &mut Octets) -> Result<(), Bad> {
+    for item in items {
+        if let Some(rule) = judged(judge, item)? {
             return put_rule(rule, out);
         }
     }

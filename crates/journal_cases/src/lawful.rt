@@ -14,9 +14,10 @@ use std::alloc::Global;
 pub(crate) fn lawful(alloc: Global, fields: &mut Fields<'_>, out: &mut Octets) -> Result<(), Bad> {
     let terms = terms_of(fields.next()?)?;
     let tuning = fields.next()?;
-    let mut story = Story::new(alloc, false);
-    story.play(fields.next()?)?;
+    let past = fields.next()?;
     let next = fields.next()?;
+    let mut story = Story::new(alloc, false);
+    story.play(past)?;
     match tuning {
         "own" => put_breach(&mut story, &terms, &[StartPlace(Side::Sent, 1)], next, out),
         "peer" => put_breach(

@@ -1,6 +1,6 @@
 //! Rules on how much there may be, after sessions that a loop makes.
 
-use crate::rules::{Broken, put_apart, put_broken, verdict};
+use crate::rules::{Broken, put_apart, put_broken, verdict_after};
 use crate::story::Story;
 use beep_octets::Octets;
 use case_lines::{Bad, Fields};
@@ -28,11 +28,14 @@ fn after(
     next: &str,
 ) -> Result<Broken, Bad> {
     let mut story = Story::new(alloc, exchanged);
+    begin(&mut story, counts.0, counts.1)?;
+    verdict_after(&mut story, &[], past, next)
+}
+
+fn begin(story: &mut Story, requests: u32, answers: u32) -> Result<(), Bad> {
     story.play("started")?;
-    ask(&mut story, counts.0, 1)?;
-    answer(&mut story, counts.1)?;
-    story.play(past)?;
-    verdict(&mut story, &[], next)
+    ask(story, requests, 1)?;
+    answer(story, answers)
 }
 
 /// So many requests of this size pass, of numbers from 0.
@@ -75,10 +78,15 @@ fn after_16(
     next: &str,
 ) -> Result<Broken, Bad> {
     let mut story = Story::new(alloc, exchanged);
+    pass_16(&mut story, seq, frame)?;
+    verdict_after(&mut story, &[], "-", next)
+}
+
+fn pass_16(story: &mut Story, seq: &str, frame: &str) -> Result<(), Bad> {
     story.play("started")?;
     story.step(seq)?;
     for _ in 0..16 {
         story.step(frame)?;
     }
-    verdict(&mut story, &[], next)
+    Ok(())
 }

@@ -4,8 +4,8 @@ use crate::limits::{answer, ask};
 use crate::rules::{put_apart, put_rule};
 use crate::story::{Frame, Story};
 use crate::text::{first_word, side_of};
-use beep_frame::Rule;
-use beep_history::{broken_rule, broken_within};
+use beep_frame::{Head, Rule};
+use beep_history::{Side, broken_rule, broken_within};
 use beep_octets::Octets;
 use case_lines::{Bad, Fields, put_word};
 use std::alloc::Global;
@@ -75,11 +75,21 @@ fn after(
     let mut story = Story::bare(alloc, exchanged);
     ask(&mut story, counts.0, 0)?;
     answer(&mut story, counts.1)?;
+    broken_after(&mut story, past, next)
+}
+
+fn broken_after(story: &mut Story, past: &str, next: &str) -> Result<Option<Rule>, Bad> {
     story.play(past)?;
-    let (word, rest) = first_word(next);
+    let (side, head) = header(story, next)?;
+    Ok(broken_rule(side, story.items.as_slice(), &head))
+}
+
+/// The side and the header of a text.
+fn header(story: &Story, text: &str) -> Result<(Side, Head), Bad> {
+    let (word, rest) = first_word(text);
     let side = side_of(word)?;
     let Frame { head, .. } = story.frame(side, rest)?;
-    Ok(broken_rule(story.side(side), story.items.as_slice(), &head))
+    Ok((story.side(side), head))
 }
 
 fn after_in_wide(
@@ -89,9 +99,11 @@ fn after_in_wide(
     next: &str,
 ) -> Result<Option<Rule>, Bad> {
     let mut story = Story::bare(alloc, exchanged);
+    broken_in_wide(&mut story, past, next)
+}
+
+fn broken_in_wide(story: &mut Story, past: &str, next: &str) -> Result<Option<Rule>, Bad> {
     story.play(past)?;
-    let (word, rest) = first_word(next);
-    let side = side_of(word)?;
-    let Frame { head, .. } = story.frame(side, rest)?;
-    Ok(broken_within(8589934592, story.side(side), story.items.as_slice(), &head))
+    let (side, head) = header(story, next)?;
+    Ok(broken_within(8589934592, side, story.items.as_slice(), &head))
 }

@@ -39,10 +39,20 @@ fn after(
     next: &str,
 ) -> Result<Broken, Bad> {
     let mut story = Story::new(alloc, exchanged);
-    story.play(past)?;
     let tuning = [StartPlace(story.side(Side::Received), 1)];
     let count = if tunes { 1 } else { 0 };
-    verdict(&mut story, &tuning[..count], next)
+    verdict_after(&mut story, &tuning[..count], past, next)
+}
+
+/// The rule that is broken after what has happened in a story and this.
+pub(crate) fn verdict_after(
+    story: &mut Story,
+    tuning: &[StartPlace],
+    past: &str,
+    next: &str,
+) -> Result<Broken, Bad> {
+    story.play(past)?;
+    verdict(story, tuning, next)
 }
 
 pub(crate) fn put_broken(broken: Broken, out: &mut Octets) -> Result<(), Bad> {
@@ -72,7 +82,7 @@ pub(crate) fn put_apart(out: &mut Octets, other: &[u8]) -> Result<(), Bad> {
 }
 
 /// The rule that a text breaks, and the number of the octet at which it does.
-pub(crate) fn verdict(story: &mut Story, tuning: &[StartPlace], text: &str) -> Result<Broken, Bad> {
+fn verdict(story: &mut Story, tuning: &[StartPlace], text: &str) -> Result<Broken, Bad> {
     let (word, rest) = first_word(text);
     let side = side_of(word)?;
     if let Some(seq) = rest.strip_prefix("SEQ ") {
@@ -139,6 +149,10 @@ pub(crate) fn released(
 
 fn is_over(alloc: Global, exchanged: bool, past: &str) -> Result<bool, Bad> {
     let mut story = Story::new(alloc, exchanged);
+    is_over_after(&mut story, past)
+}
+
+fn is_over_after(story: &mut Story, past: &str) -> Result<bool, Bad> {
     story.play(past)?;
-    Ok(is_released(alloc, story.items.as_slice())?)
+    Ok(is_released(story.alloc(), story.items.as_slice())?)
 }

@@ -11,11 +11,16 @@ use std::alloc::Global;
 
 /// What is done with channel zero and the channels 3 and 1, whose windows have 4,096 octets.
 pub(crate) fn lives(alloc: Global, fields: &mut Fields<'_>, out: &mut Octets) -> Result<(), Bad> {
+    let steps = fields.next()?;
     let mut lives = Lives::new(alloc, 4096)?;
-    add(alloc, &mut lives, 3)?;
-    add(alloc, &mut lives, 1)?;
-    for step in fields.next()?.split(' ') {
-        step_of(&mut lives, step, out)?;
+    with_three(alloc, &mut lives, steps, out)
+}
+
+fn with_three(alloc: Global, lives: &mut Lives, steps: &str, out: &mut Octets) -> Result<(), Bad> {
+    add(alloc, lives, 3)?;
+    add(alloc, lives, 1)?;
+    for step in steps.split(' ') {
+        step_of(lives, step, out)?;
     }
     Ok(())
 }

@@ -11,15 +11,11 @@ use std::alloc::Global;
 /// A payload: how many octets the message has that is written of what it says, and these.
 pub(crate) fn whole(alloc: Global, fields: &mut Fields<'_>, out: &mut Octets) -> Result<(), Bad> {
     let payload = octets_of(alloc, fields.next()?)?;
-    match read_mgmt(alloc, payload.as_slice()) {
-        Ok(m) => put_whole(alloc, &m, out),
-        Err(error) => put_error(error, out),
-    }
-}
-
-fn put_whole(alloc: Global, m: &Mgmt, out: &mut Octets) -> Result<(), Bad> {
     let mut message = Octets::new(alloc);
-    write_mgmt(m, &mut message)?;
+    match read_mgmt(alloc, payload.as_slice()) {
+        Ok(m) => write_mgmt(&m, &mut message)?,
+        Err(error) => return put_error(error, out),
+    }
     put_number(message.len() as u64, out)?;
     begin(out)?;
     out.extend(message.as_slice())?;

@@ -59,7 +59,7 @@ fn give(outbox: &mut Outbox, message: &[u8], out: &mut Octets) -> Result<(), Bad
     let [digit, octets @ ..] = message else {
         return Err(Bad::Field);
     };
-    if MAX_UNLIMITED < octets.len() as u32 {
+    if (MAX_UNLIMITED as usize) < octets.len() {
         return Err(Bad::Field);
     }
     match outbox.give(request(*digit), octets) {

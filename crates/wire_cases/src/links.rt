@@ -41,8 +41,10 @@ fn push(alloc: Global, gives: &mut Gives, piece: &str) -> Result<(), Bad> {
 /// The calls that fail (an accept is call 0), and the pieces of a link: what its reads give, and at
 /// last `.` for its end.
 pub(crate) fn hear(alloc: Global, fields: &mut Fields<'_>, out: &mut Octets) -> Result<(), Bad> {
-    let mut wires = MemWires::new(alloc, fails_of(alloc, fields.next()?)?);
-    add(alloc, &mut wires, fields.next()?, 0)?;
+    let fails = fails_of(alloc, fields.next()?)?;
+    let pieces = fields.next()?;
+    let mut wires = MemWires::new(alloc, fails);
+    add(alloc, &mut wires, pieces, 0)?;
     match wires.accept(601) {
         Ok(link) => hear_link(&mut wires, link, out),
         Err(_) => Err(Bad::Field),
@@ -92,12 +94,24 @@ fn put(octets: &[u8], out: &mut Octets) -> Result<(), Bad> {
 /// whether `greetings` is written whole on the link, which is then shut; at last what was written
 /// on each of three links.
 pub(crate) fn links(alloc: Global, fields: &mut Fields<'_>, out: &mut Octets) -> Result<(), Bad> {
-    let mut wires = MemWires::new(alloc, fails_of(alloc, fields.next()?)?);
-    for room in fields.next()?.split(' ') {
-        add(alloc, &mut wires, "greet", number_of(room)? as usize)?;
+    let fails = fails_of(alloc, fields.next()?)?;
+    let rooms = fields.next()?;
+    let calls = fields.next()?;
+    let mut wires = MemWires::new(alloc, fails);
+    add_all(alloc, &mut wires, rooms)?;
+    put_links(&mut wires, calls, out)
+}
+
+fn add_all(alloc: Global, wires: &mut MemWires, rooms: &str) -> Result<(), Bad> {
+    for room in rooms.split(' ') {
+        add(alloc, wires, "greet", number_of(room)? as usize)?;
     }
-    for call in fields.next()?.split(' ') {
-        ask(&mut wires, call, out)?;
+    Ok(())
+}
+
+fn put_links(wires: &mut MemWires, calls: &str, out: &mut Octets) -> Result<(), Bad> {
+    for call in calls.split(' ') {
+        ask(wires, call, out)?;
     }
     for link in 0..3u32 {
         put(wires.written(link), out)?;

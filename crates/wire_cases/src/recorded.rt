@@ -11,9 +11,11 @@ use std::alloc::Global;
 
 /// The pieces of two links that are used one after the other: the record that is kept.
 pub(crate) fn record(alloc: Global, fields: &mut Fields<'_>, out: &mut Octets) -> Result<(), Bad> {
+    let first = fields.next()?;
+    let other = fields.next()?;
     let mut wires = MemWires::new(alloc, Fails::new(alloc));
-    add(alloc, &mut wires, fields.next()?, 2)?;
-    add(alloc, &mut wires, fields.next()?, 2)?;
+    add(alloc, &mut wires, first, 2)?;
+    add(alloc, &mut wires, other, 2)?;
     put_record(alloc, &mut wires, out)
 }
 

@@ -12,15 +12,26 @@ use std::alloc::Global;
 /// The room of a link, whether the end is over from the start, how many octets and quiet reads
 /// there may be, and what the peer says: how the session ends, and what the end says.
 pub(crate) fn turns(alloc: Global, fields: &mut Fields<'_>, out: &mut Octets) -> Result<(), Bad> {
-    let mut wires = MemWires::new(alloc, Fails::new(alloc));
     let room = fields.number()? as usize;
     let is_over = fields.next()? == "over";
     let reads = Reads {
         octets: fields.number()?,
         idle: fields.number()?,
     };
-    add(alloc, &mut wires, fields.next()?, room)?;
-    put_ended(run(alloc, &mut wires, is_over, reads)?, out)?;
+    let said = fields.next()?;
+    let mut wires = MemWires::new(alloc, Fails::new(alloc));
+    add(alloc, &mut wires, said, room)?;
+    put_run(alloc, &mut wires, is_over, reads, out)
+}
+
+fn put_run(
+    alloc: Global,
+    wires: &mut MemWires,
+    is_over: bool,
+    reads: Reads,
+    out: &mut Octets,
+) -> Result<(), Bad> {
+    put_ended(run(alloc, wires, is_over, reads)?, out)?;
     begin(out)?;
     out.extend(wires.written(0))?;
     Ok(())

@@ -1,7 +1,7 @@
 //! What a request of channel zero is answered.
 
 use crate::standing::standing_of;
-use beep_decide::{Answer, decide};
+use beep_decide::{Answer, Standing, decide};
 use beep_mgmt::{Mgmt, read_mgmt};
 use beep_octets::{NoMemory, Octets};
 use case_lines::{Bad, Fields, octets_of, put_number, put_word};
@@ -11,9 +11,19 @@ use std::alloc::Global;
 /// tuning, `urn:t`.
 pub(crate) fn decided(alloc: Global, fields: &mut Fields<'_>, out: &mut Octets) -> Result<(), Bad> {
     let standing = standing_of(alloc, fields.next()?)?;
-    let element = octets_of(alloc, fields.next()?)?;
+    let element = fields.next()?;
+    put_decided(alloc, &standing, element, out)
+}
+
+fn put_decided(
+    alloc: Global,
+    standing: &Standing,
+    element: &str,
+    out: &mut Octets,
+) -> Result<(), Bad> {
+    let element = octets_of(alloc, element)?;
     let request = request_of(alloc, element.as_slice())?;
-    put_answer(decide(alloc, &standing, request.as_ref())?, out)
+    put_answer(decide(alloc, standing, request.as_ref())?, out)
 }
 
 /// What the message of an element says, if it can be read.

@@ -10,12 +10,17 @@ use std::alloc::{AllocError, Global};
 /// `many N`, so many live channels from 5 on, or `initiator`. `-` is a new listener.
 pub(crate) fn standing_of(alloc: Global, text: &str) -> Result<Standing, Bad> {
     let mut standing = new_standing(alloc)?;
+    add_all(&mut standing, text)?;
+    Ok(standing)
+}
+
+fn add_all(standing: &mut Standing, text: &str) -> Result<(), Bad> {
     if text != "-" {
         for part in text.split("; ") {
-            add(&mut standing, part)?;
+            add(standing, part)?;
         }
     }
-    Ok(standing)
+    Ok(())
 }
 
 /// A listener that offers `urn:x` and, as tuning, `urn:t`.
@@ -57,23 +62,24 @@ fn add_number(standing: &mut Standing, part: &str) -> Result<(), Bad> {
     };
     let number = number_of(number)?;
     match word {
-        "live" => push(&mut standing.live, number)?,
-        "starting" => push(&mut standing.starting, number)?,
-        "closing" => push(&mut standing.closing, number)?,
-        "many" => push_many(&mut standing.live, number)?,
-        _ => return Err(Bad::Field),
+        "live" => push(&mut standing.live, number),
+        "starting" => push(&mut standing.starting, number),
+        "closing" => push(&mut standing.closing, number),
+        "many" => push_many(&mut standing.live, number),
+        _ => Err(Bad::Field),
     }
-    Ok(())
 }
 
-fn push(numbers: &mut Vec<u32>, number: u32) -> Result<(), AllocError> {
-    numbers.push(number)?;
-    Ok(())
+fn push(numbers: &mut Vec<u32>, number: u32) -> Result<(), Bad> {
+    match numbers.push(number) {
+        Ok(()) => Ok(()),
+        Err(_) => Err(Bad::NoMemory),
+    }
 }
 
-fn push_many(numbers: &mut Vec<u32>, count: u32) -> Result<(), AllocError> {
+fn push_many(numbers: &mut Vec<u32>, count: u32) -> Result<(), Bad> {
     for i in 0..count {
-        numbers.push(i.wrapping_mul(2).wrapping_add(5))?;
+        push(numbers, i.wrapping_mul(2).wrapping_add(5))?;
     }
     Ok(())
 }

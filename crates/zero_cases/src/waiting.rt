@@ -20,13 +20,18 @@ struct Ends {
 /// wait, whether a close of 1 does, and whether one of 0 does; of the received ones and of the sent
 /// ones.
 pub(crate) fn asked(alloc: Global, fields: &mut Fields<'_>, out: &mut Octets) -> Result<(), Bad> {
+    let steps = fields.next()?;
     let mut ends = new_ends(alloc)?;
-    step_of(alloc, &mut ends, "R:grant")?;
-    step_of(alloc, &mut ends, "S:grant")?;
-    for step in fields.next()?.split(' ') {
-        step_of(alloc, &mut ends, step)?;
+    play(alloc, &mut ends, steps, out)
+}
+
+fn play(alloc: Global, ends: &mut Ends, steps: &str, out: &mut Octets) -> Result<(), Bad> {
+    step_of(alloc, ends, "R:grant")?;
+    step_of(alloc, ends, "S:grant")?;
+    for step in steps.split(' ') {
+        step_of(alloc, ends, step)?;
     }
-    put_ends(&ends, out)
+    put_ends(ends, out)
 }
 
 fn new_ends(alloc: Global) -> Result<Ends, NoMemory> {
@@ -184,11 +189,14 @@ fn granted(asker: &mut Waiting, other: &mut Waiting, live: bool) -> bool {
 /// greeting answers the oldest, and whether one does once that has its reply.
 pub(crate) fn implied(alloc: Global, out: &mut Octets) -> Result<(), Bad> {
     let mut waiting = Waiting::new(alloc)?;
-    let reply = Some(greeting(alloc));
+    put_implied(&mut waiting, &Some(greeting(alloc)), out)
+}
+
+fn put_implied(waiting: &mut Waiting, reply: &Option<Mgmt>, out: &mut Octets) -> Result<(), Bad> {
     put_number(waiting.len() as u64, out)?;
     put_yes(waiting.is_empty(), out)?;
-    put_yes(waiting.fits(Kind::Rpy, &reply), out)?;
+    put_yes(waiting.fits(Kind::Rpy, reply), out)?;
     let _answered = waiting.pop();
-    put_yes(waiting.fits(Kind::Rpy, &reply), out)?;
+    put_yes(waiting.fits(Kind::Rpy, reply), out)?;
     Ok(())
 }
