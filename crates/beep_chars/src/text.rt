@@ -171,6 +171,3 @@ fn one_more(count: usize, octets: usize) -> usize
 {
     count + 1
 }
-
-#[cfg(test)]
-mod tests;

@@ -107,6 +107,3 @@ pub fn give_reply(peer: &mut Peer, number: u32, kind: Kind, octets: &[u8]) -> Re
 {
     peer.lives.give_reply(number, kind, octets)
 }
-
-#[cfg(test)]
-mod tests;

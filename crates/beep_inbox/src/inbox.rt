@@ -215,6 +215,3 @@ fn take_part(parts: &mut VecDeque<Part>, most: u32) -> Option<Part>
         ended: false,
     })
 }
-
-#[cfg(test)]
-mod tests;

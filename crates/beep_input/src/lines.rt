@@ -133,6 +133,3 @@ fn lines_ended(octet: u8) -> u64
 {
     if octet == b'\n' { 1 } else { 0 }
 }
-
-#[cfg(test)]
-mod tests;

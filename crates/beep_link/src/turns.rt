@@ -161,6 +161,3 @@ fn turn<E: End, W: Wires, O: Sink>(
         Err(Failed) => Err(Ended::WireFault),
     }
 }
-
-#[cfg(test)]
-mod tests;

@@ -82,6 +82,3 @@ fn continues(line: &[u8]) -> bool
 {
     line[0] == b' ' || line[0] == b'\t'
 }
-
-#[cfg(test)]
-mod tests;

@@ -192,6 +192,3 @@ fn cut_entry(entries: &mut VecDeque<Entry>, max: u32) -> (Tag, u32, bool)
     });
     (first.tag, max, true)
 }
-
-#[cfg(test)]
-mod tests;

@@ -6,10 +6,6 @@
 //! were worked out by hand.
 #![tactic(auto)]
 
-#[cfg(test)]
-mod examples;
 mod outcome;
-#[cfg(test)]
-mod tests;
 
 pub use outcome::{Outcome, decide};

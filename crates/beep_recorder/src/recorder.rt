@@ -180,6 +180,3 @@ impl<'w, W: Wires, K: Known> Wires for Recorder<'w, W, K> {
         self.wires.shut(link);
     }
 }
-
-#[cfg(test)]
-mod tests;

@@ -130,6 +130,3 @@ impl RecvWindow {
         self.room = self.size - self.untaken;
     }
 }
-
-#[cfg(test)]
-mod tests;

@@ -90,6 +90,3 @@ impl SendWindow {
         Ok(())
     }
 }
-
-#[cfg(test)]
-mod tests;

@@ -47,15 +47,3 @@ impl SeqNo {
         self.0.wrapping_sub(other.0)
     }
 }
-
-#[cfg(test)]
-mod tests {
-    use super::*;
-
-    // The numbers begin again after 4294967295 (RFC 3080, section 2.2.1.1).
-    #[test]
-    fn numbers_begin_again_after_the_greatest(rt: HostRuntime) {
-        assert_eq!(rt; SeqNo::new(4294967290).plus(10).get(), 4);
-        assert_eq!(rt; SeqNo::new(4).minus(SeqNo::new(4294967290)), 10);
-    }
-}

@@ -270,6 +270,3 @@ impl<R: Net<Listener = TcpListener, Stream = TcpStream> + Drop> Wires for StdWir
         self.shut_link(link);
     }
 }
-
-#[cfg(test)]
-mod tests;

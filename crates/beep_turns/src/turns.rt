@@ -120,6 +120,3 @@ impl Turns {
         Some(self.channels[place])
     }
 }
-
-#[cfg(test)]
-mod tests;

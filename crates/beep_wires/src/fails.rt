@@ -63,23 +63,3 @@ impl Fails {
         self.numbers.contains(&call)
     }
 }
-
-#[cfg(test)]
-mod tests {
-    use super::*;
-
-    #[test]
-    fn numbers_stand_in_the_order_of_the_pushes(rt: HostRuntime) -> Result<(), NoMemory> {
-        let mut fails = Fails::new(rt.alloc());
-        fails.push(7)?;
-        fails.push(0)?;
-        assert_eq!(rt; fails.len(), 2);
-        assert_eq!(rt; fails.get(0).copied(), Some(7));
-        assert_eq!(rt; fails.get(1).copied(), Some(0));
-        assert_eq!(rt; fails.get(2).copied(), None);
-        for (call, want) in [(0, true), (1, false), (7, true), (8, false)] {
-            assert_eq!(rt; fails.has(call), want, "at {call}");
-        }
-        Ok(())
-    }
-}

@@ -97,22 +97,3 @@ impl Sink for MemSink {
         Ok(n)
     }
 }
-
-#[cfg(test)]
-mod tests {
-    use super::*;
-
-    // Room for 7 octets, at most 4 a write, and call 1 fails: the last two calls find no room.
-    #[test]
-    fn writes_stop_where_no_room_is_left(rt: HostRuntime) -> Result<(), NoMemory> {
-        let mut fails = Fails::new(rt.alloc());
-        fails.push(1)?;
-        let mut sink = MemSink::new(rt.alloc(), 7, 4, fails)?;
-        let answers = [Ok(4), Err(Failed), Ok(3), Err(Failed), Err(Failed)];
-        for want in answers {
-            assert_eq!(rt; sink.write(b"frames"), want);
-        }
-        assert_eq!(rt; sink.written(), b"framfra".as_slice());
-        Ok(())
-    }
-}

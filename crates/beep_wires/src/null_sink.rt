@@ -24,15 +24,3 @@ impl Sink for NullSink {
         Ok(bytes.len())
     }
 }
-
-#[cfg(test)]
-mod tests {
-    use super::*;
-
-    #[test]
-    fn each_piece_is_taken_whole(rt: HostRuntime) {
-        let mut sink = NullSink;
-        assert_eq!(rt; sink.write(b"MSG"), Ok(3));
-        assert_eq!(rt; sink.write(&[0; 4096]), Ok(4096));
-    }
-}

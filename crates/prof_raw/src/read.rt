@@ -101,6 +101,3 @@ fn is_line_end(body: &[u8], at: usize) -> bool
     }
     body[at] == b'\r' && body[at + 1] == b'\n'
 }
-
-#[cfg(test)]
-mod tests;

@@ -1,6 +1,0 @@
--- The octets that arrived wait.
-use Rattle.std.proofs.Common.{arith}
-use Rattle.beep_seq.proofs.recv_window.tests.window_after.Goals as goal
-
-pub taken-requires : goal.taken-requires
-taken-requires c = let after = c.arrived.ensures.counted _ _ c.new-receiver.ensures in omega (arith, after.untaken)

@@ -1,9 +1,0 @@
--- The link is open, and hasn't ended.
-use Rattle.std.proofs.Common.{◌≡◌, true, false}
-use Rattle.memory_tests.proofs.mem_wires.hear.Given as goal
-
-abbrev pub invariant-loop : goal.invariant-loop
-invariant-loop g l = record {
-  alive : (g.W.Wires.state l.wires l.link).is_open ≡ true;
-  going : (g.W.Wires.state l.wires l.link).has_ended ≡ false;
-}
