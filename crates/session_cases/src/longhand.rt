@@ -11,7 +11,7 @@ const OPENS: &str = "say -> RPY 0 0 . 0 103\nsays RPY 0 <greeting /> -> greeted\
 /// Both greetings have passed between A and B, and channel 1 of A lives.
 const MEETS: &str = "A say -> RPY 0 0 . 0 103\nB say -> RPY 0 0 . 0 103\nA get -> greeted\n\
      B get -> greeted\nA start 1\nA say -> MSG 0 1 . 103 108\nB get -> peer starts 1 0\n\
-     B say -> RPY 0 1 . 103 82\nA get -> begun 1 0\n";
+     B say -> RPY 0 1 . 103 82\nA get -> begun 1 0\nA say -> nothing\nB say -> nothing\n";
 
 /// A rule is broken.
 const BREAKS: &str = "frame MSG 999 0 . 0 0 - -> NoSuchChannel header\n";
