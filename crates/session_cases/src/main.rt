@@ -1,0 +1,114 @@
+//! Drives sessions by the lines of its standard input, and prints which are answered otherwise than
+//! they want. See README.md for the lines.
+#![tactic(auto)]
+
+mod acts;
+mod answer;
+mod counts;
+mod end;
+mod gives;
+mod hearing;
+mod listing;
+mod longhand;
+mod looks;
+mod saying;
+mod speech;
+mod stop;
+mod takes;
+mod words;
+mod world;
+
+use crate::answer::number_in;
+use crate::counts::{Counts, Line, is_right};
+use crate::longhand::lines_of;
+use crate::stop::Stop;
+use crate::world::World;
+use std::alloc::Global;
+use std::io;
+use std::process::ExitCode;
+
+/// The profile that each end offers, and that both start.
+const URI: &str = "http://beep.example/pair";
+
+/// The windows of both ends, unless a case says otherwise.
+const WINDOW: u32 = 4096;
+
+fn main(rt: HostRuntime) -> ExitCode {
+    match run(&rt) {
+        Ok(true) => ExitCode::from(0),
+        Ok(false) | Err(_) => ExitCode::from(1),
+    }
+}
+
+/// Runs all cases, prints what is wrong and how many there were, and answers whether all is right.
+fn run(rt: &HostRuntime) -> Result<bool, Stop> {
+    let text = io::read_to_string(rt.alloc(), rt.reader())?;
+    let mut counts = Counts::new();
+    run_lines(rt, text.as_str(), &mut counts)?;
+    println!(rt;
+        "{} cases, {} answers, {} wrong",
+        counts.cases, counts.answers, counts.wrong
+    )?;
+    Ok(counts.wrong == 0)
+}
+
+fn run_lines(rt: &HostRuntime, text: &str, counts: &mut Counts) -> Result<(), Stop> {
+    let mut world = World::new(rt.alloc(), WINDOW)?;
+    for line in text.lines() {
+        counts.line = counts.line.saturating_add(1);
+        if line.is_empty() || line.starts_with("#") {
+            continue;
+        }
+        run_line(rt, &mut world, line, counts)?;
+    }
+    Ok(())
+}
+
+/// `case NAME` begins a case with two new ends, `window SIZE` has their windows; each other line is
+/// an act.
+fn run_line(
+    rt: &HostRuntime,
+    world: &mut World,
+    line: &str,
+    counts: &mut Counts,
+) -> Result<(), Stop> {
+    if line.starts_with("case ") {
+        counts.cases = counts.cases.saturating_add(1);
+        return renew(rt.alloc(), world, WINDOW);
+    }
+    if let Some(size) = line.strip_prefix("window ") {
+        return renew(rt.alloc(), world, number_in(Some(size)));
+    }
+    counts.answers = counts.answers.saturating_add(1);
+    if !run_acts(rt, world, line, counts.line)? {
+        counts.wrong = counts.wrong.saturating_add(1);
+    }
+    Ok(())
+}
+
+fn renew(alloc: Global, world: &mut World, window: u32) -> Result<(), Stop> {
+    *world = World::new(alloc, window)?;
+    Ok(())
+}
+
+/// Does the act of a line, or those for which it stands up to the first that is wrong, and answers
+/// whether all is right.
+fn run_acts(rt: &HostRuntime, world: &mut World, line: &str, number: u64) -> Result<bool, Stop> {
+    let lines = lines_of(rt.alloc(), line)?;
+    if lines.is_empty() {
+        return run_act(rt, world, line, number);
+    }
+    for line in lines.lines() {
+        if !run_act(rt, world, line, number)? {
+            return Ok(false);
+        }
+    }
+    Ok(true)
+}
+
+/// Does an act, and answers whether what comes of it is wanted.
+fn run_act(rt: &HostRuntime, world: &mut World, line: &str, number: u64) -> Result<bool, Stop> {
+    let line = Line::of(line, number);
+    world.line(line.act)?;
+    is_right(rt, &line, world.notes())
+}
