@@ -1,8 +1,6 @@
-//! Tests of beep_pair and beep_two_sessions over their public calls, in a crate of their own, so
-//! that they are proved by the contracts of those libraries, whose functions are proved once.
+//! Tests of beep_two_sessions over its public calls, in a crate of their own, so that they are
+//! proved by the contracts of that library, whose functions are proved once.
 #![tactic(auto)]
 
-#[cfg(test)]
-mod command;
 #[cfg(test)]
 mod world;

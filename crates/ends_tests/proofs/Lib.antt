@@ -1,2 +1,0 @@
--- Proofs.
-mod DefaultsLemmas
