@@ -76,12 +76,27 @@ impl Tally {
     /// Two reads, cut at each place.
     fn try_cuts(&mut self, rt: &HostRuntime, case: &Case, way: Way<'_>) -> Result<(), Stop> {
         for size in 1..way.input.len() {
-            let sizes = [size];
-            let mut cut = way;
-            cut.sizes = &sizes;
-            self.try_way(rt, case, cut)?;
+            self.try_cut(rt, case, way, size)?;
         }
         Ok(())
+    }
+
+    fn try_cut(
+        &mut self,
+        rt: &HostRuntime,
+        case: &Case,
+        way: Way<'_>,
+        size: usize,
+    ) -> Result<(), Stop> {
+        let sizes = [size];
+        let cut = Way {
+            words: way.words,
+            input: way.input,
+            sizes: &sizes,
+            read_piece: way.read_piece,
+            write_piece: way.write_piece,
+        };
+        self.try_way(rt, case, cut)
     }
 
     /// Runs a case once, and prints what came out otherwise.

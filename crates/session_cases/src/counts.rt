@@ -21,6 +21,13 @@ impl Counts {
             wrong: 0,
         }
     }
+
+    pub(crate) fn add_answer(&mut self, is_right: bool) {
+        self.answers = self.answers.saturating_add(1);
+        if !is_right {
+            self.wrong = self.wrong.saturating_add(1);
+        }
+    }
 }
 
 /// An act, its number, and the answer that is wanted: `ok` where the line says none.

@@ -100,17 +100,13 @@ impl Ear {
         if self.used != broken.1.saturating_add(1) {
             return stops(Answer::One("used", self.used), notes);
         }
-        match self.broken {
-            None => {
-                self.broken = Some(broken);
-                Answer::Word(rule_name(broken.0)).note(notes)?;
-                self.note_place(broken.1, read, notes)?;
-                Ok(true)
-            }
-            Some(before) if before != broken => stops(Answer::Word("another rule"), notes),
-            Some(_) if notes.is_empty() => stops(Answer::Word("broken"), notes),
-            Some(_) => Ok(false),
+        if let Some(before) = self.broken {
+            return broken_again(before == broken, notes);
         }
+        self.broken = Some(broken);
+        Answer::Word(rule_name(broken.0)).note(notes)?;
+        self.note_place(broken.1, read, notes)?;
+        Ok(true)
     }
 
     /// The last octet of the last header, or of all that was said, or which one.
@@ -134,6 +130,17 @@ impl Ear {
             notes.push_str("more")?;
         }
         Ok(())
+    }
+}
+
+/// A later feed after a broken rule answers the same, which is noted where nothing else came.
+fn broken_again(is_same: bool, notes: &mut String) -> Result<bool, Stop> {
+    if !is_same {
+        stops(Answer::Word("another rule"), notes)
+    } else if notes.is_empty() {
+        stops(Answer::Word("broken"), notes)
+    } else {
+        Ok(false)
     }
 }
 

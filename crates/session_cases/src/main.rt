@@ -54,36 +54,50 @@ fn run(rt: &HostRuntime) -> Result<bool, Stop> {
 
 fn run_lines(rt: &HostRuntime, text: &str, counts: &mut Counts) -> Result<(), Stop> {
     let mut world = World::new(rt.alloc(), WINDOW)?;
+    run_over(rt, &mut world, text, counts)
+}
+
+fn run_over(
+    rt: &HostRuntime,
+    world: &mut World,
+    text: &str,
+    counts: &mut Counts,
+) -> Result<(), Stop> {
     for line in text.lines() {
         counts.line = counts.line.saturating_add(1);
-        if line.is_empty() || line.starts_with("#") {
-            continue;
-        }
-        run_line(rt, &mut world, line, counts)?;
+        run_line(rt, world, line, counts)?;
     }
     Ok(())
 }
 
-/// `case NAME` begins a case with two new ends, `window SIZE` has their windows; each other line is
-/// an act.
+/// A line that begins new ends does so, and another one is an act, but for comments and lines
+/// without a word.
 fn run_line(
     rt: &HostRuntime,
     world: &mut World,
     line: &str,
     counts: &mut Counts,
 ) -> Result<(), Stop> {
+    if line.is_empty() || line.starts_with("#") {
+        return Ok(());
+    }
+    if let Some(window) = window_of(line, counts) {
+        return renew(rt.alloc(), world, window);
+    }
+    let is_right = run_acts(rt, world, line, counts.line)?;
+    counts.add_answer(is_right);
+    Ok(())
+}
+
+/// The window of two new ends, where a line begins them: `case NAME` a case, which is counted, and
+/// `window SIZE` with another window.
+fn window_of(line: &str, counts: &mut Counts) -> Option<u32> {
     if line.starts_with("case ") {
         counts.cases = counts.cases.saturating_add(1);
-        return renew(rt.alloc(), world, WINDOW);
+        return Some(WINDOW);
     }
-    if let Some(size) = line.strip_prefix("window ") {
-        return renew(rt.alloc(), world, number_in(Some(size)));
-    }
-    counts.answers = counts.answers.saturating_add(1);
-    if !run_acts(rt, world, line, counts.line)? {
-        counts.wrong = counts.wrong.saturating_add(1);
-    }
-    Ok(())
+    let size = line.strip_prefix("window ")?;
+    Some(number_in(Some(size)))
 }
 
 fn renew(alloc: Global, world: &mut World, window: u32) -> Result<(), Stop> {
