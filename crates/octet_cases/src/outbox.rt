@@ -1,5 +1,4 @@
 //! The messages of one life that were given and not wholly sent.
-ghost use Rattle.std.specs.Prelude.{◌<◌, length};
 
 use beep_frame::{Kind, Tag};
 use beep_octets::Octets;

@@ -1,5 +1,4 @@
 //! Sinks in memory.
-ghost use Rattle.std.specs.Prelude.{◌≡◌, ◌<◌, length};
 
 use crate::fails::fails_of;
 use beep_octets::Octets;
