@@ -5,7 +5,7 @@
 //!
 //! Each word is stated in specs/ over the whole history, the latest item first. Beside the
 //! definitions stands
-//! a plain, slow program whose contract they are. `history_examples` has a table of short histories
+//! a plain, slow program whose contract they are. `journal_cases` has a table of short histories
 //! on which it is run.
 #![tactic(auto)]
 
