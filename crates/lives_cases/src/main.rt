@@ -8,53 +8,23 @@ mod heard;
 mod lives;
 
 use beep_octets::Octets;
-use case_lines::{Bad, Fields, octets_of};
+use case_lines::{Answers, Bad, Fields, try_cases};
 use std::alloc::Global;
 use std::io;
 
+struct Cases;
+
 fn main(rt: HostRuntime) -> io::Result<()> {
-    let mut right = 0u64;
-    for line in rt.lines(rt.alloc()) {
-        let line = line?;
-        if is_case(line.as_str()) && is_right(&rt, line.as_str())? {
-            right = right.saturating_add(1);
+    try_cases::<Cases>(&rt)
+}
+
+impl Answers for Cases {
+    fn answer(alloc: Global, fields: &mut Fields<'_>, out: &mut Octets) -> Result<(), Bad> {
+        match fields.next()? {
+            "lives" => lives::lives(alloc, fields, out),
+            "hear" => heard::hear(alloc, fields, out),
+            "octets" => heard::octets(alloc, fields, out),
+            _ => Err(Bad::Field),
         }
-    }
-    println!(rt; "{right} right")
-}
-
-/// Whether a line is a case: an empty one isn't, nor one that begins with `# `.
-fn is_case(line: &str) -> bool {
-    !line.is_empty() && !line.starts_with("# ")
-}
-
-/// Whether a case gives what is wanted. What it gives else is printed after it.
-fn is_right(rt: &HostRuntime, line: &str) -> io::Result<bool> {
-    let mut answer = Octets::new(rt.alloc());
-    match is_wanted(rt.alloc(), line, &mut answer) {
-        Ok(true) => return Ok(true),
-        Ok(false) => println!(rt; "wrong: {line}")?,
-        Err(bad) => println!(rt; "{bad:?}: {line}")?,
-    }
-    let text = String::from_utf8_lossy(rt.alloc(), answer.as_slice())?;
-    println!(rt; "    it gives: {text}")?;
-    Ok(false)
-}
-
-/// Writes the answer of a case, and says whether its last field is that.
-fn is_wanted(alloc: Global, line: &str, out: &mut Octets) -> Result<bool, Bad> {
-    let mut fields = Fields::of(line);
-    answer(alloc, &mut fields, out)?;
-    let want = octets_of(alloc, fields.next()?)?;
-    Ok(out.as_slice() == want.as_slice())
-}
-
-/// Writes the answer of the case that these fields say.
-fn answer(alloc: Global, fields: &mut Fields<'_>, out: &mut Octets) -> Result<(), Bad> {
-    match fields.next()? {
-        "lives" => lives::lives(alloc, fields, out),
-        "hear" => heard::hear(alloc, fields, out),
-        "octets" => heard::octets(alloc, fields, out),
-        _ => Err(Bad::Field),
     }
 }

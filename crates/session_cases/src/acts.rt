@@ -1,12 +1,9 @@
 //! What the session's own program asks on channel zero (RFC 3080, sections 2.3.1.2 and 2.3.1.3).
 
-use crate::URI;
-use crate::answer::{Answer, of_close, of_release, of_start};
 use crate::listing::listed;
-use crate::stop::Stop;
-use crate::words::Words;
 use beep_session::Session;
 use beep_session::beep_chars::Text;
+use session_lines::{Answer, Stop, URI, Words, of_close, of_release, of_start};
 use std::alloc::Global;
 
 /// Does an act on channel zero, where the words are one: `start NUMBER` and `start NUMBER LENGTH`

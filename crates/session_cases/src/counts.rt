@@ -1,6 +1,6 @@
 //! What a line wants, and how many lines got it.
 
-use crate::stop::Stop;
+use session_lines::Stop;
 
 /// How many cases and answers there were, and how many of these were wrong.
 #[derive(Clone, Copy, Debug)]

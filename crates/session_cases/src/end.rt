@@ -1,17 +1,14 @@
 //! One end: its session, what it hears, and what it says.
 
 use crate::acts::acts;
-use crate::answer::Answer;
 use crate::gives::gives;
 use crate::hearing::{Ear, Read, hear};
 use crate::looks::{lends, looks};
 use crate::saying::{Said, note_said, note_whole, say};
-use crate::speech::Speech;
-use crate::stop::Stop;
 use crate::takes::take;
-use crate::words::Words;
 use beep_session::beep_octets::Octets;
 use beep_session::{MAX_PIECE, Session};
+use session_lines::{Answer, Speech, Stop, Words};
 use std::alloc::Global;
 
 /// The most frames that go out in a row.

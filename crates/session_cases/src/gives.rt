@@ -1,10 +1,8 @@
 //! What the session's own program gives on a channel above zero (RFC 3080, section 2.1).
 
-use crate::answer::{Answer, of_ask, of_give_error};
-use crate::stop::Stop;
-use crate::words::Words;
 use beep_session::beep_octets::Octets;
 use beep_session::{Duty, Session};
+use session_lines::{Answer, Stop, Words, of_ask, of_give_error};
 use std::alloc::Global;
 
 /// What the octets of messages are copied from.

@@ -1,9 +1,8 @@
 //! What a session makes of what it hears.
 
-use crate::answer::{Answer, of_settled, push_number, rule_name};
-use crate::stop::Stop;
 use beep_session::beep_frame::Rule;
 use beep_session::{Event, Session, SettleError};
+use session_lines::{Answer, Stop, of_settled, push_number, rule_name};
 
 /// What came of a feed.
 #[derive(Clone, Copy, Debug)]

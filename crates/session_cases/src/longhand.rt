@@ -1,8 +1,6 @@
 //! Acts that stand for several lines, which most cases begin with.
 
-use crate::answer::{push_number, push_numbered};
-use crate::stop::Stop;
-use crate::words::Words;
+use session_lines::{Stop, Words, push_number, push_numbered};
 use std::alloc::Global;
 
 /// Both greetings have passed between B and a peer that is played by hand.

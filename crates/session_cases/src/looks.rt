@@ -1,8 +1,7 @@
 //! What a session answers of itself.
 
-use crate::answer::Answer;
-use crate::words::Words;
 use beep_session::{Duty, Session};
+use session_lines::{Answer, Words};
 
 /// What a session answers of itself, where the words ask it: `live NUMBER`, `over`, `may`,
 /// `untaken` and `between` a yes or no, `left` a number.

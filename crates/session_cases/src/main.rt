@@ -3,7 +3,6 @@
 #![tactic(auto)]
 
 mod acts;
-mod answer;
 mod counts;
 mod end;
 mod gives;
@@ -12,23 +11,16 @@ mod listing;
 mod longhand;
 mod looks;
 mod saying;
-mod speech;
-mod stop;
 mod takes;
-mod words;
 mod world;
 
-use crate::answer::number_in;
 use crate::counts::{Counts, Line, is_right};
 use crate::longhand::lines_of;
-use crate::stop::Stop;
 use crate::world::World;
+use session_lines::{Stop, number_in};
 use std::alloc::Global;
 use std::io;
 use std::process::ExitCode;
-
-/// The profile that each end offers, and that both start.
-const URI: &str = "http://beep.example/pair";
 
 /// The windows of both ends, unless a case says otherwise.
 const WINDOW: u32 = 4096;

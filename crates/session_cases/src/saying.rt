@@ -1,10 +1,9 @@
 //! What a session says next.
 
-use crate::answer::Answer;
-use crate::stop::Stop;
 use beep_session::beep_octets::Octets;
 use beep_session::beep_speaking::Emit;
 use beep_session::{MAX_PIECE, Session};
+use session_lines::{Answer, Stop};
 
 /// Room for one frame of the greatest size, and some more.
 const ROOM: usize = 8192;

@@ -1,9 +1,8 @@
 //! What is taken from a channel above zero.
 
-use crate::answer::{Answer, kind_name, push_number, push_numbered};
-use crate::stop::Stop;
 use beep_session::Session;
 use beep_session::beep_inbox::Part;
+use session_lines::{Answer, Stop, kind_name, push_number, push_numbered};
 
 /// The most octets that are taken at once.
 const ROOM: usize = 64;

@@ -1,14 +1,13 @@
 //! Two ends, A the initiator and B the listener, which hear each other, or a peer that is played by
 //! hand.
 
-use crate::URI;
 use crate::end::End;
-use crate::stop::Stop;
 use beep_session::beep_chars::Text;
 use beep_session::beep_decide::Offer;
 use beep_session::beep_journal::Role;
 use beep_session::beep_seq::{MAX_WINDOW, MIN_WINDOW};
 use beep_session::{Limits, MAX_PIECE, Offers, Session, is_uri};
+use session_lines::{Stop, URI};
 use std::alloc::Global;
 
 /// Two ends, and what came of the last line.

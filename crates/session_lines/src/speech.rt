@@ -1,10 +1,12 @@
 //! What the peer says, played by hand: frames, SEQs and loose octets.
 
-use crate::URI;
 use crate::answer::{number_in, push_number};
 use crate::stop::Stop;
 use beep_session::beep_octets::Octets;
 use std::alloc::Global;
+
+/// The profile that each end offers, and that both start.
+pub const URI: &str = "http://beep.example/pair";
 
 /// The MIME header of a message of channel zero, with the empty line after it.
 const MIME: &str = "Content-Type: application/beep+xml\r\n\r\n";
@@ -17,7 +19,7 @@ const LONGEST: usize = 65536;
 
 /// What the peer says next, in one read.
 #[derive(Drop)]
-pub(crate) struct Speech {
+pub struct Speech {
     alloc: Global,
     read: Octets,
     /// How many octets there are up to the end of the last header or SEQ.
@@ -28,7 +30,8 @@ pub(crate) struct Speech {
 }
 
 impl Speech {
-    pub(crate) fn new(alloc: Global) -> Speech {
+    /// Of a peer that has said nothing yet.
+    pub fn new(alloc: Global) -> Speech {
         Speech {
             alloc,
             read: Octets::new(alloc),
@@ -38,22 +41,24 @@ impl Speech {
         }
     }
 
-    pub(crate) fn octets(&self) -> &[u8] {
+    /// The octets of the next read.
+    pub fn octets(&self) -> &[u8] {
         self.read.as_slice()
     }
 
-    pub(crate) fn header(&self) -> usize {
+    /// How many of these octets there are up to the end of the last header or SEQ.
+    pub fn header(&self) -> usize {
         self.header
     }
 
     /// All was heard.
-    pub(crate) fn clear(&mut self) {
+    pub fn clear(&mut self) {
         self.read.clear();
         self.header = 0;
     }
 
     /// Puts octets of any kind after what is said.
-    pub(crate) fn put_octets(&mut self, octets: &[u8]) -> Result<(), Stop> {
+    pub fn put_octets(&mut self, octets: &[u8]) -> Result<(), Stop> {
         self.read.extend(octets)?;
         Ok(())
     }
@@ -61,7 +66,7 @@ impl Speech {
     /// Puts what this line says after what is said, and answers whether it says anything: `starts
     /// NUMBER`, `closes NUMBER` and `asks ELEMENT` are the peer's requests on channel zero, `says
     /// KIND NUMBER ELEMENT` its replies there; or a frame or what one is made of.
-    pub(crate) fn puts(&mut self, line: &str) -> Result<bool, Stop> {
+    pub fn puts(&mut self, line: &str) -> Result<bool, Stop> {
         let Some((act, rest)) = line.split_once(' ') else {
             return Ok(false);
         };

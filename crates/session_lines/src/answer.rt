@@ -9,29 +9,35 @@ use itoa::Buffer;
 
 /// What an act is answered.
 #[derive(Clone, Copy, Debug)]
-pub(crate) enum Answer {
+pub enum Answer {
+    /// A word alone.
     Word(&'static str),
+    /// A number alone.
     Number(u64),
+    /// A word and a number.
     One(&'static str, u64),
+    /// A word and two numbers.
     Two(&'static str, u64, u64),
 }
 
 impl Answer {
     /// The line is no act, or asks for what a program mustn't ask.
-    pub(crate) fn usage() -> Answer {
+    pub fn usage() -> Answer {
         Answer::Word("usage")
     }
 
-    pub(crate) fn no_memory() -> Answer {
+    /// Out of memory.
+    pub fn no_memory() -> Answer {
         Answer::Word("no memory")
     }
 
-    pub(crate) fn of_test(is: bool) -> Answer {
+    /// `yes` or `no`.
+    pub fn of_test(is: bool) -> Answer {
         Answer::Word(if is { "yes" } else { "no" })
     }
 
     /// Notes the answer, after a comma where something was noted.
-    pub(crate) fn note(self, notes: &mut String) -> Result<(), Stop> {
+    pub fn note(self, notes: &mut String) -> Result<(), Stop> {
         if !notes.is_empty() {
             notes.push_str(", ")?;
         }
@@ -49,28 +55,29 @@ impl Answer {
 }
 
 /// A number in decimal after what was noted.
-pub(crate) fn push_number(notes: &mut String, number: u64) -> Result<(), Stop> {
+pub fn push_number(notes: &mut String, number: u64) -> Result<(), Stop> {
     let mut buffer = Buffer::new();
     notes.push_str(buffer.format(number))?;
     Ok(())
 }
 
 /// A word, a space and a number after what was noted.
-pub(crate) fn push_numbered(notes: &mut String, word: &str, number: u64) -> Result<(), Stop> {
+pub fn push_numbered(notes: &mut String, word: &str, number: u64) -> Result<(), Stop> {
     notes.push_str(word)?;
     notes.push_str(" ")?;
     push_number(notes, number)
 }
 
 /// The number that a word says, or 0.
-pub(crate) fn number_in(word: Option<&str>) -> u32 {
+pub fn number_in(word: Option<&str>) -> u32 {
     match word {
         Some(word) => word.parse().unwrap_or(0),
         None => 0,
     }
 }
 
-pub(crate) fn of_start(answer: Result<(), StartError>) -> Answer {
+/// What a start is answered.
+pub fn of_start(answer: Result<(), StartError>) -> Answer {
     match answer {
         Ok(()) => Answer::Word("ok"),
         Err(StartError::Ended) => Answer::Word("Ended"),
@@ -84,7 +91,8 @@ pub(crate) fn of_start(answer: Result<(), StartError>) -> Answer {
     }
 }
 
-pub(crate) fn of_release(answer: Result<(), ReleaseError>) -> Answer {
+/// What a release is answered.
+pub fn of_release(answer: Result<(), ReleaseError>) -> Answer {
     match answer {
         Ok(()) => Answer::Word("ok"),
         Err(ReleaseError::Ended) => Answer::Word("Ended"),
@@ -96,7 +104,8 @@ pub(crate) fn of_release(answer: Result<(), ReleaseError>) -> Answer {
     }
 }
 
-pub(crate) fn of_close(answer: Result<(), CloseError>) -> Answer {
+/// What a close is answered.
+pub fn of_close(answer: Result<(), CloseError>) -> Answer {
     match answer {
         Ok(()) => Answer::Word("ok"),
         Err(CloseError::Busy(asked)) => Answer::One("Busy", u64::from(asked)),
@@ -105,7 +114,8 @@ pub(crate) fn of_close(answer: Result<(), CloseError>) -> Answer {
     }
 }
 
-pub(crate) fn of_ask(answer: Result<u64, AskError>) -> Answer {
+/// What a request is answered: its position, or why it isn't given.
+pub fn of_ask(answer: Result<u64, AskError>) -> Answer {
     match answer {
         Ok(position) => Answer::One("ok", position),
         Err(AskError::Closing) => Answer::Word("Closing"),
@@ -118,7 +128,7 @@ pub(crate) fn of_ask(answer: Result<u64, AskError>) -> Answer {
 }
 
 /// What a message of a reply is answered that isn't given.
-pub(crate) fn of_give_error(error: GiveError) -> Answer {
+pub fn of_give_error(error: GiveError) -> Answer {
     match error {
         GiveError::Full { queued, limit } => {
             Answer::Two("Full", u64::from(queued), u64::from(limit))
@@ -128,7 +138,7 @@ pub(crate) fn of_give_error(error: GiveError) -> Answer {
 }
 
 /// As what a message of channel zero was settled.
-pub(crate) fn of_settled(settled: &Settled) -> Answer {
+pub fn of_settled(settled: &Settled) -> Answer {
     match settled {
         Settled::Greeted => Answer::Word("greeted"),
         Settled::Denied(code) => Answer::One("denied", u64::from(*code)),
@@ -149,7 +159,8 @@ fn two(word: &'static str, first: u32, second: u32) -> Answer {
     Answer::Two(word, u64::from(first), u64::from(second))
 }
 
-pub(crate) fn kind_name(kind: Kind) -> &'static str {
+/// The keyword of a kind.
+pub fn kind_name(kind: Kind) -> &'static str {
     match kind {
         Kind::Msg => "MSG",
         Kind::Rpy => "RPY",
@@ -159,7 +170,8 @@ pub(crate) fn kind_name(kind: Kind) -> &'static str {
     }
 }
 
-pub(crate) fn rule_name(rule: Rule) -> &'static str {
+/// The name of a rule.
+pub fn rule_name(rule: Rule) -> &'static str {
     match rule {
         Rule::Header => "Header",
         Rule::Trailer => "Trailer",

@@ -6,7 +6,7 @@ use std::io;
 
 /// Why a run stops before its end. No case is wrong then.
 #[derive(Clone, Copy, Debug)]
-pub(crate) enum Stop {
+pub enum Stop {
     /// Out of memory.
     NoMemory,
     /// The cases couldn't be read, or what came of them couldn't be written.

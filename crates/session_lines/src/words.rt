@@ -4,16 +4,18 @@ use crate::answer::number_in;
 
 /// The words of an act.
 #[derive(Clone, Copy, Debug)]
-pub(crate) struct Words<'l> {
-    pub(crate) act: &'l str,
+pub struct Words<'l> {
+    /// The first word.
+    pub act: &'l str,
     /// The first number, as a rule that of a channel, or 0.
-    pub(crate) number: u32,
+    pub number: u32,
     /// The second number, as a rule a length in octets, or 0.
-    pub(crate) len: u32,
+    pub len: u32,
 }
 
 impl<'l> Words<'l> {
-    pub(crate) fn of(line: &'l str) -> Words<'l> {
+    /// The words of a line.
+    pub fn of(line: &'l str) -> Words<'l> {
         let mut words = line.split(' ');
         let act = words.next().unwrap_or("");
         let number = number_in(words.next());
