@@ -10,13 +10,11 @@ C program that is run in the same round. A channel takes no more messages than i
 with it, so that what is timed takes no memory. The second row of the smallest messages has as many requests as may wait.
 """
 import statistics
-import subprocess
 import sys
 import tempfile
-import time
-from pathlib import Path
 
-TOP = Path(__file__).resolve().parent.parent
+from timed import TOP, copier, run
+
 PROGRAM = TOP / "crates/bench_channel/out/bench_channel"
 
 # The octets of a message, and how many pass in one channel.
@@ -25,18 +23,6 @@ SIZES = [(20, 64), (20, 1024), (1024, 63), (65536, 1)]
 # About so many octets, or so many messages, pass in a run.
 OCTETS = 400_000_000
 MESSAGES = 4_000_000
-
-
-def run(words):
-    start = time.perf_counter()
-    subprocess.run([str(word) for word in words], check=True)
-    return time.perf_counter() - start
-
-
-def copier(folder):
-    out = Path(folder) / "copy"
-    subprocess.run(["gcc", "-O2", "-o", out, TOP / "bench/copy.c"], check=True)
-    return out
 
 
 def runs(size, messages, calls):

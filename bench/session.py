@@ -9,13 +9,11 @@ every run is made once; the tables have the medians. The ratio is to a C program
 same octets through as many buffers as they pass in a session: outbox, frame, wire, decoder, inbox and the program's own.
 """
 import statistics
-import subprocess
 import sys
 import tempfile
-import time
-from pathlib import Path
 
-TOP = Path(__file__).resolve().parent.parent
+from timed import TOP, copier, run
+
 PROGRAM = TOP / "crates/bench_session/out/bench_session"
 
 # The buffers through which an octet passes.
@@ -28,18 +26,6 @@ WINDOWS = [4096, 65536]
 # Over how many channels messages are carried in turn, and of how many octets.
 CHANNELS = [1, 16, 64]
 SMALL = 20
-
-
-def run(words):
-    start = time.perf_counter()
-    subprocess.run([str(word) for word in words], check=True)
-    return time.perf_counter() - start
-
-
-def copier(folder):
-    out = Path(folder) / "copy"
-    subprocess.run(["gcc", "-O2", "-o", out, TOP / "bench/copy.c"], check=True)
-    return out
 
 
 def cost(size, messages, window, channels):
