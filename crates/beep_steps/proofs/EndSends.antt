@@ -210,9 +210,9 @@ tells-stop plan p session log octets stop same s none h r = of stop h r
       unrefused = goes Stop.Released r;
     }
     of (Stop.Broken rule place) h r = record {
-      shows = shown (Stop.Broken rule place) (subst (λ (t : Terms). ShowsFault t rule place (got_all octets (moments log))) same h) tt;
+      shows = shown (Stop.Broken rule place) (subst (λ (t : Terms). ShowsFault t rule place (got_all octets (moments log))) same h) r;
       sent = λ is. absurd (cc is);
-      unrefused = goes (Stop.Broken rule place) tt;
+      unrefused = goes (Stop.Broken rule place) r;
     }
     of Stop.WriteFault h r = record { shows = shown Stop.WriteFault tt tt; sent = λ is. absurd (cc is); unrefused = goes Stop.WriteFault tt }
     of Stop.NoMemory h r = record { shows = shown Stop.NoMemory tt tt; sent = λ is. absurd (cc is); unrefused = goes Stop.NoMemory tt }

@@ -69,10 +69,10 @@ module _ (bytes : List ℕ) (old : Held) (log : List Moment) (s : StandsOn old l
       let l = released-gots (terms_of old) s.rest bytes s.journal log e s.logged in
       below-of s.journal (got_all bytes log) l.shown.past l.shown.shows (record { gained = []; journal_is = l.shown.journal_is; none_above = refl }) past shows
 
-  pub breaks-ends : (count : ℕ) (new : Held) (rule : Rule) (place : ℕ) → is_released s.journal ≡ false
-      → Breaks rule place old.limits.window (take count bytes) s.fed s.journal s.given s.taken new.peer.ear new.peer.lives
-      → (past : Past) → Shows none_tunes (got_all bytes log) past → CameBelow s.journal past.journal
-  breaks-ends count new rule place unreleased b =
+  pub breaks-journal : (count : ℕ) (new : Held) (rule : Rule) (place : ℕ) → is_released s.journal ≡ false
+      → (b : Breaks rule place old.limits.window (take count bytes) s.fed s.journal s.given s.taken new.peer.ear new.peer.lives)
+      → (past : Past) → Shows none_tunes (got_all bytes log) past → past.journal ≡ b.gained ++ s.journal
+  breaks-journal count new rule place unreleased b past other =
       let terms = terms_of old in
       let was = s.stands.stands.hears.is_fed in
       let known : Means old.peer.ear.decoder (fed_of s.fed was.frames s.rest (under_way Side.Received s.journal)) =
@@ -89,7 +89,16 @@ module _ (bytes : List ℕ) (old : Held) (log : List Moment) (s : StandsOn old l
       let shows : Shows none_tunes (got_all (take count bytes) log) after = subst (λ (l : List Moment). Shows none_tunes l after) (sym used) (at.past, at.shows, takes) in
       let whole : Shows none_tunes (got_all bytes log) after =
       subst (λ (l : List Moment). Shows none_tunes l after) (got-rest count bytes log) (stuck-gots after (fault_at Side.Received at.past rule) refl (drop count bytes) (got_all (take count bytes) log) shows) in
-      below-of s.journal (got_all bytes log) after whole (record { gained = b.gained; journal_is = at.journal_is; none_above = b.none_above })
+      ap (λ (p : Past). p.journal) (one-shown none_tunes (got_all bytes log) past after other whole) ∙ at.journal_is
+
+  breaks-ends : (count : ℕ) (new : Held) (rule : Rule) (place : ℕ) → is_released s.journal ≡ false
+      → Breaks rule place old.limits.window (take count bytes) s.fed s.journal s.given s.taken new.peer.ear new.peer.lives
+      → (past : Past) → Shows none_tunes (got_all bytes log) past → CameBelow s.journal past.journal
+  breaks-ends count new rule place unreleased b past shows = record {
+    gained = b.gained;
+    journal_is = breaks-journal count new rule place unreleased b past shows;
+    none_above = b.none_above;
+  }
 
   pub feed-released : (event : Event) (released : Bool) → old.peer.released ≡ released → event ≡ Event.Released → (count : ℕ) (new : Held)
       → ((fed rest : List ℕ) (journal : List Item) (given taken : Marks) → old.peer.released ≡ false → IsPeer old.limits.window fed rest journal given taken old.peer
@@ -123,9 +132,9 @@ zero-below : (z : Bool) → z ≡ true → (not z || false) ≡ false
 zero-below true e = refl
 zero-below false e = absurd (let h : false ≡ true = e in cc)
 
-pub waiting-ends : (old new : Held) (log : List Moment) (w : WaitsOn old log) → is_msg w.head.kind ≡ false → completes_form Side.Received w.head w.payload (zero_history w.journal) ≡ false
-    → is_released w.journal ≡ false → (octets : List ℕ) (past : Past) → Shows none_tunes (got_all octets log) past → CameBelow w.journal past.journal
-waiting-ends old new log w reply none unreleased octets =
+pub waiting-journal : (old : Held) (log : List Moment) (w : WaitsOn old log) → is_msg w.head.kind ≡ false → completes_form Side.Received w.head w.payload (zero_history w.journal) ≡ false
+    → is_released w.journal ≡ false → (octets : List ℕ) (past : Past) → Shows none_tunes (got_all octets log) past → past.journal ≡ passed Side.Received w.head w.payload ∷ w.journal
+waiting-journal old log w reply none unreleased octets past other =
     let k = w.waits.waits in
     let l = w.logged in
     let before = l.logged.shown in
@@ -143,12 +152,16 @@ waiting-ends old new log w reply none unreleased octets =
     takes-true (goes_on before.past && not (is_released before.past.journal)) l.octet before.past after
     (goes-true before.past.fault (is_released before.past.journal) before.going (ap is_released before.journal_is ∙ unreleased)) (inr (inr (inl ends))) in
     let shows : Shows none_tunes log after = subst (λ (x : List Moment). Shows none_tunes x after) (sym l.log_is) (before.past, before.shows, takes) in
-    below-of w.journal (got_all octets log) after (stuck-gots after (fault_at Side.Received before.past Rule.ZeroReply) refl octets log shows)
-    (record {
-      gained = passed Side.Received w.head w.payload ∷ [];
-      journal_is = ap (λ j. passed Side.Received w.head w.payload ∷ j) before.journal_is;
-      none_above = zero-below (w.head.channel == 0) k.zero_is;
-    })
+    ap (λ (p : Past). p.journal) (one-shown none_tunes (got_all octets log) past after other (stuck-gots after (fault_at Side.Received before.past Rule.ZeroReply) refl octets log shows))
+    ∙ ap (λ j. passed Side.Received w.head w.payload ∷ j) before.journal_is
+
+pub waiting-ends : (old : Held) (log : List Moment) (w : WaitsOn old log) → is_msg w.head.kind ≡ false → completes_form Side.Received w.head w.payload (zero_history w.journal) ≡ false
+    → is_released w.journal ≡ false → (octets : List ℕ) (past : Past) → Shows none_tunes (got_all octets log) past → CameBelow w.journal past.journal
+waiting-ends old log w reply none unreleased octets past shows = record {
+  gained = passed Side.Received w.head w.payload ∷ [];
+  journal_is = waiting-journal old log w reply none unreleased octets past shows;
+  none_above = zero-below (w.head.channel == 0) w.waits.waits.zero_is;
+}
 
 -- ---- one that goes on
 

@@ -127,7 +127,7 @@ their-item (began by head) past may = ap (λ (s : Side). same_side s Side.Sent) 
 their-item (passed by head payload) past may = ap (λ (s : Side). same_side s Side.Sent) may.0
 their-item (told by seq) past may = ap (λ (s : Side). same_side s Side.Sent) may.0
 
-none-own : (gained journal : List Item) → Join gained journal → list_any is_own gained ≡ false
+pub none-own : (gained journal : List Item) → Join gained journal → list_any is_own gained ≡ false
 none-own [] journal join = refl
 none-own (item ∷ gained) journal join =
     ap (λ (b : Bool). b || list_any is_own gained) (their-item item (gained ++ journal) join.0) ∙ none-own gained journal join.1

@@ -5,16 +5,17 @@ use Rattle.std.proofs.lemmas.Bool.{eqb-true}
 use Rattle.std.proofs.lemmas.List.Folds.{list_any-append}
 use Rattle.std.proofs.lemmas.Map.Views.{any-filter_same}
 use Rattle.beep_session.specs.beep_frame.specs.declared.kind.Kind.{Kind}
+use Rattle.beep_session.specs.beep_frame.specs.declared.rule.Rule.{Rule}
 use Rattle.beep_session.specs.beep_frame.specs.Frame.{is_msg, same_kind}
 use Rattle.beep_session.specs.beep_history.specs.declared.journal.Side.{Side}
 use Rattle.beep_session.specs.beep_history.specs.Journal.{Item, began, passed, told}
 use Rattle.beep_session.specs.beep_history.specs.Marks.{position_of}
-use Rattle.beep_session.specs.beep_mgmt.specs.Form.{Form}
+use Rattle.beep_session.specs.beep_mgmt.specs.Form.{Form, greeting, start, chosen, close, okay, fault}
 use Rattle.beep_session.specs.beep_mgmt.specs.Message.{message_said}
 use Rattle.beep_session.specs.beep_journal.specs.Broken.{none_tunes}
 use Rattle.beep_session.specs.beep_journal.specs.Journal.{Past, Shows}
 use Rattle.beep_session.specs.beep_journal.specs.Lives.{is_live}
-use Rattle.beep_session.specs.beep_journal.specs.Zero.{zero_history, gathered, asked, said_to, completes_form, events}
+use Rattle.beep_session.specs.beep_journal.specs.Zero.{zero_history, gathered, asked, said_to, has_form, is_refusal, completes_form, events}
 use Rattle.beep_session.specs.beep_journal.specs.Life.{is_released}
 use Rattle.beep_session.specs.beep_journal.specs.Log.{Moment, got_all}
 use Rattle.beep_session.specs.beep_journal.proofs.ShownLemmas.{one-shown}
@@ -50,7 +51,8 @@ use Rattle.beep_steps.specs.Refusing.{refused_so, closing_by, Unrefused, IsUnref
 use Rattle.beep_steps.specs.Steps.{Came, ComesSo, Says, SettledOn, Spoke, is_own}
 use Rattle.beep_steps.proofs.BegunLemmas.{frame-begins}
 use Rattle.beep_steps.proofs.DenialLemmas.{Knows, asked-refuses, listener-goes-on, reply-refuses}
-use Rattle.beep_steps.proofs.GoLemmas.{waiting-of}
+use Rattle.beep_steps.proofs.EndsLemmas.{breaks-journal, waiting-journal}
+use Rattle.beep_steps.proofs.GoLemmas.{none-own, waiting-of}
 use Rattle.beep_steps.proofs.GrowLemmas.{gots-back}
 use Rattle.beep_steps.proofs.NamedLemmas.{none-closes, none-named}
 use Rattle.beep_steps.proofs.RefusalLemmas.{IsNoHeader, begun-same, part-refuses, refusal-first, refusal-same, refusal-stays}
@@ -286,13 +288,59 @@ module _ (bytes : List ℕ) (old : Held) (log : List Moment) (s : StandsOn old l
   feed-unrefused event false e is count new answers =
       absurd (subst (λ (x : Event). Feeds x old.limits.window (take count bytes) s.fed s.journal s.given s.taken new.peer) is (answers s.fed s.rest s.journal s.given s.taken e s.stands.stands))
 
+  -- where what is read breaks a rule, what came before it refused nothing
+  pub broken-unrefused : (event : Event) (released : Bool) → old.peer.released ≡ released → (rule : Rule) (place : ℕ) → event ≡ Event.Broken rule place → (count : ℕ) (new : Held)
+      → ((fed rest : List ℕ) (journal : List Item) (given taken : Marks) → old.peer.released ≡ false → IsPeer old.limits.window fed rest journal given taken old.peer
+      → Feeds event old.limits.window (take count bytes) fed journal given taken new.peer)
+      → (old.peer.released ≡ true → event ≡ Event.Released) → ShowsNoRefusal (terms_of old) (got_all bytes log)
+  broken-unrefused event true e rule place is count new answers rests = absurd (let h : Event.Broken rule place ≡ Event.Released = sym is ∙ rests e in cc)
+  broken-unrefused event false e rule place is count new answers rests = λ past shows.
+      let command = command_of old.role in
+      let b = subst (λ (x : Event). Feeds x old.limits.window (take count bytes) s.fed s.journal s.given s.taken new.peer) is (answers s.fed s.rest s.journal s.given s.taken e s.stands.stands) in
+      let none = gained-unrefused command closing b.gained s.journal b.quiet (none-own b.gained s.journal b.join) (from-log command closing old log s u) in
+      ap (refusal command) (breaks-journal bytes old log s count new rule place (sym s.stands.stands.released ∙ e) b past shows) ∙ none.none
+
+-- ---- what is settled and breaks a rule
+
+-- a reply without the form that its request asks for refuses nothing
+no-fault : (said : Option Form) → is_refusal said ≡ false → fault_code said ≡ None
+no-fault None none = refl
+no-fault (Some (greeting features localize profiles)) none = refl
+no-fault (Some (start number server profiles)) none = refl
+no-fault (Some (chosen profile)) none = refl
+no-fault (Some (close number code note)) none = refl
+no-fault (Some okay) none = refl
+no-fault (Some (fault code note)) none = absurd (let h : true ≡ false = none in cc)
+
+formless-refuses : (kind : Kind) (position : ℕ) (request said : Option Form) → is_msg kind ≡ false → has_form kind position request said ≡ false
+    → (if same_kind Kind.Err kind then fault_code said else None) ≡ None
+formless-refuses Kind.Msg position request said reply none = absurd (let h : true ≡ false = reply in cc)
+formless-refuses Kind.Rpy position request said reply none = refl
+formless-refuses Kind.Err position request said reply none = no-fault said none
+formless-refuses Kind.Ans position request said reply none = refl
+formless-refuses Kind.Nul position request said reply none = refl
+
+module _ (old : Held) (log : List Moment) (w : WaitsOn old log) (reply : is_msg w.head.kind ≡ false) (none : completes_form Side.Received w.head w.payload (zero_history w.journal) ≡ false) where
+  formless-by : (command : Command) → refused_by command w.head (said old log w) w.journal ≡ None
+  formless-by Command.Listen =
+      formless-refuses w.head.kind (position_of Side.Received (zero_history w.journal) w.head) (said_to Side.Received w.head (zero_history w.journal)) (said old log w) reply none
+  formless-by Command.Send =
+      ap (λ (b : Bool). if same_kind Kind.Err w.head.kind then fault_code (said old log w) else (if b && not (has_begun 2 w.journal) then close_code (events w.journal) (said old log w) else None)) reply
+      ∙ formless-refuses w.head.kind (position_of Side.Received (zero_history w.journal) w.head) (said_to Side.Received w.head (zero_history w.journal)) (said old log w) reply none
+
+  pub formless-unrefused : is_released w.journal ≡ false → (closing : Bool) → Unrefused (command_of old.role) closing w.journal → (octets : List ℕ) → ShowsNoRefusal (terms_of old) (got_all octets log)
+  formless-unrefused unreleased closing u octets past shows =
+      let command = command_of old.role in
+      ap (refusal command) (waiting-journal old log w reply none unreleased octets past shows)
+      ∙ refusal-same command (passed Side.Received w.head w.payload) w.journal (item-is old log w command ∙ formless-by command) ∙ u.none
+
 -- ---- what stops it
 
 -- a stop in a read
 pub stop-refuses : (terms : Terms) (stop : Stop) (log : List Entry) (octets : List ℕ) → ShowsNoRefusal terms (moments log) → RefusesOn terms stop (got_all octets (moments log))
     → GoesUnrefused terms (ended_by stop) (read octets ∷ log)
 stop-refuses terms Stop.Released log octets none r = r
-stop-refuses terms (Stop.Broken rule place) log octets none r = none
+stop-refuses terms (Stop.Broken rule place) log octets none r = r
 stop-refuses terms Stop.WriteFault log octets none r = none
 stop-refuses terms Stop.NoMemory log octets none r = inr none
 stop-refuses terms (Stop.Refused code) log octets none r = none
@@ -300,7 +348,7 @@ stop-refuses terms (Stop.Refused code) log octets none r = none
 -- an end that is out of memory tells less of refusals than any other
 pub starved-refuses : (terms : Terms) (cause : Ended) (log : List Entry) → GoesUnrefused terms cause log → GoesUnrefused terms Ended.NoMemory log
 starved-refuses terms Ended.Released log u = inl u
-starved-refuses terms (Ended.Broken rule place) log u = inr u
+starved-refuses terms (Ended.Broken rule place) log u = inl u
 starved-refuses terms Ended.WriteFault log u = inr u
 starved-refuses terms Ended.WireFault log u = inl u
 starved-refuses terms Ended.NoMemory log u = u

@@ -18,7 +18,7 @@ module _ (command : Command) (closing : Bool) (settled : Settled) (log : List Mo
   pub settled-stops : (terms : Terms) → command_of terms.role ≡ command → (octets : List ℕ) (stop : Stop) → RefusesWith (refused_so command closing settled) stop
       → RefusesOn terms stop (got_all octets log)
   settled-stops terms same octets Stop.Released r = absurd r
-  settled-stops terms same octets (Stop.Broken rule place) r = tt
+  settled-stops terms same octets (Stop.Broken rule place) r = absurd r
   settled-stops terms same octets Stop.WriteFault r = tt
   settled-stops terms same octets Stop.NoMemory r = tt
   settled-stops terms same octets (Stop.Refused code) r =

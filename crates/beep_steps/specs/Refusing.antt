@@ -123,12 +123,12 @@ abbrev pub UnrefusedBefore : Terms → List Entry → Type 0
 UnrefusedBefore terms [] = Unit {0}
 UnrefusedBefore terms (entry ∷ log) = ShowsNoRefusal terms (moments log)
 
--- where an end was released, its link failed or came to its end, or the settings ended it, the peer
--- refused nothing; where a rule was broken, it was refused or a write of its output failed, nothing
+-- where an end was released, a rule was broken, its link failed or came to its end, or the settings
+-- ended it, the peer refused nothing; where it was refused or a write of its output failed, nothing
 -- before the latest read; where memory ran out, one or the other
 abbrev pub GoesUnrefused : Terms → Ended → List Entry → Type 0
 GoesUnrefused terms Ended.Released log = ShowsNoRefusal terms (moments log)
-GoesUnrefused terms (Ended.Broken rule place) log = UnrefusedBefore terms log
+GoesUnrefused terms (Ended.Broken rule place) log = ShowsNoRefusal terms (moments log)
 GoesUnrefused terms Ended.WriteFault log = UnrefusedBefore terms log
 GoesUnrefused terms Ended.WireFault log = ShowsNoRefusal terms (moments log)
 GoesUnrefused terms Ended.NoMemory log =
@@ -138,10 +138,10 @@ GoesUnrefused terms (Ended.Cut left) log = ShowsNoRefusal terms (moments log)
 GoesUnrefused terms (Ended.Idle count) log = ShowsNoRefusal terms (moments log)
 GoesUnrefused terms (Ended.Spent count) log = ShowsNoRefusal terms (moments log)
 
--- a stop that is neither a release nor a refusal
+-- a stop for the output or for memory
 abbrev pub IsOtherStop : Stop → Type 0
 IsOtherStop Stop.Released = ⊥
-IsOtherStop (Stop.Broken rule place) = Unit {0}
+IsOtherStop (Stop.Broken rule place) = ⊥
 IsOtherStop Stop.WriteFault = Unit {0}
 IsOtherStop Stop.NoMemory = Unit {0}
 IsOtherStop (Stop.Refused code) = ⊥
@@ -149,16 +149,16 @@ IsOtherStop (Stop.Refused code) = ⊥
 -- the same, but for a refusal with this code
 abbrev pub RefusesWith : Option ℕ → Stop → Type 0
 RefusesWith said Stop.Released = ⊥
-RefusesWith said (Stop.Broken rule place) = Unit {0}
+RefusesWith said (Stop.Broken rule place) = ⊥
 RefusesWith said Stop.WriteFault = Unit {0}
 RefusesWith said Stop.NoMemory = Unit {0}
 RefusesWith said (Stop.Refused code) = said ≡ Some code
 
--- what a log shows of a session that is stopped: one that is released was refused nothing, and a
--- refusal is the peer's
+-- what a log shows of a session that is stopped: one that is released or broke a rule was refused
+-- nothing, and a refusal is the peer's
 abbrev pub RefusesOn : Terms → Stop → List Moment → Type 0
 RefusesOn terms Stop.Released log = ShowsNoRefusal terms log
-RefusesOn terms (Stop.Broken rule place) log = Unit {0}
+RefusesOn terms (Stop.Broken rule place) log = ShowsNoRefusal terms log
 RefusesOn terms Stop.WriteFault log = Unit {0}
 RefusesOn terms Stop.NoMemory log = Unit {0}
 RefusesOn terms (Stop.Refused code) log = ShowsRefused terms code log

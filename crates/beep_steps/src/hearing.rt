@@ -19,7 +19,7 @@ ghost use Rattle.beep_session.specs.beep_history.specs.Journal.{passed};
 ghost use Rattle.beep_steps.specs.Desking.{AsksSo, EndsLinesSo, ComesDesk, DesksOn, DesksWaiting, DesksWithin, SaidDesk};
 ghost use Rattle.beep_steps.specs.Resting.{IsAwake, RestsAfter};
 ghost use Rattle.beep_steps.specs.Speaking.{noted_by, ComesSpeaking, KeepsSpeaking, Notes, SpeaksGone, SpeaksOn, SpeaksWaiting};
-ghost use Rattle.beep_steps.specs.Refusing.{closing_by, ComesUnrefused, IsOtherStop, IsUnrefused, RefusesOn, SettlesSo, Unrefused};
+ghost use Rattle.beep_steps.specs.Refusing.{closing_by, ComesUnrefused, IsUnrefused, RefusesOn, SettlesSo, Unrefused};
 ghost use Rattle.beep_desk.specs.beep_talk.specs.declared.plan.Command.{Command};
 ghost use Rattle.beep_desk.specs.beep_talk.specs.Plan.{PlainPlan};
 
@@ -215,7 +215,9 @@ pub fn settle_message(session: &mut Session) -> Result<Settled, Stop>
     ensures refuses { (command : Command) (closing : Bool) (log : List Moment)
         (w : WaitsOn session.old log) → Unrefused command closing w.journal
         → IfOk result (λ settled. SettlesSo command closing settled log) }
-    ensures unrefusing { IfErr result (λ stop. IsOtherStop stop) }
+    ensures unrefusing { (closing : Bool) (log : List Moment) (octets : List ℕ)
+        (w : WaitsOn session.old log) → Unrefused (command_of session.old.role) closing w.journal
+        → IfErr result (λ stop. RefusesOn (terms_of session.old) stop (got_all octets log)) }
     ensures ends { (log : List Moment) (octets : List ℕ) (w : WaitsOn session.old log)
         → IfErr result (λ stop. EndsSo stop w.journal (got_all octets log)) }
     ensures failed { IfErr result (λ stop. stop ≡ StopValue.WriteFault → ⊥) }

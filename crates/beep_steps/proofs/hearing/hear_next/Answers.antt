@@ -15,7 +15,7 @@ use Rattle.beep_steps.proofs.OnLemmas.{Heard, hears-on}
 use Rattle.beep_steps.proofs.SpeakCalls.{HeardScripted, hears-speaking}
 use Rattle.beep_steps.proofs.DeskAnswers.{FrameCame, HeardDesk, hears-desk}
 use Rattle.beep_steps.specs.declared.hearing.Came.{Came}
-use Rattle.beep_steps.proofs.RefusesLemmas.{comes-unrefused, feed-unrefused}
+use Rattle.beep_steps.proofs.RefusesLemmas.{broken-unrefused, comes-unrefused, feed-unrefused}
 use Rattle.beep_steps.proofs.hearing.hear_next.Goals as goal
 
 pub returns-in-More-clause-heard : goal.returns-in-More-clause-heard
@@ -242,6 +242,13 @@ returns-in-Released-clause-refuses c closing log s u =
     let old = c.args.session.now in
     let f = c.feed-count in
     feed-unrefused c.args.bytes.now old log s closing u f.result.1 old.peer.released refl c.in-Released.is f.result.0 f.new.self f.ensures.answers
+
+pub returns-in-Broken-clause-refuses : goal.returns-in-Broken-clause-refuses
+returns-in-Broken-clause-refuses c closing log s u =
+    let old = c.args.session.now in
+    let f = c.feed-count in
+    broken-unrefused c.args.bytes.now old log s closing u f.result.1 old.peer.released refl c.in-Broken.rule c.in-Broken.place c.in-Broken.is f.result.0 f.new.self f.ensures.answers
+    (λ e. (f.ensures.released e).1)
 
 pub returns-in-More-clause-desk : goal.returns-in-More-clause-desk
 returns-in-More-clause-desk c plan log d =

@@ -7,7 +7,7 @@ use Rattle.beep_steps.proofs.CallLemmas.{settles-logged, settles-on, fault-on, u
 use Rattle.beep_steps.proofs.EndsLemmas.{waiting-ends}
 use Rattle.beep_steps.proofs.GoLemmas.{settled-so}
 use Rattle.beep_steps.proofs.OnLemmas.{fault-goes-on}
-use Rattle.beep_steps.proofs.RefusesLemmas.{settles-so}
+use Rattle.beep_steps.proofs.RefusesLemmas.{formless-unrefused, settles-so}
 use Rattle.beep_steps.proofs.SettleScripts.{settles-scripting}
 use Rattle.beep_steps.proofs.SettleSends.{oldest-waits, settles-sending}
 use Rattle.beep_steps.proofs.ServeCalls.{settles-serving}
@@ -77,7 +77,14 @@ returns-in-Err-Broken-clause-ends c log octets w =
     let k = c.in-Err-Broken in
     let old = c.args.session.now in
     let h = k.ensures.broken w.fed w.journal w.given w.taken w.head w.payload k.rule k.place w.waits (ap Err k.field-0-is) in
-    waiting-ends old c.settle.new.self log w h.2 h.3 (unreleased-waiting old c.settle.new.self k.ensures.same log w) octets
+    waiting-ends old log w h.2 h.3 (unreleased-waiting old c.settle.new.self k.ensures.same log w) octets
+
+pub returns-in-Err-Broken-clause-unrefusing : goal.returns-in-Err-Broken-clause-unrefusing
+returns-in-Err-Broken-clause-unrefusing c closing log octets w u =
+    let k = c.in-Err-Broken in
+    let old = c.args.session.now in
+    let h = k.ensures.broken w.fed w.journal w.given w.taken w.head w.payload k.rule k.place w.waits (ap Err k.field-0-is) in
+    formless-unrefused old log w h.2 h.3 (unreleased-waiting old c.settle.new.self k.ensures.same log w) closing u octets
 
 pub returns-in-Ok-clause-speaking : goal.returns-in-Ok-clause-speaking
 returns-in-Ok-clause-speaking c plan notes log serving w =

@@ -4,6 +4,7 @@ use Rattle.beep_steps.specs.beep_session.specs.Lawfully.{terms_of}
 use Rattle.beep_steps.specs.beep_talk.specs.declared.plan.Command.{Command}
 use Rattle.beep_steps.specs.Logs.{command_of}
 use Rattle.beep_steps.specs.Serving.{ServesOn}
+use Rattle.beep_steps.specs.Refusing.{Unrefused}
 use Rattle.beep_steps.proofs.OnLemmas.{err-map, ok-then}
 use Rattle.beep_listener.specs.Listening.{plan_of, UnrefusedOn}
 use Rattle.beep_listener.proofs.HearLemmas.{does-stops, listens-same, ok-of, settle-stops}
@@ -68,3 +69,7 @@ returns-clause-refuses c log octets w =
     let a = c.args.self.now in
     let k = c.in-Ok.ensures.refuses Command.Listen false log w.on w.unrefused in
     err-map c.does.result _ _ (λ stop r. settled-stops Command.Listen false c.in-Ok.settled log k (terms_of a.session) (ap command_of w.role) octets stop r) c.does.ensures.refuses
+
+pub returns-in-Err-clause-refuses : goal.returns-in-Err-clause-refuses
+returns-in-Err-clause-refuses c log octets w =
+    c.in-Err.ensures.unrefusing false log octets w.on (subst (λ (command : Command). Unrefused command false w.on.journal) (sym (ap command_of w.role)) w.unrefused)

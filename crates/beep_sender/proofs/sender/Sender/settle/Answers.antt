@@ -4,11 +4,14 @@ use Rattle.beep_steps.specs.beep_talk.specs.declared.plan.Command.{Command}
 use Rattle.beep_steps.specs.Logs.{command_of}
 use Rattle.beep_steps.proofs.CallScripts.{with-terms-scripted}
 use Rattle.beep_steps.proofs.CallSends.{with-terms}
+use Rattle.beep_steps.specs.Refusing.{RefusesOn, Unrefused}
 use Rattle.beep_steps.proofs.OnLemmas.{err-map, ok-then}
 use Rattle.beep_steps.proofs.SettledLemmas.{settled-on, settled-stops}
 use Rattle.beep_sender.specs.Sender.{plan_of, progress_of, ScriptsBy, SendsBy}
 use Rattle.beep_sender.proofs.SenderLemmas.{always-ok}
-use Rattle.std.proofs.Common.{ap, sym, subst}
+use Rattle.std.proofs.Common.{◌≡◌, Err, Result, ap, rules, sym, subst}
+use Rattle.std.specs.Result.{IfErr}
+use Rattle.beep_steps.specs.beep_journal.specs.Log.{got_all}
 use Rattle.beep_steps.specs.beep_talk.specs.Plan.{PlainPlan}
 use Rattle.beep_steps.specs.Desking.{DesksWithin}
 use Rattle.beep_steps.specs.Steps.{SettledOn}
@@ -59,3 +62,17 @@ returns-clause-asking c log a =
     let next = settled-asking (plan_of one) one.session new log d w.head w.payload w.journal one.asked settled k (k.taken a.1.1) (e.asks (plan_of one) (progress_of one) log a.0.sends) in
     c.follow.ensures.asking log (with-terms-scripted (plan_of one) (terms_of new) (progress_of one) new log c.settle_message.ensures.terms (e.scripted (plan_of one) (progress_of one) log a.0))
     (subst (λ (p : PlainPlan). AsksSettled p one.asked settled new log) (sym (same-terms one.uri.now one.lines.now one.session new c.settle_message.ensures.terms)) next)
+
+-- what holds of the error
+err-at : {A E : Type 0} (result : Result A E) (error : E) → result ≡ Err error → (P : E → Type 0) → IfErr result P → P error
+err-at {A} {E} result error is P h = subst (λ (r : Result A E). IfErr r P) is h
+
+pub returns-in_err-settled-clause-refuses : goal.returns-in_err-settled-clause-refuses
+returns-in_err-settled-clause-refuses c log octets w u =
+    let one = c.args.self.now in
+    search (
+      rules,
+      err-at c.settle_message.result _ c.in_err-settled.was (λ stop. RefusesOn (terms_of one.session) stop (got_all octets log))
+          (c.settle_message.ensures.unrefusing one.is_closing log octets w.on
+          (subst (λ (command : Command). Unrefused command one.is_closing w.on.journal) (sym (ap command_of w.sender.role)) u)),
+    )
