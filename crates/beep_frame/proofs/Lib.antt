@@ -1,5 +1,6 @@
 pub mod RunLemmas
 pub mod ExcludedLemmas
+pub mod FieldLemmas
 pub mod FindLemmas
 pub mod PartLemmas
 pub mod HeaderLemmas

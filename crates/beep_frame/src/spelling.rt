@@ -2,14 +2,14 @@
 //! was taken before, once.
 ghost use Rattle.std.specs.Prelude.{◌≡◌, ◌+◌, ◌≤◌, ◌++◌, [], ◌∷◌, length};
 ghost use Rattle.beep_octets.specs.Held.{GrowsBy};
+ghost use Rattle.beep_octets.specs.declared.front.TheConstants.{FRONT_MAX};
 ghost use Rattle.beep_frame.specs.Frame.{framed, seq_frame};
 ghost use Rattle.beep_frame.specs.Spelling.{keyword, field, continuation, answer_field, line_end, header_line, header, seq_line, trailer, spelling};
 
 use crate::head::Head;
 use crate::kind::Kind;
 use crate::seq::Seq;
-use beep_octets::Octets;
-use itoa::Buffer;
+use beep_octets::{FRONT_MAX, Front, Octets};
 
 /// The octets of a space and a number of 32 bits, at most.
 const MAX_FIELD: usize = 11;
@@ -39,9 +39,10 @@ pub fn spell(head: &Head, payload: &[u8], out: &mut Octets)
     ensures within { length (spelling (framed head.now payload.now))
         ≤ length payload.now + SPELL_ROOM }
 {
-    append_header(out, head);
+    spell_header_line(head, out);
+    append_line_end(out);
     out.extend_spare(payload);
-    out.extend_spare(b"END\r\n");
+    append_trailer(out);
 }
 
 /// Appends the spelling of a SEQ. It takes no memory.
@@ -52,92 +53,132 @@ pub fn spell_seq(seq: &Seq, out: &mut Octets)
     ensures within { length (spelling (seq_frame seq.now)) ≤ SEQ_ROOM }
 {
     spell_seq_line(seq, out);
-    out.extend_spare(b"\r\n");
+    append_line_end(out);
 }
 
-fn append_header(out: &mut Octets, head: &Head)
-    requires { MAX_HEADER ≤ out.old.spare }
-    ensures appended { out.new.octets ≡ out.old.octets ++ header head.now }
-    ensures room { GrowsBy out.old out.new (length (header head.now)) }
-    ensures within { length (header head.now) ≤ MAX_HEADER }
+fn append_line_end(out: &mut Octets)
+    requires { 2 ≤ out.old.spare }
+    ensures appended { out.new.octets ≡ out.old.octets ++ line_end }
+    ensures room { GrowsBy out.old out.new 2 }
 {
-    spell_header_line(head, out);
-    out.extend_spare(b"\r\n");
+    out.push_spare(b'\r');
+    out.push_spare(b'\n');
+}
+
+fn append_trailer(out: &mut Octets)
+    requires { 5 ≤ out.old.spare }
+    ensures appended { out.new.octets ≡ out.old.octets ++ trailer }
+    ensures room { GrowsBy out.old out.new 5 }
+{
+    out.push_spare(b'E');
+    out.push_spare(b'N');
+    out.push_spare(b'D');
+    out.push_spare(b'\r');
+    out.push_spare(b'\n');
 }
 
 /// Appends a header's text without CRLF. It takes no memory.
-#[tactic(auto, unfolding(crate::specs::Spelling::header_line))]
 pub fn spell_header_line(head: &Head, out: &mut Octets)
     requires room { MAX_HEADER_LINE ≤ out.old.spare }
     ensures appended { out.new.octets ≡ out.old.octets ++ header_line head.now }
     ensures room { GrowsBy out.old out.new (length (header_line head.now)) }
     ensures within { length (header_line head.now) ≤ MAX_HEADER_LINE }
 {
-    out.extend_spare(keyword_of(head.kind));
-    append_field(out, head.channel);
-    append_field(out, head.msgno);
-    append_continuation(out, head.more);
-    append_field(out, head.seqno);
-    append_field(out, head.size);
-    append_answer(out, head.kind, head.ansno);
+    let mut line = Front::new();
+    put_header_line(&mut line, head);
+    out.extend_spare(line.as_slice());
+}
+
+/// Puts a header's text without CRLF before nothing.
+#[tactic(auto, unfolding(crate::specs::Spelling::header_line))]
+fn put_header_line(line: &mut Front, head: &Head)
+    requires { line.old ≡ [] }
+    ensures put { line.new ≡ header_line head.now }
+    ensures within { length (header_line head.now) ≤ MAX_HEADER_LINE }
+{
+    put_answer(line, head.kind, head.ansno);
+    put_field(line, head.size);
+    put_field(line, head.seqno);
+    put_continuation(line, head.more);
+    put_field(line, head.msgno);
+    put_field(line, head.channel);
+    put_keyword(line, head.kind);
 }
 
 /// Appends a SEQ's text without CRLF. It takes no memory.
-#[tactic(auto, unfolding(crate::specs::Spelling::seq_line))]
 pub fn spell_seq_line(seq: &Seq, out: &mut Octets)
     requires room { MAX_SEQ_LINE ≤ out.old.spare }
     ensures appended { out.new.octets ≡ out.old.octets ++ seq_line seq.now }
     ensures room { GrowsBy out.old out.new (length (seq_line seq.now)) }
     ensures within { length (seq_line seq.now) ≤ MAX_SEQ_LINE }
 {
-    out.extend_spare(b"SEQ");
-    append_field(out, seq.channel);
-    append_field(out, seq.ackno);
-    append_field(out, seq.window);
+    let mut line = Front::new();
+    put_seq_line(&mut line, seq);
+    out.extend_spare(line.as_slice());
 }
 
-fn keyword_of(kind: Kind) -> &'static [u8]
-    ensures text { result.now ≡ keyword kind }
-    ensures len { length result.now ≡ 3 }
+/// Puts a SEQ's text without CRLF before nothing.
+#[tactic(auto, unfolding(crate::specs::Spelling::seq_line))]
+fn put_seq_line(line: &mut Front, seq: &Seq)
+    requires { line.old ≡ [] }
+    ensures put { line.new ≡ seq_line seq.now }
+    ensures within { length (seq_line seq.now) ≤ MAX_SEQ_LINE }
+{
+    put_field(line, seq.window);
+    put_field(line, seq.ackno);
+    put_field(line, seq.channel);
+    put_letters(line, b'S', b'E', b'Q');
+}
+
+/// Puts the keyword of a data frame.
+fn put_keyword(line: &mut Front, kind: Kind)
+    requires { length line.old + 3 ≤ FRONT_MAX }
+    ensures put { line.new ≡ keyword kind ++ line.old }
+    ensures within { length (keyword kind) ≡ 3 }
 {
     match kind {
-        Kind::Msg => b"MSG",
-        Kind::Rpy => b"RPY",
-        Kind::Err => b"ERR",
-        Kind::Ans => b"ANS",
-        Kind::Nul => b"NUL",
+        Kind::Msg => put_letters(line, b'M', b'S', b'G'),
+        Kind::Rpy => put_letters(line, b'R', b'P', b'Y'),
+        Kind::Err => put_letters(line, b'E', b'R', b'R'),
+        Kind::Ans => put_letters(line, b'A', b'N', b'S'),
+        Kind::Nul => put_letters(line, b'N', b'U', b'L'),
     }
 }
 
-/// Appends a space and a number, which has at most ten digits.
-fn append_field(out: &mut Octets, number: u32)
-    requires { MAX_FIELD ≤ out.old.spare }
-    ensures appended { out.new.octets ≡ out.old.octets ++ field number }
-    ensures room { GrowsBy out.old out.new (length (field number)) }
+fn put_letters(line: &mut Front, first: u8, second: u8, third: u8)
+    requires { length line.old + 3 ≤ FRONT_MAX }
+    ensures { line.new ≡ first ∷ second ∷ third ∷ line.old }
+{
+    line.put(third);
+    line.put(second);
+    line.put(first);
+}
+
+/// Puts a space and a number, which has at most ten digits.
+fn put_field(line: &mut Front, number: u32)
+    requires { length line.old + MAX_FIELD ≤ FRONT_MAX }
+    ensures put { line.new ≡ field number ++ line.old }
     ensures within { length (field number) ≤ MAX_FIELD }
 {
-    let mut buffer = Buffer::new();
-    out.push_spare(b' ');
-    out.extend_spare(buffer.format(number).as_bytes());
+    line.put_number(number);
+    line.put(b' ');
 }
 
-fn append_continuation(out: &mut Octets, more: bool)
-    requires { 2 ≤ out.old.spare }
-    ensures appended { out.new.octets ≡ out.old.octets ++ 32 ∷ continuation more ∷ [] }
-    ensures room { GrowsBy out.old out.new 2 }
+fn put_continuation(line: &mut Front, more: bool)
+    requires { length line.old + 2 ≤ FRONT_MAX }
+    ensures { line.new ≡ 32 ∷ continuation more ∷ line.old }
 {
-    out.push_spare(b' ');
-    out.push_spare(if more { b'*' } else { b'.' });
+    line.put(if more { b'*' } else { b'.' });
+    line.put(b' ');
 }
 
-fn append_answer(out: &mut Octets, kind: Kind, ansno: u32)
-    requires { MAX_FIELD ≤ out.old.spare }
-    ensures appended { out.new.octets ≡ out.old.octets ++ answer_field kind ansno }
-    ensures room { GrowsBy out.old out.new (length (answer_field kind ansno)) }
+fn put_answer(line: &mut Front, kind: Kind, ansno: u32)
+    requires { length line.old + MAX_FIELD ≤ FRONT_MAX }
+    ensures put { line.new ≡ answer_field kind ansno ++ line.old }
     ensures within { length (answer_field kind ansno) ≤ MAX_FIELD }
 {
     match kind {
-        Kind::Ans => append_field(out, ansno),
+        Kind::Ans => put_field(line, ansno),
         Kind::Msg | Kind::Rpy | Kind::Err | Kind::Nul => {}
     }
 }

@@ -60,6 +60,17 @@ pub(crate) fn move_front(ring: &mut HeapCircularBuffer<u8>, n: usize, out: &mut 
     let (front, back) = ring.as_slices();
     let from_front = n.min(front.len());
     out.extend_spare(&front[..from_front]);
-    out.extend_spare(&back[..n - from_front]);
+    append_any(&back[..n - from_front], out);
     ring.truncate_front(len - n);
+}
+
+/// Appends octets, in the room that is there. Mostly there are none: then nothing is called.
+fn append_any(octets: &[u8], out: &mut Octets)
+    requires spare { length octets.now ≤ out.old.spare }
+    ensures appended { out.new.octets ≡ out.old.octets ++ octets.now }
+    ensures room { KeepsRoom out.old out.new }
+{
+    if !octets.is_empty() {
+        out.extend_spare(octets);
+    }
 }

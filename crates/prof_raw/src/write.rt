@@ -5,16 +5,13 @@ ghost use Rattle.prof_raw.specs.Entries.{body_of, line_end};
 use crate::list::Entries;
 use beep_octets::{NoMemory, Octets};
 
-/// What ends a line.
-const LINE_END: &[u8] = b"\r\n";
-
 /// Appends the body of entries: an empty MIME header, and then each entry, all ended by CR LF.
 pub fn body_of(list: &Entries, out: &mut Octets) -> Result<(), NoMemory>
     ensures appended { OnOk result (out.new.octets ≡ out.old.octets ++ body_of list.now) }
     ensures err { OnErr result (out.new.octets ≡ out.old.octets) }
 {
     out.reserve(list.body_len())?;
-    out.extend_spare(LINE_END);
+    put_line_end(out);
     for i in 0..list.len() {
         put_line(list.entry(i), out);
     }
@@ -28,7 +25,7 @@ pub fn entry_body(entry: &[u8], out: &mut Octets) -> Result<(), NoMemory>
     ensures err { OnErr result (out.new.octets ≡ out.old.octets) }
 {
     out.reserve(entry.len() + 4)?;
-    out.extend_spare(LINE_END);
+    put_line_end(out);
     put_line(entry, out);
     Ok(())
 }
@@ -46,5 +43,14 @@ fn put_line(entry: &[u8], out: &mut Octets)
     ensures room { out.old.spare ≤ out.new.spare + (length entry.now + 2) }
 {
     out.extend_spare(entry);
-    out.extend_spare(LINE_END);
+    put_line_end(out);
+}
+
+fn put_line_end(out: &mut Octets)
+    requires { 2 ≤ out.old.spare }
+    ensures appended { out.new.octets ≡ out.old.octets ++ line_end }
+    ensures room { out.old.spare ≤ out.new.spare + 2 }
+{
+    out.push_spare(b'\r');
+    out.push_spare(b'\n');
 }
