@@ -125,7 +125,7 @@ pub record Fits (count owed : ℕ) (ms : List Message) (mine theirs : Kept) : Ty
 
 -- ---- octets
 
--- each message has at most 1,048,576 octets
+-- each message has at most `MAX_MESSAGE` octets
 abbrev pub AllSmall : List Message → Type 0
 AllSmall [] = Unit {0}
 AllSmall (m ∷ ms) = (length m.octets ≤ MAX_MESSAGE) × AllSmall ms
@@ -136,7 +136,7 @@ sent_of m mine theirs =
     if is_ans m.tag.kind then octets_in m.tag.ansno theirs.answers
     else (if was_more mine then mine.octets else 0)
 
--- the first message has at most 1,048,576 octets with those of it that are sent
+-- the first message has at most `MAX_MESSAGE` octets with those of it that are sent
 abbrev pub IsFirstSmall : List Message → Kept → Kept → Type 0
 IsFirstSmall [] mine theirs = Unit {0}
 IsFirstSmall (m ∷ ms) mine theirs = sent_of m mine theirs + length m.octets ≤ MAX_MESSAGE

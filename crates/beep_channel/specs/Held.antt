@@ -178,7 +178,8 @@ abbrev pub reply_refusal : Held → ℕ → Option GiveError
 reply_refusal c size = give_refusal
     (record { messages = c.queue; limit = limit_of c.number; spare = 0; places = 0 }) size
 
--- why a request of so many octets is refused: 1,024 lack a wholly taken reply, or as a reply
+-- why a request of so many octets is refused: `MAX_REQUESTS` lack a wholly taken reply, or as a
+-- reply
 abbrev pub ask_refusal : Held → ℕ → Option AskError
 ask_refusal c size =
     if nat_le MAX_REQUESTS c.life.given.asked then Some AskError.TooManyAsked

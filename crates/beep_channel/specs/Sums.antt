@@ -47,9 +47,9 @@ abbrev pub filled : List Answer → ℕ
 filled [] = 0
 filled (answer ∷ answers) = if nat_lt 0 answer.octets then filled answers + 1 else filled answers
 
--- from each run on, the ends of answers are at most the octets and 64 more, and that also once each
--- unfinished answer that has octets has ended: the octets of an answer may be taken before its end
--- arrives, but of no more than 64 at a time
+-- from each run on, the ends of answers are at most the octets and `MAX_ANSWERS` more, and that
+-- also once each unfinished answer that has octets has ended: the octets of an answer may be taken
+-- before its end arrives, but of no more than `MAX_ANSWERS` at a time
 abbrev pub AreEndsFew : ℕ → List Run → Type 0
 AreEndsFew unfinished [] = unfinished ≤ MAX_ANSWERS
 AreEndsFew unfinished (r ∷ rs) =

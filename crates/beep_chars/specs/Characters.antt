@@ -1,6 +1,6 @@
 -- Which characters a text may have, and what a name is.
--- Choice: names have letters of ASCII alone, and at most 64 octets (docs/DECISIONS.md, "Names of
--- elements").
+-- Choice: names have letters of ASCII alone, and at most `MAX_NAME` octets (docs/DECISIONS.md,
+-- "Names of elements").
 use Rattle.std.specs.Prelude.{ℕ, Bool, false, ◌&&◌, ◌||◌, nat_le, ◌==◌, List, [], ◌∷◌, length}
 use Rattle.std.specs.List.{list_all}
 use Rattle.beep_chars.specs.declared.limits.TheConstants.{MAX_NAME}

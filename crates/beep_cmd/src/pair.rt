@@ -8,7 +8,7 @@ ghost use Rattle.beep_show.specs.beep_words.specs.declared.command.PairSettings.
 ghost use Rattle.beep_pair.specs.Command.{Sums};
 ghost use Rattle.beep_cmd.specs.Pair.{limits_of, Paired, IsPairing};
 ghost use Rattle.beep_cmd.specs.Pairing.{TellsPair, TellsSchedule};
-ghost use Rattle.beep_show.specs.Show.{run_of};
+ghost use Rattle.beep_show.specs.Show.{run_of, run_by};
 
 use beep_pair::{Limits, Outcome, report, summary};
 use beep_runs::beep_octets::{NoMemory, Octets};
@@ -28,8 +28,8 @@ pub(crate) fn pair<I: Source, O: Sink>(
 ) -> u8
     requires going { (I.state input.old).ended ≡ false }
     requires fit { AreLimits (limits_of settings) }
-    ensures paired { Paired settings result (run_of (I.state input.old) (I.state input.new)
-        (O.state output.old) (O.state output.new)) }
+    ensures paired { let run = run_by I.state O.state input.old output.old input.new output.new in
+        Paired settings result run }
     ensures unwritten { result ≡ 7 → output.new ≡ output.old }
     ensures reads { (I.state input.new).reads ≤ (I.state input.old).reads + (MAX_INPUT + 1) }
     ensures unread { (settings.seed ≡ None) ⊎ (input.new ≡ input.old) }

@@ -5,7 +5,7 @@ ghost use Rattle.beep_show.specs.beep_input.specs.Whole.{ReadsFew};
 ghost use Rattle.beep_show.specs.beep_input.specs.declared.whole.TheConstants.{MAX_INPUT};
 ghost use Rattle.beep_cmd.specs.Judging.{ReportsInput, verdict_status, verdict_line};
 ghost use Rattle.beep_cmd.specs.Replay.{Replayed, IsJudgement};
-ghost use Rattle.beep_show.specs.Show.{run_of};
+ghost use Rattle.beep_show.specs.Show.{run_of, run_by};
 
 use beep_runs::beep_octets::{NoMemory, Octets};
 use beep_runs::beep_record::{RecordError, Verdict, replay_text};
@@ -17,8 +17,8 @@ use std::alloc::Global;
 /// Runs `replay`. It writes nothing before the whole input is judged.
 pub(crate) fn replay<I: Source, O: Sink>(alloc: Global, input: &mut I, output: &mut O) -> u8
     requires going { (I.state input.old).ended ≡ false }
-    ensures replayed { Replayed result (run_of (I.state input.old) (I.state input.new)
-        (O.state output.old) (O.state output.new)) }
+    ensures replayed { let run = run_by I.state O.state input.old output.old input.new output.new in
+        Replayed result run }
     ensures unwritten { result ≡ 7 → output.new ≡ output.old }
     ensures reads { (I.state input.new).reads ≤ (I.state input.old).reads + (MAX_INPUT + 1) }
 {

@@ -8,7 +8,7 @@ ghost use Rattle.beep_show.specs.beep_input.specs.declared.whole.TheConstants.{M
 ghost use Rattle.beep_runs.specs.beep_journal.specs.declared.role.Role.{Role as RoleValue};
 ghost use Rattle.beep_runs.specs.Runs.{seen_by};
 ghost use Rattle.beep_runs.specs.beep_wires.specs.States.{SourceState};
-ghost use Rattle.beep_show.specs.Show.{Shown, Refused, IsPlain, NoFault, run_of};
+ghost use Rattle.beep_show.specs.Show.{Shown, Refused, IsPlain, NoFault, run_of, run_by};
 ghost use Rattle.beep_cmd.specs.Replay.{Replayed, IsLawful};
 ghost use Rattle.beep_cmd.specs.Pair.{Paired, IsRunnable};
 ghost use Rattle.beep_cmd.specs.Ends.{AcceptsAtMost, AreShut, DialsOnce, GivesAtMost, Listened, ReadsWithin, Sent, WritesLawfully};
@@ -36,33 +36,33 @@ pub fn beep_run<I: Source, O: Sink, W: Wires>(
 ) -> u8
     requires going { (I.state input.old).ended ≡ false }
     // What each status comes from.
-    ensures shown { (settings : settings_type) → IsShow settings (map string_bytes words.now)
-        → Shown settings result (run_of (I.state input.old) (I.state input.new)
-        (O.state output.old) (O.state output.new)) }
-    ensures replayed { IsReplay (map string_bytes words.now)
-        → Replayed result (run_of (I.state input.old) (I.state input.new)
-        (O.state output.old) (O.state output.new)) }
-    ensures refused { IsNoCommand (map string_bytes words.now)
-        → Refused result (run_of (I.state input.old) (I.state input.new)
-        (O.state output.old) (O.state output.new)) }
-    ensures complete { (settings : settings_type) (octets : List ℕ)
+    ensures shown { let run = run_by I.state O.state input.old output.old input.new output.new in
+        (settings : settings_type) → IsShow settings (map string_bytes words.now)
+        → Shown settings result run }
+    ensures replayed { let run = run_by I.state O.state input.old output.old input.new output.new in
+        IsReplay (map string_bytes words.now)
+        → Replayed result run }
+    ensures refused { let run = run_by I.state O.state input.old output.old input.new output.new in
+        IsNoCommand (map string_bytes words.now)
+        → Refused result run }
+    ensures complete { let run = run_by I.state O.state input.old output.old input.new output.new in
+        (settings : settings_type) (octets : List ℕ)
         → IsShow settings (map string_bytes words.now)
         → (I.state input.old).left ≡ Some octets → IsPlain settings octets
-        → NoFault (run_of (I.state input.old) (I.state input.new)
-        (O.state output.old) (O.state output.new)) → (result ≡ 0) ⊎ (result ≡ 7) }
+        → NoFault run → (result ≡ 0) ⊎ (result ≡ 7) }
     ensures replay_complete { (octets : List ℕ) → IsReplay (map string_bytes words.now)
         → (I.state input.old).left ≡ Some octets → IsLawful octets
-        → NoFault (run_of (I.state input.old) (I.state input.new)
-        (O.state output.old) (O.state output.new)) → (result ≡ 0) ⊎ (result ≡ 7) }
+        → NoFault (run_by I.state O.state input.old output.old input.new output.new)
+        → (result ≡ 0) ⊎ (result ≡ 7) }
 
-    ensures sent { let seen = seen_by W.state W.counts W.asked W.lent in
+    ensures sent { let run = run_by I.state O.state input.old output.old input.new output.new in
+        let seen = seen_by W.state W.counts W.asked W.lent in
         (settings : end_settings) → IsSend settings (map string_bytes words.now) → Sent settings
-        (seen wires.old) (seen wires.new) result (run_of (I.state input.old) (I.state input.new)
-        (O.state output.old) (O.state output.new)) }
-    ensures listened { let seen = seen_by W.state W.counts W.asked W.lent in
+        (seen wires.old) (seen wires.new) result run }
+    ensures listened { let run = run_by I.state O.state input.old output.old input.new output.new in
+        let seen = seen_by W.state W.counts W.asked W.lent in
         (settings : end_settings) → IsListen settings (map string_bytes words.now) → Listened
-        settings (seen wires.old) (seen wires.new) result (run_of (I.state input.old)
-        (I.state input.new) (O.state output.old) (O.state output.new)) }
+        settings (seen wires.old) (seen wires.new) result run }
     ensures listen_recorded { let seen = seen_by W.state W.counts W.asked W.lent in
         (settings : end_settings) → IsListen settings (map string_bytes words.now)
         → settings.recording ≡ true → ListenRecorded settings (seen wires.old) (seen wires.new)
@@ -71,14 +71,14 @@ pub fn beep_run<I: Source, O: Sink, W: Wires>(
         (settings : end_settings) → IsListen settings (map string_bytes words.now)
         → settings.recording ≡ false → WritesLines settings (seen wires.old) (seen wires.new)
         result (O.state output.old) (O.state output.new) }
-    ensures paired { (settings : pair_settings) → IsPair settings (map string_bytes words.now)
-        → Paired settings result (run_of (I.state input.old) (I.state input.new)
-        (O.state output.old) (O.state output.new)) }
+    ensures paired { let run = run_by I.state O.state input.old output.old input.new output.new in
+        (settings : pair_settings) → IsPair settings (map string_bytes words.now)
+        → Paired settings result run }
     ensures pair_complete { (settings : pair_settings)
         → IsPair settings (map string_bytes words.now)
         → IsRunnable settings (I.state input.old).left
-        → NoFault (run_of (I.state input.old) (I.state input.new)
-        (O.state output.old) (O.state output.new)) → (result ≡ 0) ⊎ (result ≡ 7) }
+        → NoFault (run_by I.state O.state input.old output.old input.new output.new)
+        → (result ≡ 0) ⊎ (result ≡ 7) }
     ensures usage { result ≡ 1 → IsNoCommand (map string_bytes words.now) }
 
     // What is written on each link that was given is lawful, where its log is known.

@@ -7,7 +7,7 @@ ghost use Rattle.beep_runs.specs.beep_link.specs.declared.ended.Ended.{Ended as 
 ghost use Rattle.beep_runs.specs.beep_steps.specs.Resting.{AreShort};
 ghost use Rattle.beep_runs.specs.Runs.{seen_by};
 ghost use Rattle.beep_cmd.specs.Ends.{AreShut, DialsOnce, GivesAtMost, ReadsWithin, SendCause, SendsLines, Sent, WritesLawfully};
-ghost use Rattle.beep_show.specs.Show.{run_of};
+ghost use Rattle.beep_show.specs.Show.{run_by};
 
 use crate::closing::{finish, finish_unlisted};
 use crate::recorded::record_send;
@@ -30,9 +30,9 @@ pub(crate) fn send<I: Source, O: Sink, W: Wires>(
 ) -> u8
     requires fit { AreFit settings.now }
     requires going { (I.state input.old).ended ≡ false }
-    ensures sent { let seen = seen_by W.state W.counts W.asked W.lent in
-        Sent settings.now (seen wires.old) (seen wires.new) result (run_of (I.state input.old)
-        (I.state input.new) (O.state output.old) (O.state output.new)) }
+    ensures sent { let run = run_by I.state O.state input.old output.old input.new output.new in
+        let seen = seen_by W.state W.counts W.asked W.lent in
+        Sent settings.now (seen wires.old) (seen wires.new) result run }
     ensures lawful { let seen = seen_by W.state W.counts W.asked W.lent in
         WritesLawfully RoleValue.Initiator settings.now (seen wires.old) (seen wires.new) }
     ensures shut { let seen = seen_by W.state W.counts W.asked W.lent in

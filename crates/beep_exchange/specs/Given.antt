@@ -32,7 +32,7 @@ least (n ∷ ns) = Some (option_map_or (λ m. min n m) (least ns) n)
 abbrev pub without_least : List ℕ → List ℕ
 without_least ns = option_map_or (λ n. without n ns) (least ns) ns
 
--- the number that a count of messages has on the wire: those of a header go up to 2147483647 (RFC
+-- the number that a count of messages has on the wire: those of a header go up to `MAX_NUMBER` (RFC
 -- 3080, section 2.2.1.1)
 abbrev pub message_number : ℕ → ℕ
 message_number count = count % numbers_31
@@ -110,7 +110,8 @@ pub record IsNextTaken (calls : List Call) (position : ℕ) : Type 0 where
   pub untaken : is_taken position calls ≡ false
   pub least : (earlier : ℕ) → earlier < position → is_taken earlier calls ≡ true
 
--- the end of a request may be taken at the next position, where fewer than 1,024 are owed a reply
+-- the end of a request may be taken at the next position, where fewer than `MAX_REQUESTS` are owed
+-- a reply
 pub record MayTakeRequest (calls : List Call) (position : ℕ) : Type 0 where
   pub next : IsNextTaken calls position
   pub few : length (owed_of calls) < MAX_REQUESTS

@@ -40,9 +40,9 @@ pub fn spell(head: &Head, payload: &[u8], out: &mut Octets)
         ≤ length payload.now + SPELL_ROOM }
 {
     spell_header_line(head, out);
-    append_line_end(out);
+    out.push_few(b"\r\n");
     out.extend_spare(payload);
-    append_trailer(out);
+    out.push_few(b"END\r\n");
 }
 
 /// Appends the spelling of a SEQ. It takes no memory.
@@ -53,28 +53,7 @@ pub fn spell_seq(seq: &Seq, out: &mut Octets)
     ensures within { length (spelling (seq_frame seq.now)) ≤ SEQ_ROOM }
 {
     spell_seq_line(seq, out);
-    append_line_end(out);
-}
-
-fn append_line_end(out: &mut Octets)
-    requires { 2 ≤ out.old.spare }
-    ensures appended { out.new.octets ≡ out.old.octets ++ line_end }
-    ensures room { GrowsBy out.old out.new 2 }
-{
-    out.push_spare(b'\r');
-    out.push_spare(b'\n');
-}
-
-fn append_trailer(out: &mut Octets)
-    requires { 5 ≤ out.old.spare }
-    ensures appended { out.new.octets ≡ out.old.octets ++ trailer }
-    ensures room { GrowsBy out.old out.new 5 }
-{
-    out.push_spare(b'E');
-    out.push_spare(b'N');
-    out.push_spare(b'D');
-    out.push_spare(b'\r');
-    out.push_spare(b'\n');
+    out.push_few(b"\r\n");
 }
 
 /// Appends a header's text without CRLF. It takes no memory.
@@ -102,7 +81,7 @@ fn put_header_line(line: &mut Front, head: &Head)
     put_continuation(line, head.more);
     put_field(line, head.msgno);
     put_field(line, head.channel);
-    put_keyword(line, head.kind);
+    line.put_few(keyword_of(head.kind));
 }
 
 /// Appends a SEQ's text without CRLF. It takes no memory.
@@ -127,31 +106,20 @@ fn put_seq_line(line: &mut Front, seq: &Seq)
     put_field(line, seq.window);
     put_field(line, seq.ackno);
     put_field(line, seq.channel);
-    put_letters(line, b'S', b'E', b'Q');
+    line.put_few(b"SEQ");
 }
 
-/// Puts the keyword of a data frame.
-fn put_keyword(line: &mut Front, kind: Kind)
-    requires { length line.old + 3 ≤ FRONT_MAX }
-    ensures put { line.new ≡ keyword kind ++ line.old }
-    ensures within { length (keyword kind) ≡ 3 }
+fn keyword_of(kind: Kind) -> &'static [u8]
+    ensures text { result.now ≡ keyword kind }
+    ensures len { length result.now ≡ 3 }
 {
     match kind {
-        Kind::Msg => put_letters(line, b'M', b'S', b'G'),
-        Kind::Rpy => put_letters(line, b'R', b'P', b'Y'),
-        Kind::Err => put_letters(line, b'E', b'R', b'R'),
-        Kind::Ans => put_letters(line, b'A', b'N', b'S'),
-        Kind::Nul => put_letters(line, b'N', b'U', b'L'),
+        Kind::Msg => b"MSG",
+        Kind::Rpy => b"RPY",
+        Kind::Err => b"ERR",
+        Kind::Ans => b"ANS",
+        Kind::Nul => b"NUL",
     }
-}
-
-fn put_letters(line: &mut Front, first: u8, second: u8, third: u8)
-    requires { length line.old + 3 ≤ FRONT_MAX }
-    ensures { line.new ≡ first ∷ second ∷ third ∷ line.old }
-{
-    line.put(third);
-    line.put(second);
-    line.put(first);
 }
 
 /// Puts a space and a number, which has at most ten digits.

@@ -66,8 +66,8 @@ breaks_number_in_use side past head =
     begins_request side past head
     && list_any (is_used side past head.msgno) (waiting side past)
 
--- NeverAsked: a reply has the number of none of the last 1,024 requests that have begun (RFC 3080,
--- section 2.2.1).
+-- NeverAsked: a reply has the number of none of the last `MAX_REQUESTS` requests that have begun
+-- (RFC 3080, section 2.2.1).
 -- Choice: an end remembers that many (docs/DECISIONS.md, "Limits of one life")
 abbrev pub breaks_never_asked : Side → List Item → Head → Bool
 breaks_never_asked side past head =
@@ -122,7 +122,7 @@ breaks_nul_too_soon side past head =
 abbrev pub breaks_sequence : Side → List Item → Head → Bool
 breaks_sequence side past head = not (head.seqno == wire_number (passed_octets side past))
 
--- Long: a message of a channel above zero has more than 1,048,576 octets.
+-- Long: a message of a channel above zero has more than `MAX_MESSAGE` octets.
 -- Choice: the standard has no such bound (docs/DECISIONS.md, "Limits of one life")
 abbrev pub breaks_long : Side → List Item → Head → Bool
 breaks_long side past head =
@@ -140,13 +140,13 @@ abbrev pub breaks_empty_answer : Side → List Item → Head → Bool
 breaks_empty_answer side past head =
     is_ans head.kind && not head.more && message_octets side past head == 0
 
--- TooManyRequests: it begins a request, and 1,024 wait for their reply.
+-- TooManyRequests: it begins a request, and `MAX_REQUESTS` wait for their reply.
 -- Choice: the standard has no such bound (docs/DECISIONS.md, "Limits of one life")
 abbrev pub breaks_too_many_requests : Side → List Item → Head → Bool
 breaks_too_many_requests side past head =
     begins_request side past head && nat_le MAX_REQUESTS (length (waiting side past))
 
--- TooManyAnswers: it begins an answer, and 64 of its reply are not complete.
+-- TooManyAnswers: it begins an answer, and `MAX_ANSWERS` of its reply are not complete.
 -- Choice: the standard has no such bound (docs/DECISIONS.md, "Limits of one life")
 abbrev pub breaks_too_many_answers : Side → List Item → Head → Bool
 breaks_too_many_answers side past head =

@@ -108,7 +108,7 @@ pub record IsCaused (cause : Ended) (reads : Reads) (old new : Look) : Type 0 wh
   pub unfailed : cause ≢ Ended.WireFault → new.link.faults ≡ old.link.faults
   pub because : LinkShows cause reads old new
 
--- a fault of the link, or lack of memory: the turns end so at any place
+-- a fault of the link, or out of memory: the turns end so at any place
 abbrev pub IsOfFaults : Ended → Type 0
 IsOfFaults Ended.Released = ⊥
 IsOfFaults (Ended.Broken rule place) = ⊥

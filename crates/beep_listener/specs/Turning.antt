@@ -221,7 +221,7 @@ module _ (session : Held) (bodies : List Body) (buffer : List ℕ) where
 
   -- ---- one that was refused nothing
 
-  -- a listener was told to listen
+  -- a listener is to listen
   as_shown : session.role ≡ Role.Listener → (log : List Moment)
       → IsUnrefused Command.Listen false log → IsUnrefused (command_of session.role) false log
   as_shown role log u =

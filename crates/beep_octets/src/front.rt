@@ -54,6 +54,16 @@ impl Front {
         self.octets[self.at] = octet;
     }
 
+    /// Puts a few octets before the others, in their order.
+    pub fn put_few(&mut self, bytes: &[u8])
+        requires room { length bytes.now + length self.old ≤ FRONT_MAX }
+        ensures { self.new ≡ bytes.now ++ self.old }
+    {
+        for i in 0..bytes.len() {
+            self.put(bytes[bytes.len() - 1 - i]);
+        }
+    }
+
     /// Puts a number before the others, in decimal and without a leading zero.
     pub fn put_number(&mut self, number: u32)
         requires room { length (decimal number) + length self.old ≤ FRONT_MAX }

@@ -93,6 +93,18 @@ impl Octets {
         }
     }
 
+    /// Appends a few octets, one after another, in the room that is there. Of fewer than a dozen it
+    /// costs less than `extend_spare`.
+    pub fn push_few(&mut self, bytes: &[u8])
+        requires { length bytes.now ≤ self.old.spare }
+        ensures appended { self.new.octets ≡ self.old.octets ++ bytes.now }
+        ensures room { self.new.spare + length bytes.now ≡ self.old.spare }
+    {
+        for i in 0..bytes.len() {
+            self.push_spare(bytes[i]);
+        }
+    }
+
     /// Appends `bytes` where they find room, and nothing of them otherwise. It takes no memory.
     pub fn extend_within(&mut self, bytes: &[u8])
         ensures appended { length bytes.now ≤ self.old.spare

@@ -1,4 +1,4 @@
--- A call that is refused, or for which memory is wanting, leaves what an end has to say ready to go.
+-- A call that is refused, or runs out of memory, leaves what an end has to say ready to go.
 use Rattle.std.proofs.Common.{◌≡◌, ℕ, ◌==◌, false, ◌||◌, List, [], ◌∷◌, ◌++◌, length, map, Option, Some, None, refl, sym, ap, ◌∙◌, arith}
 use Rattle.std.specs.Option.{option_map_or}
 use Rattle.std.proofs.lemmas.List.{append_cancel_left}

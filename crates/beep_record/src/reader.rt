@@ -194,7 +194,7 @@ impl Reader {
         })
     }
 
-    /// Ends a line.
+    /// Adds the entry of a line that is whole.
     fn end_line(&mut self, entry: Entry) -> Result<(), NoMemory>
         ensures { OnOk result (state_of self.new
             ≡ with_entry (state_of self.old) (entry_of entry) self.old.over) }

@@ -4,7 +4,7 @@ use beep_peer::beep_channel::AskError;
 use beep_peer::beep_outbox::GiveError;
 use beep_peer::{CloseError, ReleaseError, StartError};
 
-/// What an act is answered. No cause is lack of memory.
+/// What an act is answered. Nothing there is out of memory.
 #[derive(Clone, Copy, Debug, PartialEq, Eq)]
 pub enum Answer {
     /// It is done.

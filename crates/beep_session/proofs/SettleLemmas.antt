@@ -79,7 +79,7 @@ module _ (r : Result Settled SettleError) (new : Peer) where
       → (rule ≡ Rule.ZeroReply) × (place ≡ modulo_2_64 (length fed - 1)) × (is_msg head.kind ≡ false)
       × (completes_form Side.Received head payload (zero_history journal) ≡ false)
 
-  -- where memory is wanting, the message waits still
+  -- where it is out of memory, the message waits still
   abbrev pub WaitsStill : Held → Type 0
   WaitsStill h = (fed : List ℕ) (journal : List Item) (given taken : Marks) (head : Head) (payload : List ℕ)
       → WaitsIn h.limits.window fed journal given taken head payload h.peer → r ≡ Err SettleError.NoMemory

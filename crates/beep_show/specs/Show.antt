@@ -118,6 +118,11 @@ abbrev pub run_of : SourceState → SourceState → SinkState → SinkState → 
 run_of source source_after sink sink_after =
     record { source = source; source_after = source_after; sink = sink; sink_after = sink_after }
 
+-- the same of an input and an output, before and after, by what each says of itself
+abbrev pub run_by : {I O : Type 0} → (I → SourceState) → (O → SinkState) → I → O → I → O → Run
+run_by source sink input output input_after output_after =
+    run_of (source input) (source input_after) (sink output) (sink output_after)
+
 -- some octets were read and some text was written, of which this holds
 pub record Saw (P : List ℕ → List ℕ → Type 0) (run : Run) : Type 0 where
   pub octets : List ℕ

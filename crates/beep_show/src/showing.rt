@@ -4,7 +4,7 @@ ghost use Rattle.beep_frame.specs.Fed.{Fed, nothing_fed};
 ghost use Rattle.beep_wires.specs.States.{SourceState, SinkState};
 ghost use Rattle.beep_show.specs.Listing.{Reads};
 ghost use Rattle.beep_show.specs.Passing.{Passes, Goes};
-ghost use Rattle.beep_show.specs.Show.{Shown, run_of};
+ghost use Rattle.beep_show.specs.Show.{Shown, run_of, run_by};
 ghost use Rattle.beep_words.specs.declared.command.ShowSettings.{ShowSettings as settings_type};
 ghost use Rattle.beep_words.specs.declared.options.TheConstants.{MAX_SETTING};
 
@@ -23,8 +23,8 @@ pub fn show<I: Source, O: Sink>(
     output: &mut O,
 ) -> u8
     requires going { (I.state input.old).ended ≡ false }
-    ensures shown { Shown settings result (run_of (I.state input.old) (I.state input.new)
-        (O.state output.old) (O.state output.new)) }
+    ensures shown { let run = run_by I.state O.state input.old output.old input.new output.new in
+        Shown settings result run }
     ensures no_memory { result ≡ 7 → settings.elements ≡ false
         → (input.new ≡ input.old) × (output.new ≡ output.old) }
     ensures reads { (I.state input.new).reads ≤ (I.state input.old).reads + (settings.octets + 1) }

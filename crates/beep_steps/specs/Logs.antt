@@ -63,7 +63,7 @@ pub record ShowsFault (terms : Terms) (rule : Rule) (place : ℕ) (log : List Mo
   pub place_is : place ≡ modulo_2_64 octet
   pub broken : IsLoggedBroken terms rule octet log
 
--- what an end of this role is told to do: an initiator sends, and a listener listens
+-- what an end of this role is to do: an initiator sends, and a listener listens
 abbrev pub command_of : Role → Command
 command_of Role.Initiator = Command.Send
 command_of Role.Listener = Command.Listen

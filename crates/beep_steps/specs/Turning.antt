@@ -187,7 +187,7 @@ none_on closing session log octets s u past shows =
 -- ---- a sender
 
 module _ (plan : PlainPlan) (progress : Progress) (session : Held) where
-  -- an initiator was told to send
+  -- an initiator is to send
   as_shown : session.role ≡ Role.Initiator → (closing : Bool) (log : List Moment)
       → IsUnrefused Command.Send closing log → IsUnrefused (command_of session.role) closing log
   as_shown role closing log u =

@@ -66,7 +66,7 @@ pub fn kind_of(form: &Mgmt) -> Kind
     }
 }
 
-/// The message of an answer.
+/// What an end gives to channel zero for an answer that it owes.
 pub fn answer_message(answer: OwedAnswer) -> ZeroMessage
     ensures { plain_zero result ≡ answer_message (plain_answer answer) }
 {

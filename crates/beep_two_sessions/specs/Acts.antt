@@ -1,6 +1,6 @@
 -- What the calls of a session do at an end, each as the clauses of the call say it (RFC 3080,
 -- sections 2.1 to 2.3; RFC 3081, section 3.1).
--- A call that is told so may do it or be refused: which one it is, its own clauses say.
+-- A call of that kind may do it or be refused: which one it is, its own clauses say.
 use Rattle.std.specs.Prelude.{◌≡◌, ℕ, ◌||◌, true, false, ◌⊎◌, List, [], ◌∷◌, ◌++◌}
 use Rattle.beep_session.specs.beep_frame.specs.declared.head.Head.{Head}
 use Rattle.beep_session.specs.beep_frame.specs.declared.kind.Kind.{Kind}

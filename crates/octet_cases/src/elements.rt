@@ -44,7 +44,7 @@ fn put_decided(alloc: Global, text: &[u8], out: &mut Octets) -> Result<(), Bad> 
     }
 }
 
-/// The same, where a place within a reference isn't told.
+/// The same, where a place within a reference isn't answered.
 pub(crate) fn put_read(alloc: Global, text: &[u8], out: &mut Octets) -> Result<(), Bad> {
     match read_element(alloc, text) {
         Ok(element) => put_element(&element, out),

@@ -73,11 +73,11 @@ fn octets_asked(schedule: &Schedule) -> u64 {
 
 fn asked_by(event: &PairEvent) -> u64 {
     match event {
-        PairEvent::Do {
-            act: Act::Ask,
-            len,
-            ..
-        } => *len as u64,
-        _ => 0,
+        PairEvent::Do { act, len, .. } if *act == Act::Ask => u64::from(*len),
+        PairEvent::Do { .. }
+        | PairEvent::Send { .. }
+        | PairEvent::Get { .. }
+        | PairEvent::Take { .. }
+        | PairEvent::Drain { .. } => 0,
     }
 }

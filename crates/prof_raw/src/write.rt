@@ -5,13 +5,16 @@ ghost use Rattle.prof_raw.specs.Entries.{body_of, line_end};
 use crate::list::Entries;
 use beep_octets::{NoMemory, Octets};
 
+/// What ends a line.
+const LINE_END: &[u8] = b"\r\n";
+
 /// Appends the body of entries: an empty MIME header, and then each entry, all ended by CR LF.
 pub fn body_of(list: &Entries, out: &mut Octets) -> Result<(), NoMemory>
     ensures appended { OnOk result (out.new.octets ≡ out.old.octets ++ body_of list.now) }
     ensures err { OnErr result (out.new.octets ≡ out.old.octets) }
 {
     out.reserve(list.body_len())?;
-    put_line_end(out);
+    out.push_few(LINE_END);
     for i in 0..list.len() {
         put_line(list.entry(i), out);
     }
@@ -25,7 +28,7 @@ pub fn entry_body(entry: &[u8], out: &mut Octets) -> Result<(), NoMemory>
     ensures err { OnErr result (out.new.octets ≡ out.old.octets) }
 {
     out.reserve(entry.len() + 4)?;
-    put_line_end(out);
+    out.push_few(LINE_END);
     put_line(entry, out);
     Ok(())
 }
@@ -43,14 +46,5 @@ fn put_line(entry: &[u8], out: &mut Octets)
     ensures room { out.old.spare ≤ out.new.spare + (length entry.now + 2) }
 {
     out.extend_spare(entry);
-    put_line_end(out);
-}
-
-fn put_line_end(out: &mut Octets)
-    requires { 2 ≤ out.old.spare }
-    ensures appended { out.new.octets ≡ out.old.octets ++ line_end }
-    ensures room { out.old.spare ≤ out.new.spare + 2 }
-{
-    out.push_spare(b'\r');
-    out.push_spare(b'\n');
+    out.push_few(LINE_END);
 }

@@ -10,7 +10,7 @@ static OPENING: &[u8] = b"beep-record 1 listener\n\
 W RPY 0 0 . 0 52\\r\\nContent-Type: application/beep+xml\\r\\n\\r\\n<greeting />\\r\\nEND\\r\\n\n\
 R RPY 0 0 . 0 52\\r\\nContent-Type: application/beep+xml\\r\\n\\r\\n<greeting />\\r\\nEND\\r\\n\n";
 
-/// A line behind the opening, what is reported after both greetings, and the verdict.
+/// A line after the opening, what is reported after both greetings, and the verdict.
 static CASES: [(&[u8], &[u8], Verdict); 2] = [
     (b"R MSG 0\n", b"frames 1 1 left 5\n", Verdict::Fine),
     (b"R MSG 01\n", b"", Verdict::Broken(Rule::Header, 78)),

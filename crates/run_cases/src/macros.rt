@@ -24,7 +24,7 @@ impl Macros {
         }
     }
 
-    /// Takes a name and its text. A name that is known has this text behind its own, after `; `.
+    /// Takes a name and its text. A name that is known has this text after its own, after `; `.
     pub(crate) fn learn(&mut self, alloc: Global, name: &str, text: &str) -> Result<(), Stop> {
         for named in self.all.iter_mut() {
             if named.name.as_str() == name {
@@ -120,7 +120,7 @@ fn put_with(out: &mut String, text: &str, number: u64) -> Result<(), Stop> {
     Ok(())
 }
 
-/// A number, and what stands after the blank behind it.
+/// A number, and what stands after the blank that follows it.
 pub(crate) fn number_before(text: &str) -> Result<(u64, &str), Stop> {
     let (number, rest) = text.split_once(' ').ok_or(Stop::Line)?;
     Ok((number_of(number)?, rest))

@@ -1,5 +1,5 @@
-//! Runs the cases on its standard input, each by the one call of the program `beep` over a source, a
-//! sink and links in memory, and prints which came out otherwise than they say.
+//! Runs the cases on its standard input, each by the one call of the program `beep` over a source,
+//! a sink and links in memory, and prints which came out otherwise than they say.
 #![tactic(auto)]
 
 mod case;
@@ -74,7 +74,7 @@ impl Book {
             return self.end_case(rt);
         }
         let heard = self.hear(rt.alloc(), line);
-        told(rt, self.lines, heard)
+        pass_on(rt, self.lines, heard)
     }
 
     /// Takes a line of a case, or a name with its text.
@@ -97,7 +97,7 @@ impl Book {
             return Ok(());
         }
         if !self.case.is_run() {
-            return told(rt, self.case.at, Err(Stop::Line));
+            return pass_on(rt, self.case.at, Err(Stop::Line));
         }
         self.tally.try_case(rt, &self.case)?;
         self.case = Case::new(rt.alloc());
@@ -106,7 +106,7 @@ impl Book {
 }
 
 /// Hands on what came of a line, and prints its number where it isn't understood.
-fn told(rt: &HostRuntime, line: u64, heard: Result<(), Stop>) -> Result<(), Stop> {
+fn pass_on(rt: &HostRuntime, line: u64, heard: Result<(), Stop>) -> Result<(), Stop> {
     if let Err(Stop::Line) = heard {
         println!(rt; "line {line} isn't understood")?;
     }

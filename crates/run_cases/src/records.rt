@@ -71,9 +71,9 @@ fn put_octet(out: &mut Octets, octet: u8, spelled: Spelled) -> Result<(), Stop> 
 }
 
 fn after(spelled: Spelled, octet: u8) -> Spelled {
-    match (spelled, octet) {
-        (Spelled::Whole, b'\\') => Spelled::Begun,
-        (Spelled::Begun, b'0'..=b'9' | b'a'..=b'f') => Spelled::Digit,
-        _ => Spelled::Whole,
+    match spelled {
+        Spelled::Whole if octet == b'\\' => Spelled::Begun,
+        Spelled::Begun if octet.is_ascii_digit() || matches!(octet, b'a'..=b'f') => Spelled::Digit,
+        Spelled::Whole | Spelled::Begun | Spelled::Digit => Spelled::Whole,
     }
 }

@@ -20,7 +20,7 @@ pub(crate) fn append_octets(out: &mut Octets, text: &str) -> Result<(), Stop> {
     Ok(())
 }
 
-/// Appends what stands behind a `\`: an octet by its letter or its two digits, and then others.
+/// Appends what stands after a `\`: an octet by its letter or its two digits, and then others.
 fn append_spelled(out: &mut Octets, part: &[u8]) -> Result<(), Stop> {
     let (octet, rest) = match part {
         [b'r', rest @ ..] => (b'\r', rest),

@@ -76,12 +76,12 @@ impl End {
             "say" => self.say(words.number, notes),
             "whole" => self.say_whole(notes),
             "all" => self.say_all(notes),
-            _ => self.is_told(line, notes),
+            _ => self.hears_line(line, notes),
         }
     }
 
     /// The peer says a line, and it is heard.
-    fn is_told(&mut self, line: &str, notes: &mut String) -> Result<(), Stop> {
+    fn hears_line(&mut self, line: &str, notes: &mut String) -> Result<(), Stop> {
         if self.speech.puts(line)? {
             self.hear(notes)
         } else {

@@ -170,7 +170,7 @@ pub fn kind_name(kind: Kind) -> &'static str {
     }
 }
 
-/// The name of a rule.
+/// How a case writes a rule: its name as docs/RULES.md has it.
 pub fn rule_name(rule: Rule) -> &'static str {
     match rule {
         Rule::Header => "Header",

@@ -83,7 +83,7 @@ impl World {
         draw(&mut self.dice, &self.mood)
     }
 
-    /// An end does what it is told.
+    /// An end does its next act.
     pub(crate) fn step(&mut self, who: Who, act: Act) -> Result<(), Stop> {
         match who {
             Who::A => do_act(
@@ -150,7 +150,7 @@ impl World {
     }
 }
 
-/// An end does what it is told; what it hears the other has sent.
+/// An end does an act; what it hears the other has sent.
 fn do_act(
     end: &mut End,
     other: &mut End,

@@ -1,4 +1,4 @@
-//! An end of a link that says what it is told to, and claims nothing.
+//! An end of a link that says what it is made to say, and claims nothing.
 ghost use Rattle.std.specs.Prelude.{◌≡◌, ◌≤◌, ℕ, List, true, IfErr, OnOk};
 ghost use Rattle.beep_wires.specs.Counts.{Rose};
 ghost use Rattle.beep_wires.specs.Log.{Entry};

@@ -58,7 +58,7 @@ pub(super) fn closed_early(is_closing: bool, settled: &Settled) -> Option<u16>
     }
 }
 
-/// What stops a session where memory is wanting.
+/// What stops a session that is out of memory.
 pub(super) fn stopped(asked: Result<(), NoMemory>) -> Result<(), Stop>
     ensures err { IfErr result (λ stop. stop ≡ StopValue.NoMemory) }
     ensures ok { IfOk result (λ unit. asked ≡ Ok unit) }

@@ -1,5 +1,6 @@
 //! What a sender takes of a frame that arrives: all of it, and it uses none.
-ghost use Rattle.std.specs.Prelude.{◌≡◌, ◌<◌, ◌^◌, List, length};
+ghost use Rattle.std.specs.Prelude.{◌≡◌, ◌<◌, List, length};
+ghost use Rattle.beep_steps.specs.beep_session.specs.beep_octets.specs.Numbers.{numbers_32};
 ghost use Rattle.beep_steps.specs.beep_journal.specs.Log.{Moment};
 ghost use Rattle.beep_steps.specs.beep_talk.specs.Plan.{PlainPlan};
 ghost use Rattle.beep_sender.specs.Asking.{TakesFrame};
@@ -14,7 +15,7 @@ use beep_steps::take_part;
 /// Takes all that has arrived on a channel. A frame is one part of a message, or several.
 pub(super) fn take_all(session: &mut Session, number: u32, buf: &mut [u8])
     requires some { 0 < length buf.old }
-    requires fits { length buf.old < 2 ^ 32 }
+    requires fits { length buf.old < numbers_32 }
     ensures stays { StaysOn session.old session.new }
     ensures sending { (plan : PlainPlan) (p : Progress)
         → KeepsSending plan p p session.old session.new }
