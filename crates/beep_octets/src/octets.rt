@@ -93,8 +93,7 @@ impl Octets {
         }
     }
 
-    /// Appends a few octets, one after another, in the room that is there. Of fewer than a dozen it
-    /// costs less than `extend_spare`.
+    /// Appends a few octets, one after another, in the room that is there.
     pub fn push_few(&mut self, bytes: &[u8])
         requires { length bytes.now ≤ self.old.spare }
         ensures appended { self.new.octets ≡ self.old.octets ++ bytes.now }
