@@ -6,13 +6,12 @@ ghost use Rattle.beep_management.specs.beep_text.specs.declared.limits.TheConsta
 ghost use Rattle.beep_management.specs.beep_mgmt.specs.Form.{form_of, plain_profile, chosen, okay};
 ghost use Rattle.beep_management.specs.beep_mgmt.specs.Written.{is_writable, comes_back};
 ghost use Rattle.beep_management.specs.beep_mgmt.specs.Message.{message_text};
-ghost use Rattle.beep_management.specs.beep_decide.specs.Decide.{note_of};
 ghost use Rattle.beep_management.specs.beep_decide.specs.Plain.{plain_offer};
 ghost use Rattle.beep_answering.specs.Sent.{is_uri, plain_listed, greeting_of, refusal_of, closing_of, IsMessage};
 ghost use Rattle.beep_answering.specs.declared.offers.TheConstants.{MAX_OFFERS};
 
 use beep_management::beep_chars::Text;
-use beep_management::beep_decide::Offer;
+use beep_management::beep_decide::{Offer, note_of};
 use beep_management::beep_mgmt::laws::the_value_said_is_that_of_the_message;
 use beep_management::beep_mgmt::{Encoding, Mgmt, Profile, Profiles, SUCCESS, write_mgmt};
 use beep_management::beep_octets::{NoMemory, Octets};
@@ -107,20 +106,4 @@ fn listed(alloc: Global, offer: &Offer) -> Result<Profile, NoMemory>
         content: Octets::new(alloc),
         readable: true,
     })
-}
-
-/// The text that goes with a code.
-fn note_of(code: u16) -> &'static str
-    ensures { chars result.now ≡ note_of code }
-{
-    match code {
-        450 | 550 => "requested action not taken",
-        451 => "requested action aborted",
-        500 => "general syntax error",
-        501 => "syntax error in parameters",
-        504 => "parameter not implemented",
-        537 => "action not authorized for user",
-        553 => "parameter invalid",
-        _ => "",
-    }
 }

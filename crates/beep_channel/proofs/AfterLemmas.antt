@@ -12,27 +12,27 @@ use Rattle.beep_exchange.specs.declared.answer.Answer.{Answer}
 use Rattle.beep_exchange.specs.Kept.{Kept, begins, is_open, continued, completed}
 use Rattle.beep_outbox.specs.Queue.{Message}
 use Rattle.beep_channel.specs.Fits.{replies, asks, so_far_after, IsRun, AreBack, current, OneAnswer, IsWhole, IsBegun, as_number, mine_after, theirs_after, count_after}
-use Rattle.beep_channel.proofs.JudgedLemmas.{same-number, behind-take}
+use Rattle.beep_channel.proofs.JudgedLemmas.{same-number, after-take}
 
 -- ---- the numbers of own requests
 
-behind-more : (count back : ℕ) (ns : List ℕ) → AreBack count back ns → AreBack (count + 1) (back + 1) ns
-behind-more count back [] b = tt
-behind-more count back (n ∷ ns) b = (b.0, one-on n back count b.1, behind-more count (back + 1) ns b.2)
+after-more : (count back : ℕ) (ns : List ℕ) → AreBack count back ns → AreBack (count + 1) (back + 1) ns
+after-more count back [] b = tt
+after-more count back (n ∷ ns) b = (b.0, one-on n back count b.1, after-more count (back + 1) ns b.2)
   where
     one-on : (n back count : ℕ) → (n + back) % 2 ^ 31 ≡ count % 2 ^ 31 → (n + (back + 1)) % 2 ^ 31 ≡ (count + 1) % 2 ^ 31
     one-on n back count e = omega (arith, e)
 
-behind-new : (count : ℕ) (ns : List ℕ) → AreBack count 1 ns → AreBack (count + 1) 1 (count % 2 ^ 31 ∷ ns)
-behind-new count ns b = (omega arith, omega arith, behind-more count 1 ns b)
+after-new : (count : ℕ) (ns : List ℕ) → AreBack count 1 ns → AreBack (count + 1) 1 (count % 2 ^ 31 ∷ ns)
+after-new count ns b = (omega arith, omega arith, after-more count 1 ns b)
 
-module _ (count : ℕ) (mine : Kept) (head : Head) (behind : AreBack count 1 mine.numbers) where
-  pub after-behind : (begins mine head ≡ true → head.msgno ≡ count % 2 ^ 31) → AreBack (count_after count mine head) 1 (mine_after mine head).numbers
-  after-behind number = of (begins mine head) number
+module _ (count : ℕ) (mine : Kept) (head : Head) (later : AreBack count 1 mine.numbers) where
+  pub after-after : (begins mine head ≡ true → head.msgno ≡ count % 2 ^ 31) → AreBack (count_after count mine head) 1 (mine_after mine head).numbers
+  after-after number = of (begins mine head) number
     where
       of : (b : Bool) → (b ≡ true → head.msgno ≡ count % 2 ^ 31) → AreBack (if b then count + 1 else count) 1 (if b then take MAX_REQUESTS (head.msgno ∷ mine.numbers) else mine.numbers)
-      of true e = rw (e refl) (behind-take (count + 1) MAX_REQUESTS 1 (count % 2 ^ 31 ∷ mine.numbers) (behind-new count mine.numbers behind))
-      of false e = behind
+      of true e = rw (e refl) (after-take (count + 1) MAX_REQUESTS 1 (count % 2 ^ 31 ∷ mine.numbers) (after-new count mine.numbers later))
+      of false e = later
 
   pub after-within : (begins mine head ≡ true → mine.waiting < MAX_REQUESTS) → mine.waiting ≤ length mine.numbers → (mine_after mine head).waiting ≤ length (mine_after mine head).numbers
   after-within room within = of (begins mine head) room

@@ -76,14 +76,14 @@ closed-octets tag [] = refl
 closed-octets tag (o ∷ []) = refl
 closed-octets tag (o ∷ p ∷ os) = closed-octets tag (p ∷ os)
 
-closed-behind : (xs : List Mark) (tag : Tag) (os : List ℕ) → is_closed (xs ++ (map (octet tag) os ++ end tag ∷ [])) ≡ not (is_ans tag.kind)
-closed-behind [] tag os = closed-octets tag os
-closed-behind (octet t v ∷ []) tag [] = refl
-closed-behind (octet t v ∷ []) tag (o ∷ os) = closed-octets tag (o ∷ os)
-closed-behind (end t ∷ []) tag [] = refl
-closed-behind (end t ∷ []) tag (o ∷ os) = closed-octets tag (o ∷ os)
-closed-behind (octet t v ∷ y ∷ xs) tag os = closed-behind (y ∷ xs) tag os
-closed-behind (end t ∷ y ∷ xs) tag os = closed-behind (y ∷ xs) tag os
+closed-after : (xs : List Mark) (tag : Tag) (os : List ℕ) → is_closed (xs ++ (map (octet tag) os ++ end tag ∷ [])) ≡ not (is_ans tag.kind)
+closed-after [] tag os = closed-octets tag os
+closed-after (octet t v ∷ []) tag [] = refl
+closed-after (octet t v ∷ []) tag (o ∷ os) = closed-octets tag (o ∷ os)
+closed-after (end t ∷ []) tag [] = refl
+closed-after (end t ∷ []) tag (o ∷ os) = closed-octets tag (o ∷ os)
+closed-after (octet t v ∷ y ∷ xs) tag os = closed-after (y ∷ xs) tag os
+closed-after (end t ∷ y ∷ xs) tag os = closed-after (y ∷ xs) tag os
 
 -- ---- the numbers of answers
 
@@ -153,7 +153,7 @@ module _ (z : Bool) (g : Given) (given taken : List Mark) (c : IsCounted z g giv
         numbered = numbers Kind.Msg n0;
         answers = c.answers ∙ ap answer_number (sym (answers-now Kind.Msg));
         answering = c.answering;
-        closed = λ _. closed-behind given (record { kind = Kind.Msg; request = place; ansno = ansno }) octets;
+        closed = λ _. closed-after given (record { kind = Kind.Msg; request = place; ansno = ansno }) octets;
       }
 
   -- a whole reply
@@ -172,7 +172,7 @@ module _ (z : Bool) (g : Given) (given taken : List Mark) (c : IsCounted z g giv
         numbered = numbers k numbered;
         answers = (let z : answers_with k (answers_after 0 given) ≡ 0 = rw (ka, km) refl in ap answer_number (sym (answers-now k ∙ z)));
         answering = λ e. cc;
-        closed = λ _. closed-behind given (record { kind = k; request = place; ansno = ansno }) octets ∙ rw ka refl;
+        closed = λ _. closed-after given (record { kind = k; request = place; ansno = ansno }) octets ∙ rw ka refl;
       }
 
   pub counted-reply : (k : Kind) → is_msg k ≡ false → place ≡ g.first_owed → 0 < g.owed

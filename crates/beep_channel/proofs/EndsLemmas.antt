@@ -21,7 +21,7 @@ use Rattle.beep_exchange.specs.Exchange.{Life, IsExchange, current, answer_of}
 use Rattle.beep_exchange.proofs.AskerLemmas.{current-is}
 use Rattle.beep_inbox.specs.Runs.{Run, octets_of, joins, joined, has_mark, put_after, put_run, left_runs}
 use Rattle.beep_channel.specs.Sums.{ended_of, filled, AreEndsFew}
-use Rattle.beep_channel.proofs.BehindLemmas.{ended-behind, octets-behind}
+use Rattle.beep_channel.proofs.LaterLemmas.{ended-after, octets-after}
 use Rattle.beep_channel.proofs.SumsLemmas.{no-octets}
 
 -- ---- few ends
@@ -65,8 +65,8 @@ take-few v n r rs f = of (nat_lt n (length r.octets)) refl
 
 -- a run is put
 module _ (v w : ℕ) (r : Run) (most : w ≤ MAX_ANSWERS) (sum : (if r.ended && is_ans r.tag.kind then 1 else 0) + w ≤ v + length r.octets) where
-  behind-all : (rs : List Run) → AreEndsFew v rs → ended_of is_ans (put_after rs r) + w ≤ octets_of (put_after rs r) + MAX_ANSWERS
-  behind-all rs f = let a = few-all v rs f in let e = ended-behind is_ans rs r in let o = octets-behind rs r in omega (arith, a, e, o, sum)
+  after-all : (rs : List Run) → AreEndsFew v rs → ended_of is_ans (put_after rs r) + w ≤ octets_of (put_after rs r) + MAX_ANSWERS
+  after-all rs f = let a = few-all v rs f in let e = ended-after is_ans rs r in let o = octets-after rs r in omega (arith, a, e, o, sum)
 
   alone : v ≤ MAX_ANSWERS → AreEndsFew w (r ∷ [])
   alone p = (of (r.ended && is_ans r.tag.kind) sum, most)
@@ -75,21 +75,21 @@ module _ (v w : ℕ) (r : Run) (most : w ≤ MAX_ANSWERS) (sum : (if r.ended && 
       of true s = omega (arith, s, p)
       of false s = omega (arith, s, p)
 
-  few-behind : (rs : List Run) → AreEndsFew v rs → AreEndsFew w (put_after rs r)
-  few-behind [] f = alone f
-  few-behind (last ∷ []) f = of (joins r last) (behind-all (last ∷ []) f)
+  few-after : (rs : List Run) → AreEndsFew v rs → AreEndsFew w (put_after rs r)
+  few-after [] f = alone f
+  few-after (last ∷ []) f = of (joins r last) (after-all (last ∷ []) f)
     where
       of : (b : Bool) → ended_of is_ans (if b then joined last r ∷ [] else last ∷ r ∷ []) + w ≤ octets_of (if b then joined last r ∷ [] else last ∷ r ∷ []) + MAX_ANSWERS
           → AreEndsFew w (if b then joined last r ∷ [] else last ∷ r ∷ [])
       of true a = (a, most)
       of false a = (a, alone (few-none v (last ∷ []) f))
-  few-behind (first ∷ next ∷ rs) f = (behind-all (first ∷ next ∷ rs) f, few-behind (next ∷ rs) f.1)
+  few-after (first ∷ next ∷ rs) f = (after-all (first ∷ next ∷ rs) f, few-after (next ∷ rs) f.1)
 
   pub put-few : (rs : List Run) → AreEndsFew v rs → AreEndsFew w (put_run rs r)
   put-few rs f = of (has_mark r) refl
     where
       of : (b : Bool) → has_mark r ≡ b → AreEndsFew w (if b then put_after rs r else rs)
-      of true e = few-behind rs f
+      of true e = few-after rs f
       of false e = few-less v w rs (let n = no-octets rs r e in let s = sum in omega (arith, s, n)) f
 
 -- ---- answers with octets
@@ -198,16 +198,16 @@ module _ (life : Life) (past : List Item) (s : IsExchange life past) where
       let n : length life.sent.answers ≡ length (unfinished frames) = ap length answers-are ∙ length-map (unfinished frames) (answer_of frames) in
       let l = filled-length life.sent.answers in omega (arith, f, n, l)
 
-none-behind : (xs ys : List (Rule × Bool)) → first_of (xs ++ ys) ≡ None → first_of ys ≡ None
-none-behind [] ys e = e
-none-behind ((rule, true) ∷ xs) ys e = cc
-none-behind ((rule, false) ∷ xs) ys e = none-behind xs ys e
+none-after : (xs ys : List (Rule × Bool)) → first_of (xs ++ ys) ≡ None → first_of ys ≡ None
+none-after [] ys e = e
+none-after ((rule, true) ∷ xs) ys e = cc
+none-after ((rule, false) ∷ xs) ys e = none-after xs ys e
 
 -- a header that breaks no rule ends no answer without octets
 pub judged-full : (mine theirs : Kept) (head : Head) → judged mine theirs head ≡ None → breaks_empty_answer theirs head ≡ false
 unfolding judged
 judged-full mine theirs head e =
-    (pass Rule.EmptyAnswer (breaks_empty_answer theirs head) _ (none-behind (shape_tests mine theirs head) (limit_tests mine theirs head) e)).0
+    (pass Rule.EmptyAnswer (breaks_empty_answer theirs head) _ (none-after (shape_tests mine theirs head) (limit_tests mine theirs head) e)).0
 
 -- a frame that arrives ends an answer, or adds one that has octets, within its octets
 pub arrive-sum : (sent : Kept) (head : Head) → IsApart (map (λ (a : Answer). a.number) sent.answers) → breaks_empty_answer sent head ≡ false

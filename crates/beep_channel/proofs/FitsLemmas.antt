@@ -11,7 +11,7 @@ use Rattle.beep_outbox.specs.Queue.{Message}
 use Rattle.beep_channel.specs.Fits.{asks, replies, so_far_after, IsRun, current, was_more, OneAnswer, IsWhole, IsBegun, Fits, next_number, IsCut, mine_after, theirs_after, left_of, count_after, is_shaped}
 use Rattle.beep_channel.proofs.JudgedLemmas.{on-begins}
 use Rattle.beep_channel.proofs.NextLemmas.{whole-next, begun-next, reply-owes}
-use Rattle.beep_channel.proofs.AfterLemmas.{Next, After, after-any, after-behind, after-within, one-new, one-more, one-done}
+use Rattle.beep_channel.proofs.AfterLemmas.{Next, After, after-any, after-after, after-within, one-new, one-more, one-done}
 
 pub first-of : (x y : Message) (xs ys : List Message) → x ∷ xs ≡ y ∷ ys → x ≡ y
 first-of x y xs ys e = cc
@@ -191,7 +191,7 @@ module _ (mine theirs : Kept) (channel seqno size ansno place : ℕ) (octets : L
       = after-any mine theirs channel (next_number count k mine theirs) seqno size ansno place octets ms owed fits.kept fits.apart k (nat_lt size (length octets)) refl n in
       record {
         idle = refl;
-        counted = after-behind count mine the-next fits.counted numbered;
+        counted = after-after count mine the-next fits.counted numbered;
         within = after-within count mine the-next fits.counted roomy fits.within;
         own = own-on;
         demand = a.demand;

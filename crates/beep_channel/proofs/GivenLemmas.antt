@@ -23,7 +23,7 @@ use Rattle.beep_channel.specs.Stands.{HeldStands, Stands, IsCounted, first_own, 
 use Rattle.beep_channel.proofs.GiveLemmas.{give-fits}
 use Rattle.beep_channel.proofs.PassLemmas.{ask-sums, reply-given, answer-given}
 use Rattle.beep_channel.proofs.SmallLemmas.{give-small}
-use Rattle.beep_channel.proofs.OpenLemmas.{end-behind}
+use Rattle.beep_channel.proofs.OpenLemmas.{end-after}
 
 -- ---- tags
 
@@ -31,16 +31,16 @@ one-more : (b : Bool) (n m : ℕ) → (if b then n + 1 else n) + m ≡ n + (if b
 one-more true n m = omega arith
 one-more false n m = refl
 
-tagged-behind : (own reply : ℕ) (ms : List Message) (m : Message) → IsTagged own reply ms
+tagged-after : (own reply : ℕ) (ms : List Message) (m : Message) → IsTagged own reply ms
     → m.tag ≡ modulo_2_64 (tag_at (own + asks ms) (reply + replies ms) m) → IsTagged own reply (ms ++ m ∷ [])
-tagged-behind own reply [] m t e = (
+tagged-after own reply [] m t e = (
   e ∙ ap (λ (a : ℕ). modulo_2_64 (tag_at a (reply + 0) m)) (let h : own + 0 ≡ own = omega arith in h)
       ∙ ap (λ (b : ℕ). modulo_2_64 (tag_at own b m)) (let h : reply + 0 ≡ reply = omega arith in h),
   tt,
 )
-tagged-behind own reply (x ∷ ms) m t e = (
+tagged-after own reply (x ∷ ms) m t e = (
   t.0,
-  tagged-behind (if is_msg x.tag.kind then own + 1 else own) (if ends_reply x.tag.kind then reply + 1 else reply) ms m t.1
+  tagged-after (if is_msg x.tag.kind then own + 1 else own) (if ends_reply x.tag.kind then reply + 1 else reply) ms m t.1
       (e ∙ ap (λ (a : ℕ). modulo_2_64 (tag_at a (reply + replies (x ∷ ms)) m)) (sym (one-more (is_msg x.tag.kind) own (asks ms)))
       ∙ ap (λ (b : ℕ). modulo_2_64 (tag_at ((if is_msg x.tag.kind then own + 1 else own) + asks ms) b m)) (sym (one-more (ends_reply x.tag.kind) reply (replies ms)))),
 )
@@ -49,9 +49,9 @@ no-more : (xs : List Mark) → xs ++ [] ≡ xs
 no-more [] = refl
 no-more (x ∷ xs) = ap (λ (l : List Mark). x ∷ l) (no-more xs)
 
-marks-behind : (ms : List Message) (m : Message) → marks_of (ms ++ m ∷ []) ≡ marks_of ms ++ message_marks m
-marks-behind [] m = no-more (message_marks m)
-marks-behind (x ∷ ms) m = ap (λ (l : List Mark). message_marks x ++ l) (marks-behind ms m) ∙ sym (append_assoc (message_marks x) (marks_of ms) (message_marks m))
+marks-after : (ms : List Message) (m : Message) → marks_of (ms ++ m ∷ []) ≡ marks_of ms ++ message_marks m
+marks-after [] m = no-more (message_marks m)
+marks-after (x ∷ ms) m = ap (λ (l : List Mark). message_marks x ++ l) (marks-after ms m) ∙ sym (append_assoc (message_marks x) (marks_of ms) (message_marks m))
 
 -- ---- octets
 
@@ -146,9 +146,9 @@ module _ (size : ℕ) (c : Held) (past : List Item) (s : HeldStands size c past)
         (omega (arith, sum))
         (λ k. let q : c.life.given.asked < 1024 = few k in let a = s.sums.asked in let r = s.sums.replied in omega (arith, q, a, r)));
     sums = sums;
-    tagged = tagged-behind (first_own count c.life.sent) (first_reply theirs c.life.received) c.queue m s.tagged tag;
+    tagged = tagged-after (first_own count c.life.sent) (first_reply theirs c.life.received) c.queue m s.tagged tag;
     small = λ z. give-small c.queue m c.life.sent c.life.received count (c.life.given.owed + ended) s.fits (fits-limit c (length m.octets) fine z) (s.small z);
-    answers = end-behind c.life.received.kind c.queue m ∙ ap (λ (o : Option Kind). so_far_after o m.tag.kind) s.answers ∙ answers;
+    answers = end-after c.life.received.kind c.queue m ∙ ap (λ (o : Option Kind). so_far_after o m.tag.kind) s.answers ∙ answers;
     answering = answering;
     own_implied = s.own_implied;
     their_implied = s.their_implied;
@@ -164,7 +164,7 @@ give-marks size c past given taken m held t q i h n = record {
   held = h;
   all_given = ap (λ (xs : List Mark). xs ++ message_marks m) t.all_given
       ∙ append_assoc (map mark_modulo_2_64 (marks Side.Sent past)) (marks_of c.queue) (message_marks m)
-      ∙ ap (λ (xs : List Mark). map mark_modulo_2_64 (marks Side.Sent past) ++ xs) (sym (marks-behind c.queue m))
+      ∙ ap (λ (xs : List Mark). map mark_modulo_2_64 (marks Side.Sent past) ++ xs) (sym (marks-after c.queue m))
       ∙ ap (λ (ms : List Message). map mark_modulo_2_64 (marks Side.Sent past) ++ marks_of ms) (sym q);
   all_arrived = rw i t.all_arrived;
   counted = n;

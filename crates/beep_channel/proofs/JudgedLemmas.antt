@@ -72,20 +72,20 @@ equal a b h = grind (arith, nat_tests)
 
 -- no number of the last ones is that of the next request
 module _ (count : ℕ) where
-  pub behind-none : (back : ℕ) (ns : List ℕ) → 0 < back → back + length ns ≤ 2 ^ 31 → AreBack count back ns → has_number (count % 2 ^ 31) ns ≡ false
-  behind-none back [] p few b = refl
-  behind-none back (n ∷ ns) p few b =
+  pub after-none : (back : ℕ) (ns : List ℕ) → 0 < back → back + length ns ≤ 2 ^ 31 → AreBack count back ns → has_number (count % 2 ^ 31) ns ≡ false
+  after-none back [] p few b = refl
+  after-none back (n ∷ ns) p few b =
       let few' : (back + 1) + length ns ≤ 2 ^ 31 = omega arith in
       let apart : (n == count % 2 ^ 31) ≡ false = not-that n back count p (omega arith) b.0 b.1 in
-      rw (apart, behind-none (back + 1) ns (omega arith) few' b.2) refl
+      rw (apart, after-none (back + 1) ns (omega arith) few' b.2) refl
     where
       not-that : (n back count : ℕ) → 0 < back → back < 2 ^ 31 → n < 2 ^ 31 → (n + back) % 2 ^ 31 ≡ count % 2 ^ 31 → (n == count % 2 ^ 31) ≡ false
       not-that n back count p q r e = false_from_ne_true _ (λ h. let same : n ≡ count % 2 ^ 31 = equal n _ h in absurd (omega (arith, same, e)))
 
-  pub behind-take : (w back : ℕ) (ns : List ℕ) → AreBack count back ns → AreBack count back (take w ns)
-  behind-take zero back ns b = tt
-  behind-take (suc w) back [] b = tt
-  behind-take (suc w) back (n ∷ ns) b = (b.0, b.1, behind-take w (back + 1) ns b.2)
+  pub after-take : (w back : ℕ) (ns : List ℕ) → AreBack count back ns → AreBack count back (take w ns)
+  after-take zero back ns b = tt
+  after-take (suc w) back [] b = tt
+  after-take (suc w) back (n ∷ ns) b = (b.0, b.1, after-take w (back + 1) ns b.2)
 
 -- ---- the number of the oldest that waits
 

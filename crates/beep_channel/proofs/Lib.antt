@@ -3,7 +3,7 @@ pub mod NextLemmas
 pub mod AfterLemmas
 pub mod FitsLemmas
 pub mod GiveLemmas
-pub mod BehindLemmas
+pub mod LaterLemmas
 pub mod SumsLemmas
 pub mod CountedLemmas
 pub mod PassLemmas

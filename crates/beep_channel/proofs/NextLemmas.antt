@@ -14,7 +14,7 @@ use Rattle.beep_exchange.specs.Kept.{Kept, begins, is_open, has_number, is_curre
 use Rattle.beep_outbox.specs.Queue.{Message}
 use Rattle.beep_channel.specs.Fits.{replies, asks, may_follow, so_far_after, IsRun, AreBack, current, was_more, OneAnswer, IsWhole, as_number, next_number, IsCut}
 use Rattle.beep_exchange.specs.Given.{ends_reply}
-use Rattle.beep_channel.proofs.JudgedLemmas.{whole-continued, whole-message, whole-request, on-continued, on-message, on-begins, same-number, behind-none, behind-take, current-yes, current-whole, judged-msg, judged-reply, judged-ans, judged-nul}
+use Rattle.beep_channel.proofs.JudgedLemmas.{whole-continued, whole-message, whole-request, on-continued, on-message, on-begins, same-number, after-none, after-take, current-yes, current-whole, judged-msg, judged-reply, judged-ans, judged-nul}
 
 -- a reply under way has its end after, or is owed
 pub run-owes : (owed : ℕ) (so_far : Option Kind) (ms : List Message) → IsRun owed so_far ms → is_some so_far ≡ true → 0 < replies ms + owed
@@ -71,7 +71,7 @@ and-false true = refl
 and-false false = refl
 
 module _ (mine theirs : Kept) (channel seqno size ansno place : ℕ) (octets : List ℕ) (ms : List Message) (count owed : ℕ)
-    (idle : mine.under_way ≡ None) (behind : AreBack count 1 mine.numbers) (within : mine.waiting ≤ length mine.numbers)
+    (idle : mine.under_way ≡ None) (later : AreBack count 1 mine.numbers) (within : mine.waiting ≤ length mine.numbers)
     (kept : theirs.waiting ≤ length theirs.numbers) (apart : IsApartFirst theirs.waiting theirs.numbers) where
   few-changes : (k : Kind) → option_map_or (λ (kind : Kind). not (same_kind kind k)) theirs.kind false ≡ false
       → (is_current theirs (current theirs) && option_map_or (λ (kind : Kind). not (same_kind kind k)) theirs.kind false) ≡ false
@@ -88,7 +88,7 @@ module _ (mine theirs : Kept) (channel seqno size ansno place : ℕ) (octets : L
       let few : mine.waiting + (asks ms + 1) ≤ 1024 = w.few in
       let room : nat_le MAX_REQUESTS mine.waiting ≡ false = grind (arith, nat_tests, few) in
       let used : has_number (count % 2 ^ 31) (take mine.waiting mine.numbers) ≡ false =
-      behind-none count 1 (take mine.waiting mine.numbers) (omega arith) (let l : length (take mine.waiting mine.numbers) ≤ mine.waiting = grind (arith, length-take) in omega (arith, l, few)) (behind-take count mine.waiting 1 mine.numbers behind) in
+      after-none count 1 (take mine.waiting mine.numbers) (omega arith) (let l : length (take mine.waiting mine.numbers) ≤ mine.waiting = grind (arith, length-take) in omega (arith, l, few)) (after-take count mine.waiting 1 mine.numbers later) in
       rw number (judged-msg mine theirs channel (count % 2 ^ 31) seqno size ansno (nat_lt size (length octets))
       (whole-continued mine (head_of Kind.Msg channel (count % 2 ^ 31) (nat_lt size (length octets)) seqno size ansno) complete) (whole-message mine (head_of Kind.Msg channel (count % 2 ^ 31) (nat_lt size (length octets)) seqno size ansno) complete)
       (rw (not-open mine idle complete, used) (and-false (begins mine (head_of Kind.Msg channel (count % 2 ^ 31) (nat_lt size (length octets)) seqno size ansno)))) (rw room (and-false (begins mine (head_of Kind.Msg channel (count % 2 ^ 31) (nat_lt size (length octets)) seqno size ansno)))))

@@ -15,9 +15,9 @@ use Rattle.beep_channel.specs.Stands.{HasImplied}
 
 -- ---- the reply under way
 
-pub end-behind : (so_far : Option Kind) (ms : List Message) (m : Message) → run_end so_far (ms ++ m ∷ []) ≡ so_far_after (run_end so_far ms) m.tag.kind
-end-behind so_far [] m = refl
-end-behind so_far (x ∷ ms) m = end-behind (so_far_after so_far x.tag.kind) ms m
+pub end-after : (so_far : Option Kind) (ms : List Message) (m : Message) → run_end so_far (ms ++ m ∷ []) ≡ so_far_after (run_end so_far ms) m.tag.kind
+end-after so_far [] m = refl
+end-after so_far (x ∷ ms) m = end-after (so_far_after so_far x.tag.kind) ms m
 
 module _ (theirs : Kept) (channel number seqno size ansno place : ℕ) (octets : List ℕ) (ms : List Message) where
   pub end-cut : (k : Kind) (more : Bool)

@@ -134,9 +134,9 @@ module _ (mine theirs : Kept) (channel number seqno size ansno place : ℕ) (oct
 
 -- ---- a message is given
 
-small-behind : (ms : List Message) (m : Message) → AllSmall ms → length m.octets ≤ MAX_MESSAGE → AllSmall (ms ++ m ∷ [])
-small-behind [] m a l = (l, tt)
-small-behind (x ∷ ms) m a l = (a.0, small-behind ms m a.1 l)
+small-after : (ms : List Message) (m : Message) → AllSmall ms → length m.octets ≤ MAX_MESSAGE → AllSmall (ms ++ m ∷ [])
+small-after [] m a l = (l, tt)
+small-after (x ∷ ms) m a l = (a.0, small-after ms m a.1 l)
 
 pub give-small : (ms : List Message) (m : Message) (mine theirs : Kept) (count owed : ℕ) → Fits count owed ms mine theirs
     → length m.octets ≤ MAX_MESSAGE → IsSmall ms mine theirs → IsSmall (ms ++ m ∷ []) mine theirs
@@ -148,7 +148,7 @@ give-small [] m mine theirs count owed f l s = record {
       f.first;
 }
 give-small (x ∷ ms) m mine theirs count owed f l s = record {
-  each = small-behind (x ∷ ms) m s.each l;
+  each = small-after (x ∷ ms) m s.each l;
   first = s.first;
 }
 

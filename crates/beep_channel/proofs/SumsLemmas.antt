@@ -13,7 +13,7 @@ use Rattle.beep_outbox.specs.Queue.{Message}
 use Rattle.beep_channel.specs.Fits.{replies, asks, as_number}
 use Rattle.beep_exchange.specs.Given.{ends_reply}
 use Rattle.beep_inbox.specs.Runs.{Run, run_marks, marks_of, octets_of, has_mark, AllMarked, put_after, put_run, left_runs}
-use Rattle.beep_channel.proofs.BehindLemmas.{ended-behind, octets-behind, marks-behind, marked-behind, placed-behind, answerable-behind, request-behind}
+use Rattle.beep_channel.proofs.LaterLemmas.{ended-after, octets-after, marks-after, marked-after, placed-after, answerable-after, request-after}
 use Rattle.beep_channel.specs.Sums.{ended_of, IsPlaced, IsAnswerable, is_partly, new_asks, Sums, arriving_tag, arriving_run}
 
 -- the same of a run that may have no mark
@@ -40,14 +40,14 @@ module _ (rs : List Run) (r : Run) where
       of false b e = e
 
   pub put-ended : (test : Kind → Bool) → ended_of test (put_run rs r) ≡ ended_of test rs + (if r.ended && test r.tag.kind then 1 else 0)
-  put-ended test = by-mark (λ (xs : List Run). ended_of test xs ≡ ended_of test rs + (if r.ended && test r.tag.kind then 1 else 0)) (ended-behind test rs r)
+  put-ended test = by-mark (λ (xs : List Run). ended_of test xs ≡ ended_of test rs + (if r.ended && test r.tag.kind then 1 else 0)) (ended-after test rs r)
       (λ e. rw (no-end e) (omega arith))
 
   pub put-octets : octets_of (put_run rs r) ≡ octets_of rs + length r.octets
-  put-octets = by-mark (λ (xs : List Run). octets_of xs ≡ octets_of rs + length r.octets) (octets-behind rs r) (λ e. let n = no-octets e in omega (arith, n))
+  put-octets = by-mark (λ (xs : List Run). octets_of xs ≡ octets_of rs + length r.octets) (octets-after rs r) (λ e. let n = no-octets e in omega (arith, n))
 
   pub put-marks : marks_of (put_run rs r) ≡ marks_of rs ++ run_marks r
-  put-marks = by-mark (λ (xs : List Run). marks_of xs ≡ marks_of rs ++ run_marks r) (marks-behind rs r)
+  put-marks = by-mark (λ (xs : List Run). marks_of xs ≡ marks_of rs ++ run_marks r) (marks-after rs r)
       (λ e. of r.octets r.ended (no-octets e) (no-end e))
     where
       more : (xs : List Mark) → xs ≡ xs ++ []
@@ -63,12 +63,12 @@ module _ (rs : List Run) (r : Run) where
   put-marked a = of (has_mark r) refl
     where
       of : (b : Bool) → has_mark r ≡ b → AllMarked (if b then put_after rs r else rs)
-      of true e = marked-behind rs r a e
+      of true e = marked-after rs r a e
       of false e = a
 
   pub put-placed : (own theirs : ℕ) → IsPlaced own theirs rs
       → r.tag.request ≡ (if is_msg r.tag.kind then theirs + ended_of is_msg rs else own + ended_of ends_reply rs) % 2 ^ 64 → IsPlaced own theirs (put_run rs r)
-  put-placed own theirs p e = by-mark (λ (xs : List Run). IsPlaced own theirs xs) (placed-behind own theirs rs r p e) (λ _. p)
+  put-placed own theirs p e = by-mark (λ (xs : List Run). IsPlaced own theirs xs) (placed-after own theirs rs r p e) (λ _. p)
 
 pub more-answerable : (w v : ℕ) (rs : List Run) → w ≤ v → IsAnswerable w rs → IsAnswerable v rs
 more-answerable w v [] p a = tt
@@ -144,7 +144,7 @@ request-sums given queue runs mine theirs own count head payload s under m = rec
   replies = s.replies;
   placed = put-placed runs r _ _ s.placed (tag-placed given runs head s.taken_replies s.given_replies s.first_asked s.first_owed);
   marked = put-marked runs r s.marked;
-  answerable = by-mark runs r (λ (xs : List Run). IsAnswerable mine.waiting xs) (request-behind mine.waiting runs r s.answerable m) (λ _. s.answerable);
+  answerable = by-mark runs r (λ (xs : List Run). IsAnswerable mine.waiting xs) (request-after mine.waiting runs r s.answerable m) (λ _. s.answerable);
 }
   where
     r : Run
@@ -181,7 +181,7 @@ reply-sums given queue runs mine theirs own count head payload s under m quiet w
   placed = put-placed runs r _ _ s.placed (tag-placed given runs head s.taken_replies s.given_replies s.first_asked s.first_owed);
   marked = put-marked runs r s.marked;
   answerable = by-mark runs r (λ (xs : List Run). IsAnswerable (replied_kept mine head).waiting xs)
-      (answerable-behind mine.waiting (replied_kept mine head).waiting runs r s.answerable (sym fewer) waits)
+      (answerable-after mine.waiting (replied_kept mine head).waiting runs r s.answerable (sym fewer) waits)
       (λ e. more-answerable mine.waiting (replied_kept mine head).waiting runs
       (let f = fewer in let n = ap (λ (b : Bool). as_number (b && ends_reply head.kind)) (no-end runs r e) in omega (arith, f, n)) s.answerable);
 }

@@ -23,23 +23,23 @@ module _ (head : Head) (more : List ℕ) (is_head : IsHead head) (large : MAX_PA
       first_size head MAX_PAYLOAD f more (flat_map spelling fs ++ rest) is_head r.stream.each.0 r.within.0 large (r.stream.whole ∙ append_assoc (spelling f) (flat_map spelling fs) rest)
 
   -- no report calls such an input cut
-  pub no_cut_behind_a_large_header : (settings : Settings) (text : List ℕ) → IsCut settings (header head ++ more) text → ⊥
-  no_cut_behind_a_large_header settings text c = unread c.frames c.rest c.read
+  pub no_cut_after_a_large_header : (settings : Settings) (text : List ℕ) → IsCut settings (header head ++ more) text → ⊥
+  no_cut_after_a_large_header settings text c = unread c.frames c.rest c.read
 
   -- nor spent
-  pub no_spent_behind_a_large_header : (settings : Settings) (text : List ℕ) → IsSpent settings (header head ++ more) text → ⊥
-  no_spent_behind_a_large_header settings text c = unread c.frames c.rest c.read
+  pub no_spent_after_a_large_header : (settings : Settings) (text : List ℕ) → IsSpent settings (header head ++ more) text → ⊥
+  no_spent_after_a_large_header settings text c = unread c.frames c.rest c.read
 
   -- nor one whose read failed
-  pub no_fault_behind_a_large_header : (settings : Settings) (text : List ℕ) → IsFault settings (header head ++ more) text → ⊥
-  no_fault_behind_a_large_header settings text c = unread c.frames c.rest c.read
+  pub no_fault_after_a_large_header : (settings : Settings) (text : List ℕ) → IsFault settings (header head ++ more) text → ⊥
+  no_fault_after_a_large_header settings text c = unread c.frames c.rest c.read
 
 -- the header of a payload of 70,000 octets, and three of them: `! cut 22` isn't its report
 pub no_cut_22 : (settings : Settings) (text : List ℕ) → IsCut settings (header (head_of Kind.Msg 1 0 false 0 70000 0) ++ codes "xyz") text → ⊥
 no_cut_22 settings text c =
     let head : Head = head_of Kind.Msg 1 0 false 0 70000 0 in
     let is_head : IsHead head = record { channel = omega arith; msgno = omega arith; seqno = omega arith; size = omega arith; ansno = omega arith } in
-    no_cut_behind_a_large_header head (codes "xyz") is_head (omega arith) settings text c
+    no_cut_after_a_large_header head (codes "xyz") is_head (omega arith) settings text c
 
 -- ---- no report speaks of more octets than are read at most
 

@@ -8,6 +8,7 @@
 mod asks;
 mod decision;
 pub mod laws;
+mod note;
 mod numbers;
 mod table;
 
@@ -15,5 +16,6 @@ pub use asks::{
     has_own_close, has_own_release, has_own_start, is_close_of, is_greeted, is_start, is_start_of,
 };
 pub use decision::{Answer, Offer, Standing};
+pub use note::note_of;
 pub use numbers::{may_start, other_role};
 pub use table::decide;

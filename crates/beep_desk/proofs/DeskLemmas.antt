@@ -35,12 +35,12 @@ use Rattle.beep_desk.proofs.WaitLemmas.{AreKeptFrom, all-wait, kept-from}
 
 -- ---- lists
 
-placed-behind : (k : ℕ) (xs ys : List ℕ) → ArePlacedFrom k (xs ++ ys) → ArePlacedFrom (k + length xs) ys
-placed-behind k [] ys p = subst (λ n. ArePlacedFrom n ys) (none k) p
+placed-after : (k : ℕ) (xs ys : List ℕ) → ArePlacedFrom k (xs ++ ys) → ArePlacedFrom (k + length xs) ys
+placed-after k [] ys p = subst (λ n. ArePlacedFrom n ys) (none k) p
   where
     none : (n : ℕ) → n ≡ n + 0
     none n = omega arith
-placed-behind k (x ∷ xs) ys p = subst (λ n. ArePlacedFrom n ys) (more k (length xs)) (placed-behind (k + 1) xs ys p.1)
+placed-after k (x ∷ xs) ys p = subst (λ n. ArePlacedFrom n ys) (more k (length xs)) (placed-after (k + 1) xs ys p.1)
   where
     more : (n m : ℕ) → (n + 1) + m ≡ n + suc m
     more n m = omega arith
@@ -145,7 +145,7 @@ module _ (plan : PlainPlan) (terms : Terms) (size : ℕ) (journal : List Item) (
       all-wait (events journal) forms (all_asked journal peer.management) journal (asked_at peer.lives) (first + length kinds) (first + length kinds) owed peer.management.answers (drop (length kinds) requests)
       (owed-true plan journal)
       (subst (λ n. ArePlacedFrom n (map (λ (answer : Answer). answer.position) owed)) here
-      (placed-behind 0 (replied_positions ours) (map (λ (answer : Answer). answer.position) owed) turns.replies))
+      (placed-after 0 (replied_positions ours) (map (λ (answer : Answer). answer.position) owed) turns.replies))
       (subst (ArePrepared peer.management.answers) (sym listed.owed) managed.answers)
       (answered-drop (all_asked journal peer.management) journal (asked_at peer.lives) first kinds peer.management.answers requests upright.theirs (omega (arith, unsent-count, fit, split)))
       (kept-drop (events journal) forms first (length kinds) requests (kept-from (events journal) peer.management.theirs.requests forms managed.theirs.asked managed.theirs.within))

@@ -18,16 +18,16 @@ use Rattle.beep_exchange.specs.Exchange.{Life, IsExchange, kept_of}
 use Rattle.beep_exchange.proofs.JudgedLemmas.{judged-is}
 use Rattle.beep_exchange.proofs.NotedLemmas.{began-kept, began-other, passed-kept, request-other, replied-kept}
 
-none-behind : (xs ys : List (Rule × Bool)) → first_of (xs ++ ys) ≡ None → first_of ys ≡ None
-none-behind [] ys e = e
-none-behind ((rule, true) ∷ xs) ys e = cc
-none-behind ((rule, false) ∷ xs) ys e = none-behind xs ys e
+none-after : (xs ys : List (Rule × Bool)) → first_of (xs ++ ys) ≡ None → first_of ys ≡ None
+none-after [] ys e = e
+none-after ((rule, true) ∷ xs) ys e = cc
+none-after ((rule, false) ∷ xs) ys e = none-after xs ys e
 
 -- where no rule is broken, a request that begins has room
 pub judged-room : (mine theirs : Kept) (head : Head) → judged mine theirs head ≡ None → begins mine head ≡ true → mine.waiting < MAX_REQUESTS
 unfolding judged
 judged-room mine theirs head e new =
-    let limits = none-behind (shape_tests mine theirs head) (limit_tests mine theirs head) e in
+    let limits = none-after (shape_tests mine theirs head) (limit_tests mine theirs head) e in
     let a = pass Rule.EmptyAnswer (breaks_empty_answer theirs head) _ limits in
     let b = pass Rule.TooManyRequests (breaks_too_many_requests mine head) _ a.1 in
     leb-false _ _ (after-true _ _ new b.0)

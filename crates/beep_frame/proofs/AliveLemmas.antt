@@ -22,7 +22,7 @@ use Rattle.beep_frame.proofs.PartLemmas.{IsPart}
 use Rattle.beep_frame.proofs.LineLemmas.{Reads, ReadsTurn, reads, IsPart-at}
 use Rattle.beep_frame.proofs.WholeLemmas.{header_runs, IsNext, line_turn-next, number_run}
 use Rattle.beep_frame.proofs.StreamLemmas.{overlap, same_frame}
-use Rattle.beep_frame.proofs.DeadLemmas.{NoFrame, no_frame_in_line, no_frame_in_trailer, no_frame_alone, dead_behind}
+use Rattle.beep_frame.proofs.DeadLemmas.{NoFrame, no_frame_in_line, no_frame_in_trailer, no_frame_alone, dead_after}
 
 -- ---- a line can be finished
 
@@ -160,7 +160,7 @@ unfinished_header octets octet h w e =
 dies_by : (frames : List Frame) (r : List ℕ) (c : ℕ) → AllByRecursion IsFrame frames → IsUnfinished r → NoFrame r c → DiesAt (flat_map spelling frames ++ r) c
 dies_by frames r c a u n =
     let alive : Stream (flat_map spelling frames ++ r) frames r = record { whole = refl; each = a; unfinished = u } in
-    record { alive = (frames, r, alive); dead = λ s. dead_behind frames s.0 r s.1 c a s.2.each s.2.unfinished n (sym s.2.whole ∙ append_assoc (flat_map spelling frames) r (c ∷ [])) }
+    record { alive = (frames, r, alive); dead = λ s. dead_after frames s.0 r s.1 c a s.2.each s.2.unfinished n (sym s.2.whole ∙ append_assoc (flat_map spelling frames) r (c ∷ [])) }
 
 pub dies_in_line : (frames : List Frame) (r : List ℕ) (c : ℕ) → AllByRecursion IsFrame frames → DiesInLine r c → DiesAt (flat_map spelling frames ++ r) c
 dies_in_line frames r c a d = dies_by frames r c a (unfinished_line r d.line d.inside) (no_frame_in_line r c d)

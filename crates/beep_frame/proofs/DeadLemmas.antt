@@ -81,13 +81,13 @@ no_frame_alone f rest m w u e =
     absurd (omega (arith, length-append m (u.next ∷ u.others)))
 
 -- no stream is these frames, and then what no frame goes on with
-pub dead_behind : (frames fs : List Frame) (r rest : List ℕ) (c : ℕ) → AllByRecursion IsFrame frames → AllByRecursion IsFrame fs → IsUnfinished rest → NoFrame r c → flat_map spelling fs ++ rest ≡ flat_map spelling frames ++ (r ++ c ∷ []) → ⊥
-dead_behind [] [] r rest c a b u n e =
+pub dead_after : (frames fs : List Frame) (r rest : List ℕ) (c : ℕ) → AllByRecursion IsFrame frames → AllByRecursion IsFrame fs → IsUnfinished rest → NoFrame r c → flat_map spelling fs ++ rest ≡ flat_map spelling frames ++ (r ++ c ∷ []) → ⊥
+dead_after [] [] r rest c a b u n e =
     n u.frame [] (u.next ∷ u.others) u.is_frame (append-nil (spelling u.frame) ∙ u.spelled ∙ ap (λ x. x ++ u.next ∷ u.others) e ∙ append_assoc r (c ∷ []) (u.next ∷ u.others))
-dead_behind [] (g ∷ fs) r rest c a b u n e =
+dead_after [] (g ∷ fs) r rest c a b u n e =
     n g (flat_map spelling fs ++ rest) [] b.0 (sym (append_assoc (spelling g) (flat_map spelling fs) rest) ∙ e)
-dead_behind (f ∷ frames) [] r rest c a b u n e =
+dead_after (f ∷ frames) [] r rest c a b u n e =
     no_frame_alone f rest (flat_map spelling frames ++ (r ++ c ∷ [])) a.0 u (e ∙ append_assoc (spelling f) (flat_map spelling frames) (r ++ c ∷ []))
-dead_behind (f ∷ frames) (g ∷ fs) r rest c a b u n e =
+dead_after (f ∷ frames) (g ∷ fs) r rest c a b u n e =
     let both = same_frame g f (flat_map spelling fs ++ rest) (flat_map spelling frames ++ (r ++ c ∷ [])) b.0 a.0 (sym (append_assoc (spelling g) (flat_map spelling fs) rest) ∙ e ∙ append_assoc (spelling f) (flat_map spelling frames) (r ++ c ∷ [])) in
-    dead_behind frames fs r rest c a.1 b.1 u n both.1
+    dead_after frames fs r rest c a.1 b.1 u n both.1

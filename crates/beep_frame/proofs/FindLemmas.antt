@@ -106,25 +106,25 @@ module _ (rest octets tail : List ℕ) (left n : ℕ) (enough : left ≤ length 
   used : take left octets ++ take n tail ≡ take (left + n) octets
   used = ap (λ x. take left octets ++ take n x) tail_is ∙ sym (take-add left n octets)
 
-  behind : (rest ++ take left octets) ++ take n tail ≡ rest ++ take (left + n) octets
-  behind = append_assoc rest (take left octets) (take n tail) ∙ ap (λ x. rest ++ x) used
+  beyond : (rest ++ take left octets) ++ take n tail ≡ rest ++ take (left + n) octets
+  beyond = append_assoc rest (take left octets) (take n tail) ∙ ap (λ x. rest ++ x) used
 
-  all_behind : (rest ++ take left octets) ++ tail ≡ rest ++ octets
-  all_behind = append_assoc rest (take left octets) tail ∙ ap (λ x. rest ++ x) (ap (λ x. take left octets ++ x) tail_is ∙ take-append-drop left octets)
+  all_after : (rest ++ take left octets) ++ tail ≡ rest ++ octets
+  all_after = append_assoc rest (take left octets) tail ∙ ap (λ x. rest ++ x) (ap (λ x. take left octets ++ x) tail_is ∙ take-append-drop left octets)
 
-  taken_behind : (before : List ℕ) (octet : ℕ) → take n tail ≡ before ++ octet ∷ [] → take (left + n) octets ≡ (take left octets ++ before) ++ octet ∷ []
-  taken_behind before octet h = sym used ∙ ap (λ x. take left octets ++ x) h ∙ sym (append_assoc (take left octets) before (octet ∷ []))
+  taken_after : (before : List ℕ) (octet : ℕ) → take n tail ≡ before ++ octet ∷ [] → take (left + n) octets ≡ (take left octets ++ before) ++ octet ∷ []
+  taken_after before octet h = sym used ∙ ap (λ x. take left octets ++ x) h ∙ sym (append_assoc (take left octets) before (octet ∷ []))
 
   -- what was found after a payload's octets was found after the rest
   pub shifted : (found : Found) (place : Place) (line : Line) (known : Option Head) → Finds found place line (rest ++ take left octets) known tail n → Finds found place line rest known octets (left + n)
   shifted Found.More place line known f =
-      (omega (arith, f.0, ap length tail_is, length-drop left octets), subst (λ x. At place line x known) all_behind f.1)
-  shifted (Found.Head head) place line known f = (f.0, f.1, sym behind ∙ f.2)
-  shifted Found.Frame place line known f = subst (λ x. EndsFrame x known) behind f
-  shifted (Found.Seq seq) place line known f = (f.0, f.1, sym behind ∙ f.2)
+      (omega (arith, f.0, ap length tail_is, length-drop left octets), subst (λ x. At place line x known) all_after f.1)
+  shifted (Found.Head head) place line known f = (f.0, f.1, sym beyond ∙ f.2)
+  shifted Found.Frame place line known f = subst (λ x. EndsFrame x known) beyond f
+  shifted (Found.Seq seq) place line known f = (f.0, f.1, sym beyond ∙ f.2)
   shifted Found.BadLine place line known f =
-      record { none = f.none; before = take left octets ++ f.before; octet = f.octet; taken_is = taken_behind f.before f.octet f.taken_is; dies = subst (λ x. DiesInLine x f.octet) (append_assoc rest (take left octets) f.before) f.dies }
+      record { none = f.none; before = take left octets ++ f.before; octet = f.octet; taken_is = taken_after f.before f.octet f.taken_is; dies = subst (λ x. DiesInLine x f.octet) (append_assoc rest (take left octets) f.before) f.dies }
   shifted Found.BadTrailer place line known f =
       let whole : rest ++ (take left octets ++ f.before) ≡ header f.dies.head ++ f.dies.payload ++ take f.dies.count trailer = sym (append_assoc rest (take left octets) f.before) ∙ f.dies.whole in
       let dies : DiesInTrailer (rest ++ (take left octets ++ f.before)) f.octet = record { head = f.dies.head; payload = f.dies.payload; count = f.dies.count; is_frame = f.dies.is_frame; fewer = f.dies.fewer; whole = whole; other = f.dies.other } in
-      record { before = take left octets ++ f.before; octet = f.octet; taken_is = taken_behind f.before f.octet f.taken_is; dies = dies; known_is = f.known_is }
+      record { before = take left octets ++ f.before; octet = f.octet; taken_is = taken_after f.before f.octet f.taken_is; dies = dies; known_is = f.known_is }

@@ -80,11 +80,11 @@ length-seq_line s w =
 
 -- no header begins another
 not_longer : (h g : Head) → IsHead h → IsHead g → (more : List ℕ) (octet : ℕ) → header h ≡ header g ++ (more ++ octet ∷ []) → ⊥
-not_longer h g w v more octet e = some_behind more (sym (header_runs h w) ∙ ap (run (at_line line_start)) e ∙ run-append (at_line line_start) (header g) (more ++ octet ∷ []) ∙ ap (λ t. run t (more ++ octet ∷ [])) (header_runs g v))
+not_longer h g w v more octet e = some_after more (sym (header_runs h w) ∙ ap (run (at_line line_start)) e ∙ run-append (at_line line_start) (header g) (more ++ octet ∷ []) ∙ ap (λ t. run t (more ++ octet ∷ [])) (header_runs g v))
   where
-    some_behind : (more : List ℕ) → at_head h ≡ run (at_head g) (more ++ octet ∷ []) → ⊥
-    some_behind [] r = cc
-    some_behind (c ∷ more) r = let two : at_head h ≡ dead = r ∙ run-dead (more ++ octet ∷ []) in cc
+    some_after : (more : List ℕ) → at_head h ≡ run (at_head g) (more ++ octet ∷ []) → ⊥
+    some_after [] r = cc
+    some_after (c ∷ more) r = let two : at_head h ≡ dead = r ∙ run-dead (more ++ octet ∷ []) in cc
 
 -- octets begin with one header at most
 pub same_head : (h g : Head) (x y : List ℕ) → IsHead h → IsHead g → header h ++ x ≡ header g ++ y → h ≡ g

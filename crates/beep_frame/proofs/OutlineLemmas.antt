@@ -36,8 +36,8 @@ module _ (r : Reading) (fed : List ℕ) (h : Holds r fed) (piece : List ℕ) (n 
   frames = frames_of r.frames.items
 
   -- what was read after the frames
-  behind : read ≡ flat_map spelling frames ++ (h.rest ++ take n piece)
-  behind = sym joined ∙ ap (λ x. x ++ take n piece) h.stands.whole ∙ append_assoc (flat_map spelling frames) h.rest (take n piece)
+  beyond : read ≡ flat_map spelling frames ++ (h.rest ++ take n piece)
+  beyond = sym joined ∙ ap (λ x. x ++ take n piece) h.stands.whole ∙ append_assoc (flat_map spelling frames) h.rest (take n piece)
 
   more : (new : Reading) → Follows Step.More (record r { tracker = d }) new read → Answers Step.More d (fed_of fed frames h.rest h.known) piece n → Holds new read
   more new f g =
@@ -48,7 +48,7 @@ module _ (r : Reading) (fed : List ℕ) (h : Holds r fed) (piece : List ℕ) (n 
   headed : (head : Head) (new : Reading) → Follows (Step.Head head) (record r { tracker = d }) new read → Answers (Step.Head head) d (fed_of fed frames h.rest h.known) piece n → Holds new read
   headed head new f g =
       let stands : Tracks d (fed_of read frames (h.rest ++ take n piece) (Some head)) = subst (λ x. Tracks d (fed_of x frames (h.rest ++ take n piece) (Some head))) joined g.stands in
-      let body : length read ≡ length (flat_map spelling frames ++ header head) = ap length (behind ∙ ap (λ x. flat_map spelling frames ++ x) g.whole) in
+      let body : length read ≡ length (flat_map spelling frames ++ header head) = ap length (beyond ∙ ap (λ x. flat_map spelling frames ++ x) g.whole) in
       subst (λ x. Holds x read) (sym f) (record { rest = h.rest ++ take n piece; known = Some head; stands = stands; max = limit ∙ h.max; notes = (refl, body) })
 
   -- one frame more
@@ -61,7 +61,7 @@ module _ (r : Reading) (fed : List ℕ) (h : Holds r fed) (piece : List ℕ) (n 
   -- what ends with a data frame
   ended : (head : Head) (payload : List ℕ) → h.rest ++ take n piece ≡ spelling (framed head payload) → read ≡ (flat_map spelling frames ++ header head) ++ (payload ++ trailer)
   ended head payload whole =
-      behind ∙ ap (λ x. flat_map spelling frames ++ x) whole ∙ regrouped (flat_map spelling frames) (header head) payload trailer
+      beyond ∙ ap (λ x. flat_map spelling frames ++ x) whole ∙ regrouped (flat_map spelling frames) (header head) payload trailer
 
   framed_by : (begun : Option Begun) (new : Reading) → Notes begun frames h.known → Ends begun (record r { tracker = d }) new read → Answers Step.Frame d (fed_of fed frames h.rest h.known) piece n → Holds new read
   framed_by None new w f g = let two : None ≡ Some g.head = sym w ∙ g.known_is in absurd (cc)

@@ -42,8 +42,8 @@ take_min w n octets false e =
 -- ---- the payload among the octets of a frame
 
 -- what stands after the header
-behind : (head : Head) (rest octets : List ℕ) → rest ≡ header head ++ octets → payload_in head rest ≡ take head.size octets
-behind head rest octets e =
+beyond : (head : Head) (rest octets : List ℕ) → rest ≡ header head ++ octets → payload_in head rest ≡ take head.size octets
+beyond head rest octets e =
     ap (λ x. take head.size (drop (length (header head)) x)) e ∙ ap (take head.size) (drop_at (header head) octets (length (header head)) refl)
 
 -- a payload takes as many of the octets that follow as are still to come
@@ -64,16 +64,16 @@ taking (Place.Payload left) line rest known head is at more =
     let same : at.0 ≡ head = cc in
     let rest_is : rest ≡ header head ++ at.1 = at.2.rest_is ∙ ap (λ h. header h ++ at.1) same in
     let size : length at.1 + left ≡ head.size = at.3 ∙ ap (λ (h : Head). h.size) same in
-    behind head (rest ++ more) (at.1 ++ more) (ap (λ x. x ++ more) rest_is ∙ append_assoc (header head) at.1 more)
-    ∙ goes_on head.size left at.1 more size ∙ ap (λ x. x ++ take left more) (sym (behind head rest at.1 rest_is))
+    beyond head (rest ++ more) (at.1 ++ more) (ap (λ x. x ++ more) rest_is ∙ append_assoc (header head) at.1 more)
+    ∙ goes_on head.size left at.1 more size ∙ ap (λ x. x ++ take left more) (sym (beyond head rest at.1 rest_is))
 taking (Place.Trailer count) line rest known head is at more =
     let known_is : Some head ≡ Some at.0 = sym is ∙ at.2.known_is in
     let same : at.0 ≡ head = cc in
     let end : List ℕ = take count trailer in
     let rest_is : rest ≡ header head ++ (at.1 ++ end) = at.2.rest_is ∙ ap (λ h. header h ++ (at.1 ++ end)) same in
     let size : length at.1 ≡ head.size = at.3 ∙ ap (λ (h : Head). h.size) same in
-    behind head (rest ++ more) (at.1 ++ (end ++ more)) (ap (λ x. x ++ more) rest_is ∙ append_assoc (header head) (at.1 ++ end) more ∙ ap (λ x. header head ++ x) (append_assoc at.1 end more))
-    ∙ is_whole head.size at.1 (end ++ more) size ∙ sym (is_whole head.size at.1 end size) ∙ sym (behind head rest (at.1 ++ end) rest_is) ∙ sym (append-nil (payload_in head rest))
+    beyond head (rest ++ more) (at.1 ++ (end ++ more)) (ap (λ x. x ++ more) rest_is ∙ append_assoc (header head) (at.1 ++ end) more ∙ ap (λ x. header head ++ x) (append_assoc at.1 end more))
+    ∙ is_whole head.size at.1 (end ++ more) size ∙ sym (is_whole head.size at.1 end size) ∙ sym (beyond head rest (at.1 ++ end) rest_is) ∙ sym (append-nil (payload_in head rest))
 
 -- no more octets are still to come than the size leaves
 size_left : (place : Place) (line : Line) (rest : List ℕ) (known : Option Head) (head : Head) → known ≡ Some head → At place line rest known
@@ -84,7 +84,7 @@ size_left (Place.Payload left) line rest known head is at =
     let same : at.0 ≡ head = cc in
     let rest_is : rest ≡ header head ++ at.1 = at.2.rest_is ∙ ap (λ h. header h ++ at.1) same in
     let size : length at.1 + left ≡ head.size = at.3 ∙ ap (λ (h : Head). h.size) same in
-    let so_far : payload_in head rest ≡ at.1 = behind head rest at.1 rest_is ∙ take_all head.size at.1 (omega arith) in
+    let so_far : payload_in head rest ≡ at.1 = beyond head rest at.1 rest_is ∙ take_all head.size at.1 (omega arith) in
     omega (arith, ap length so_far)
 size_left (Place.Trailer count) line rest known head is at =
     omega (arith, length-take head.size (drop (length (header head)) rest))
@@ -137,7 +137,7 @@ module _ (old new : DecoderState) (t : TrackerState) (fed : List ℕ) (frames : 
       → new.head ≡ old.head → Added old.payload.octets new.payload.octets (take m octets) old.payload.spare → Keeps new (frames ++ framed head payload ∷ []) [] None
   keeps_frame head payload is is_frame whole same added =
       let now = grown head is same added in
-      let all : new.payload.octets ≡ payload = now.1 ∙ behind head (rest ++ take n octets) (payload ++ trailer) (whole ∙ append_assoc (header head) payload trailer) ∙ is_whole head.size payload trailer is_frame.1 in
+      let all : new.payload.octets ≡ payload = now.1 ∙ beyond head (rest ++ take n octets) (payload ++ trailer) (whole ∙ append_assoc (header head) payload trailer) ∙ is_whole head.size payload trailer is_frame.1 in
       λ before h p e.
       let last : framed head payload ≡ framed h p = last_same frames before (framed head payload) (framed h p) e in
       let heads_same : head ≡ h = cc in
@@ -151,7 +151,7 @@ module _ (old new : DecoderState) (t : TrackerState) (fed : List ℕ) (frames : 
   -- a header that is whole
   keeps_head : (head : Head) → rest ++ take n octets ≡ header head → new.head ≡ head → new.payload.octets ≡ [] → Keeps new frames (rest ++ take n octets) (Some head)
   keeps_head head whole is empty =
-      let nothing : payload_in head (rest ++ take n octets) ≡ [] = behind head (rest ++ take n octets) [] (whole ∙ sym (append-nil (header head))) ∙ take_all head.size [] (omega arith) in
+      let nothing : payload_in head (rest ++ take n octets) ≡ [] = beyond head (rest ++ take n octets) [] (whole ∙ sym (append-nil (header head))) ∙ take_all head.size [] (omega arith) in
       (is, empty ∙ sym nothing)
 
   module _ (max_is : t.max ≡ old.tracker.max) where

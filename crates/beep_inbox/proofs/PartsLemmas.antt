@@ -94,8 +94,8 @@ put-runs (last ∷ []) part octets more e f = by (goes_on part last)
     ahead : take last.len (octets ++ more) ≡ take last.len octets
     ahead = take-append-le last.len octets more (omega (arith, at))
 
-    behind : take part.len (drop last.len (octets ++ more)) ≡ more
-    behind = ap (λ (os : List ℕ). take part.len os)
+    later : take part.len (drop last.len (octets ++ more)) ≡ more
+    later = ap (λ (os : List ℕ). take part.len os)
         (ap (λ (n : ℕ). drop n (octets ++ more)) at ∙ drop-append_seam octets more)
         ∙ take_all part.len more (omega (arith, f))
 
@@ -111,7 +111,7 @@ put-runs (last ∷ []) part octets more e f = by (goes_on part last)
         else run_of last (take last.len octets) ∷ run_of part more ∷ [])
     by true =
         ap (λ (os : List ℕ). record { tag = last.tag; octets = os; ended = part.ended } ∷ []) both
-    by false = rw (ahead, behind) refl
+    by false = rw (ahead, later) refl
 put-runs (first ∷ next ∷ parts) part octets more e f =
     let within : first.len ≤ length octets = omega (arith, e) in
     let left : length (drop first.len octets) ≡ length octets - first.len =

@@ -82,10 +82,10 @@ some-joined xs ys ended e = let len = length-append xs ys in grind (arith, nat_t
 
 -- ---- a run after the others
 
-marks-behind : (runs : List Run) (run : Run)
+marks-after : (runs : List Run) (run : Run)
     → marks_of (put_after runs run) ≡ marks_of runs ++ run_marks run
-marks-behind [] run = append-nil (run_marks run)
-marks-behind (last ∷ []) run = by (joins run last) refl
+marks-after [] run = append-nil (run_marks run)
+marks-after (last ∷ []) run = by (joins run last) refl
   where
     by : (b : Bool) → joins run last ≡ b
         → marks_of (if b then joined last run ∷ [] else last ∷ run ∷ [])
@@ -97,35 +97,35 @@ marks-behind (last ∷ []) run = by (joins run last) refl
     by false e =
         ap (λ (ms : List Mark). run_marks last ++ ms) (append-nil (run_marks run))
         ∙ ap (λ (ms : List Mark). ms ++ run_marks run) (sym (append-nil (run_marks last)))
-marks-behind (first ∷ next ∷ runs) run =
-    ap (λ (ms : List Mark). run_marks first ++ ms) (marks-behind (next ∷ runs) run)
+marks-after (first ∷ next ∷ runs) run =
+    ap (λ (ms : List Mark). run_marks first ++ ms) (marks-after (next ∷ runs) run)
     ∙ sym (append_assoc (run_marks first) (marks_of (next ∷ runs)) (run_marks run))
 
-octets-behind : (runs : List Run) (run : Run)
+octets-after : (runs : List Run) (run : Run)
     → octets_of (put_after runs run) ≡ octets_of runs + length run.octets
-octets-behind [] run = omega arith
-octets-behind (last ∷ []) run = by (joins run last)
+octets-after [] run = omega arith
+octets-after (last ∷ []) run = by (joins run last)
   where
     by : (b : Bool)
         → octets_of (if b then joined last run ∷ [] else last ∷ run ∷ [])
         ≡ (length last.octets + 0) + length run.octets
     by true = omega (arith, length-append last.octets run.octets)
     by false = omega arith
-octets-behind (first ∷ next ∷ runs) run =
+octets-after (first ∷ next ∷ runs) run =
     let rest : octets_of (put_after (next ∷ runs) run)
     ≡ octets_of (next ∷ runs) + length run.octets =
-    octets-behind (next ∷ runs) run in
+    octets-after (next ∷ runs) run in
     omega (arith, rest)
 
-marked-behind : (runs : List Run) (run : Run) → AllMarked runs → has_mark run ≡ true
+marked-after : (runs : List Run) (run : Run) → AllMarked runs → has_mark run ≡ true
     → AllMarked (put_after runs run)
-marked-behind [] run all e = (e, tt)
-marked-behind (last ∷ []) run all e = by (joins run last)
+marked-after [] run all e = (e, tt)
+marked-after (last ∷ []) run all e = by (joins run last)
   where
     by : (b : Bool) → AllMarked (if b then joined last run ∷ [] else last ∷ run ∷ [])
     by true = (some-joined last.octets run.octets run.ended e, tt)
     by false = (all.0, (e, tt))
-marked-behind (first ∷ next ∷ runs) run all e = (all.0, marked-behind (next ∷ runs) run all.1 e)
+marked-after (first ∷ next ∷ runs) run all e = (all.0, marked-after (next ∷ runs) run all.1 e)
 
 -- ---- put
 
@@ -135,7 +135,7 @@ put-marks runs run = by (has_mark run) refl
   where
     by : (b : Bool) → has_mark run ≡ b
         → marks_of (if b then put_after runs run else runs) ≡ marks_of runs ++ run_marks run
-    by true e = marks-behind runs run
+    by true e = marks-after runs run
     by false e =
         sym (append-nil (marks_of runs))
         ∙ ap (λ (ms : List Mark). marks_of runs ++ ms)
@@ -147,14 +147,14 @@ put-octets runs run = by (has_mark run) refl
   where
     by : (b : Bool) → has_mark run ≡ b
         → octets_of (if b then put_after runs run else runs) ≡ octets_of runs + length run.octets
-    by true e = octets-behind runs run
+    by true e = octets-after runs run
     by false e = omega (arith, nil-octets run.octets run.ended e)
 
 pub put-marked : (runs : List Run) (run : Run) → AllMarked runs → AllMarked (put_run runs run)
 put-marked runs run all = by (has_mark run) refl
   where
     by : (b : Bool) → has_mark run ≡ b → AllMarked (if b then put_after runs run else runs)
-    by true e = marked-behind runs run all e
+    by true e = marked-after runs run all e
     by false e = all
 
 -- ---- taken

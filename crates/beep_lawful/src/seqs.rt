@@ -2,7 +2,8 @@
 //!
 //! No session runs this: it is the definitions in code, slow, so that they can be tried on
 //! examples.
-ghost use Rattle.std.specs.Prelude.{◌≡◌, ◌^◌, ◌≤◌, IfOk};
+ghost use Rattle.std.specs.Prelude.{◌≡◌, ◌*◌, ◌≤◌, IfOk};
+ghost use Rattle.beep_octets.specs.Numbers.{numbers_128};
 ghost use Rattle.beep_history.specs.declared.journal.Side.{Side};
 ghost use Rattle.beep_history.specs.Journal.{history_of};
 ghost use Rattle.beep_history.specs.Windows.{greatest_edge};
@@ -25,7 +26,7 @@ use std::alloc::Global;
 
 /// Whether a SEQ opens at least half a window of this size, where so many octets were taken.
 pub fn opens_half(size: u32, taken: u128, past: &[JournalItem]) -> bool
-    requires within { taken ≤ 2 ^ 100 }
+    requires within { 4 * taken ≤ numbers_128 }
     ensures { result ≡ is_seq_due size taken (greatest_edge Side.Received (history_of past.now)) }
 {
     let gain = (taken + u128::from(size)).saturating_sub(advertised_edge(past));

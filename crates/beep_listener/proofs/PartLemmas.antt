@@ -262,9 +262,9 @@ of-modulo t [] a = tt
 of-modulo t (octet u value ∷ marks) a = (ap modulo_2_64 a.0, of-modulo t marks a.1)
 of-modulo t (end u ∷ marks) a = (ap modulo_2_64 a.0, of-modulo t marks a.1)
 
-of-behind : (t : Tag) (front rest : List Mark) → AllOf t (front ++ rest) → AllOf t rest
-of-behind t [] rest a = a
-of-behind t (mark ∷ front) rest a = of-behind t front rest a.1
+of-after : (t : Tag) (front rest : List Mark) → AllOf t (front ++ rest) → AllOf t rest
+of-after t [] rest a = a
+of-after t (mark ∷ front) rest a = of-after t front rest a.1
 
 -- the first of some marks tells the tag of a part
 of-part : (t u : Tag) (octets : List ℕ) (ended : Bool) (rest : List Mark) → AllOf t (marks_with u octets ended ++ rest) → 0 < length (marks_with u octets ended) → u ≡ t
@@ -311,7 +311,7 @@ module _ (plan : PlainPlan) (head : Head) (payload : List ℕ) (before : List It
     part-ansno : part.tag.ansno ≡ head.ansno
     part-ansno =
         let all : AllOf (modulo_2_64 its-tag) (part_marks part octets ++ rest) =
-        of-behind (modulo_2_64 its-tag) front (part_marks part octets ++ rest) (subst (AllOf (modulo_2_64 its-tag)) are (of-modulo its-tag (arrived_marks head payload before) arrived-of)) in
+        of-after (modulo_2_64 its-tag) front (part_marks part octets ++ rest) (subst (AllOf (modulo_2_64 its-tag)) are (of-modulo its-tag (arrived_marks head payload before) arrived-of)) in
         ap (λ (t : Tag). t.ansno) (of-part (modulo_2_64 its-tag) part.tag (take part.len octets) part.ended rest all some)
 
     module _ (bodies : List Body) (buffer text : List ℕ) (t : Takes plan bodies buffer text head front before) where
@@ -460,16 +460,16 @@ taking-ends number count old new bodies buffer text log t none =
         by true e = subst (λ m. IsTakenAt m old.peer.lives) (sym t.channel ∙ sym (equal-number n t.head.channel e)) at-number
         by false e = t.untaken.others n e
 
-    behind-none : (front left : List Mark) → [] ≡ front ++ left → left ≡ []
-    behind-none [] left e = sym e
-    behind-none (x ∷ front) left e = absurd (let h : [] ≡ x ∷ (front ++ left) = e in cc)
+    after-none : (front left : List Mark) → [] ≡ front ++ left → left ≡ []
+    after-none [] left e = sym e
+    after-none (x ∷ front) left e = absurd (let h : [] ≡ x ∷ (front ++ left) = e in cc)
 
     left-none : t.left ≡ []
     left-none = by (live_at t.head.channel old.peer.lives) refl
       where
         by : (o : Option Live) → live_at t.head.channel old.peer.lives ≡ o → t.left ≡ []
         by (Some c) at = sym (t.untaken.own c at) ∙ ap marks_of (taken t.head.channel t.above c at)
-        by None at = behind-none t.front t.left (sym (dead (is_there t.head.channel t.before) refl) ∙ t.marks_are)
+        by None at = after-none t.front t.left (sym (dead (is_there t.head.channel t.before) refl) ∙ t.marks_are)
           where
             gone : is_there t.head.channel t.before ≡ false
             gone =
@@ -486,10 +486,10 @@ EndsLast [] = Unit {0}
 EndsLast (octet tag value ∷ others) = EndsLast others
 EndsLast (end tag ∷ others) = others ≡ []
 
-ends-behind : (front rest : List Mark) → EndsLast (front ++ rest) → EndsLast rest
-ends-behind [] rest e = e
-ends-behind (octet tag value ∷ front) rest e = ends-behind front rest e
-ends-behind (end tag ∷ front) rest e = by front rest e
+ends-after : (front rest : List Mark) → EndsLast (front ++ rest) → EndsLast rest
+ends-after [] rest e = e
+ends-after (octet tag value ∷ front) rest e = ends-after front rest e
+ends-after (end tag ∷ front) rest e = by front rest e
   where
     by : (xs ys : List Mark) → xs ++ ys ≡ [] → EndsLast ys
     by [] [] e = tt
@@ -511,7 +511,7 @@ last-rest : (head : Head) (payload : List ℕ) (before : List Item) (part : Part
 last-rest head payload before part octets front rest are ended =
     ends-part part.tag (take part.len octets) rest
     (subst (λ e. EndsLast (marks_with part.tag (take part.len octets) e ++ rest)) ended
-    (ends-behind front (part_marks part octets ++ rest) (subst EndsLast are
+    (ends-after front (part_marks part octets ++ rest) (subst EndsLast are
     (arrived (is_there head.channel before && life_under_way head.channel Side.Received before == life_now head.channel before)))))
   where
     arrived : (b : Bool) → EndsLast (map mark_modulo_2_64 (if b then frame_marks (tag_of Side.Received (history head.channel before) head) head payload else []))

@@ -12,7 +12,7 @@ ghost use Rattle.beep_steps.specs.beep_talk.specs.Plan.{PlainPlan};
 ghost use Rattle.beep_steps.specs.beep_link.specs.Causes.{ended_by, Grows, WithText};
 ghost use Rattle.beep_steps.specs.beep_link.specs.declared.end.TheConstants.{FRAME_ROOM};
 ghost use Rattle.beep_steps.specs.beep_link.specs.declared.ended.Stop.{Stop as StopValue};
-ghost use Rattle.beep_listener.specs.declared.listener.TheConstants.{TAKEN};
+ghost use Rattle.beep_steps.specs.beep_frame.specs.declared.limits.TheConstants.{MAX_PAYLOAD};
 ghost use Rattle.beep_listener.specs.Listening.{plan_of, Listens, UnrefusedOn};
 ghost use Rattle.beep_steps.specs.Logs.{moments, AreTaken, StandsOn, StaysOn};
 ghost use Rattle.beep_steps.specs.Resting.{HoldsStill};
@@ -25,6 +25,7 @@ use crate::asking::{
 };
 use crate::pruning::prune;
 use beep_lines::{Bodies, Lines};
+use beep_steps::beep_frame::MAX_PAYLOAD;
 use beep_steps::beep_link::{BUFFER, End, FRAME_ROOM, Stop};
 use beep_steps::beep_octets::{NoMemory, Octets};
 use beep_steps::beep_session::Session;
@@ -33,9 +34,6 @@ use beep_steps::beep_wires::Sink;
 use beep_steps::say_next;
 use std::alloc::Global;
 use std::mem::swap;
-
-/// How many octets are taken at once: a frame has no more.
-const TAKEN: usize = 65536;
 
 /// A session that listens. It notes the numbers of the live channels, in which it said what is to
 /// be said first, and whether the peer has asked to close the session.
@@ -49,7 +47,7 @@ pub(crate) struct Listener {
     bodies: Bodies,
     taken: Vec<u8>,
     lines: Lines,
-    ghost room: { vec_len taken ≡ TAKEN },
+    ghost room: { vec_len taken ≡ MAX_PAYLOAD },
     ghost refuses: { refusal.octets ≡ message_text (fault 550 (note_of 550)) },
 }
 
@@ -65,7 +63,7 @@ impl Listener {
         ensures notes { IfOk result (λ listener. notes_of listener ≡ no_notes) }
     {
         let mut taken = Vec::new(alloc);
-        taken.resize(TAKEN, 0)?;
+        taken.resize(MAX_PAYLOAD as usize, 0)?;
         Ok(Listener {
             session,
             refusal: refusal_text(alloc)?,

@@ -93,18 +93,18 @@ profile_back p octets back =
 
 -- ---- profiles
 
-profiles_behind : (ps before : List PlainProfile) (items : Items) → profiles_said items ≡ Some before → list_all has_octets ps ≡ true → list_all comes_back_profile ps ≡ true
+profiles_after : (ps before : List PlainProfile) (items : Items) → profiles_said items ≡ Some before → list_all has_octets ps ≡ true → list_all comes_back_profile ps ≡ true
     → profiles_said (fold (λ all p. with_element all (profile_as p.uri p.content)) items ps) ≡ Some (before ++ ps)
-profiles_behind [] before items is octets back = is ∙ ap (λ x. Some x) (sym (append-nil before))
-profiles_behind (p ∷ ps) before items is octets back =
+profiles_after [] before items is octets back = is ∙ ap (λ x. Some x) (sym (append-nil before))
+profiles_after (p ∷ ps) before items is octets back =
     let e = profile_as p.uri p.content in
     let one = profile_back p (left_of (has_octets p) _ octets) (left_of (comes_back_profile p) _ back) in
     let more = ap (λ x. with_profile x (profile_said e)) is ∙ ap (with_profile (Some before)) one in
-    profiles_behind ps (before ++ p ∷ []) (with_element items e) more (right_of (has_octets p) _ octets) (right_of (comes_back_profile p) _ back)
+    profiles_after ps (before ++ p ∷ []) (with_element items e) more (right_of (has_octets p) _ octets) (right_of (comes_back_profile p) _ back)
     ∙ ap (λ x. Some x) (append_assoc before (p ∷ []) ps)
 
 profiles_back : (ps : List PlainProfile) → list_all has_octets ps ≡ true → list_all comes_back_profile ps ≡ true → profiles_said (profiles_as ps) ≡ Some ps
-profiles_back ps octets back = profiles_behind ps [] nothing refl octets back
+profiles_back ps octets back = profiles_after ps [] nothing refl octets back
 
 -- ---- attributes
 

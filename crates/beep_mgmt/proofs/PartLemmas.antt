@@ -76,11 +76,11 @@ no_note items (Item.Chars cs) (Item.Chars ds) = refl
 no_note items (Item.Child e) (Item.Chars ds) = refl
 no_note items x (Item.Child e) = refl
 
-no_note_behind : (items : Items) (x y : Item) (xs : List Item) → note_said (fold with_item (with_item (with_item items x) y) xs) ≡ None
-no_note_behind items x y [] = no_note items x y
-no_note_behind items x y (z ∷ xs) = no_note_behind (with_item items x) y z xs
+no_note_after : (items : Items) (x y : Item) (xs : List Item) → note_said (fold with_item (with_item (with_item items x) y) xs) ≡ None
+no_note_after items x y [] = no_note items x y
+no_note_after items x y (z ∷ xs) = no_note_after (with_item items x) y z xs
 
 pub no_note_of : (xs : List Item) → 1 < length xs → note_said (items_listed xs) ≡ None
 no_note_of [] more = absurd (omega (arith, more))
 no_note_of (x ∷ []) more = absurd (omega (arith, more))
-no_note_of (x ∷ y ∷ xs) more = no_note_behind nothing x y xs
+no_note_of (x ∷ y ∷ xs) more = no_note_after nothing x y xs

@@ -21,7 +21,10 @@ mod sized;
 mod text;
 mod write;
 
-pub use codes::{BAD_PARAMETERS, BAD_SYNTAX, BUSY, INVALID, NOT_IMPLEMENTED, NOT_TAKEN, SUCCESS};
+pub use codes::{
+    ABORTED, BAD_PARAMETERS, BAD_SYNTAX, BUSY, INVALID, NOT_AUTHORIZED, NOT_IMPLEMENTED, NOT_TAKEN,
+    SUCCESS,
+};
 pub use limits::{MAX_CODE, MAX_CONTENT};
 pub use mgmt::Mgmt;
 pub use profile::{Encoding, Profile};

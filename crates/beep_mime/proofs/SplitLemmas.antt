@@ -25,9 +25,9 @@ pub header_len-line : (payload rest line : List ℕ) (at len : ℕ) (within befo
     → header_len within (lines_after [] (drop at payload)) ≡ (if before then len + header_len true (lines_after [] (drop (at + len) payload)) else (if len == 2 then 2 else 0))
 header_len-line payload rest line at len within before here fits first next is =
     let whole : drop at payload ≡ rest = sym (here ∙ take_rest payload at) in
-    let behind : drop len rest ≡ drop (at + len) payload = ap (drop len) (sym whole) ∙ drop-drop len at payload in
+    let later : drop len rest ≡ drop (at + len) payload = ap (drop len) (sym whole) ∙ drop-drop len at payload in
     ap (header_len within) (ap (lines_after []) whole ∙ next)
-    ∙ (rw (← first, ← is, behind, ap length first ∙ length-take-le len rest fits) refl)
+    ∙ (rw (← first, ← is, later, ap length first ∙ length-take-le len rest fits) refl)
 
 -- ---- the header that is written
 

@@ -241,8 +241,8 @@ module _ (at : End) (mine theirs : View) (m : ℕ) (dead : mine.live m ≡ false
   passed-by : (v : View) (j : ℕ) (x : Account) (xs : List Account) → (x.number == m) ≡ false → From v j (x ∷ xs) → From v j xs
   passed-by v j x xs e all = λ i. subst (λ (o : Option Account). IsAccount at v theirs m (j + i) o) (skip m i x xs e) (all i)
 
-  behind : (v : View) (j : ℕ) (x : Account) (xs : List Account) → (x.number == m) ≡ false → From v j xs → From v j (x ∷ xs)
-  behind v j x xs e all = λ i. subst (λ (o : Option Account). IsAccount at v theirs m (j + i) o) (sym (skip m i x xs e)) (all i)
+  beyond : (v : View) (j : ℕ) (x : Account) (xs : List Account) → (x.number == m) ≡ false → From v j xs → From v j (x ∷ xs)
+  beyond v j x xs e all = λ i. subst (λ (o : Option Account). IsAccount at v theirs m (j + i) o) (sym (skip m i x xs e)) (all i)
 
   none-left : (j : ℕ) → mine.begun m ≤ j + 0 → theirs.begun m ≤ j + 0 → j ≤ mine.begun m → (xs : List Account) → ((i : ℕ) → account_at m i xs ≡ None) → (life : ℕ) → life ≡ modulo_2_64 (j + 1)
       → From now j (fresh at m life ∷ xs)
@@ -297,7 +297,7 @@ module _ (at : End) (mine theirs : View) (m : ℕ) (dead : mine.live m ≡ false
           let none : j ≡ 0 = by-first first in
           let one : next_life m x ≡ modulo_2_64 (j + 1) = rw f (let r : 1 ≡ (j + 1) % 2 ^ 64 = omega (arith, none) in r) in
           to (x ∷ begun_from at m (next_life m x) xs) (rw g refl)
-          (behind now j x (begun_from at m (next_life m x) xs) f (r j (next_life m x) (inl none) one h (passed-by mine j x xs f all)))
+          (beyond now j x (begun_from at m (next_life m x) xs) f (r j (next_life m x) (inl none) one h (passed-by mine j x xs f all)))
         where
           by-first : (j ≡ 0) ⊎ (m ≤ low) → j ≡ 0
           by-first (inl z) = z

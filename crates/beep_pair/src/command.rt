@@ -1,7 +1,7 @@
 //! The whole work of running a schedule, over values.
 ghost use Rattle.std.specs.Prelude.{◌≤◌, [], length, IfOk, OnOk};
 ghost use Rattle.beep_two_sessions.specs.beep_session.specs.Session.{AreLimits};
-ghost use Rattle.beep_schedule.specs.declared.limits.TheConstants.{MAX_SCHEDULE};
+ghost use Rattle.beep_two_sessions.specs.beep_octets.specs.Numbers.{numbers_32};
 ghost use Rattle.beep_schedule.specs.Events.{AreEvents};
 ghost use Rattle.beep_pair.specs.Sessions.{AreReady};
 ghost use Rattle.beep_pair.specs.World.{Leads};
@@ -52,7 +52,7 @@ fn run_fresh(alloc: Global, limits: Limits, schedule: &Schedule) -> Result<Octet
 /// Runs the schedule that a text says, between two ends with these limits.
 pub fn report(alloc: Global, limits: Limits, text: &[u8]) -> Result<Outcome, NoMemory>
     requires limits { AreLimits limits }
-    requires within { length text.now ≤ MAX_SCHEDULE }
+    requires within { length text.now < numbers_32 }
     ensures { IfOk result (λ outcome. Becomes limits text.now outcome) }
 {
     match read_schedule(alloc, text) {

@@ -1,6 +1,7 @@
 //! What two ends do until neither has something to send.
 ghost use Rattle.std.specs.Prelude.{◌≡◌, ◌<◌, true, false, length, IfOk, OnOk};
-ghost use Rattle.beep_schedule.specs.declared.limits.TheConstants.{MAX_COUNT, MAX_FRAME};
+ghost use Rattle.beep_schedule.specs.declared.limits.TheConstants.{MAX_COUNT};
+ghost use Rattle.beep_two_sessions.specs.beep_settings.specs.declared.limits.TheConstants.{MAX_PIECE};
 ghost use Rattle.beep_schedule.specs.Events.{is_from_to};
 ghost use Rattle.beep_pair.specs.Drains.{is_nothing as was_nothing};
 
@@ -27,7 +28,7 @@ impl Pair {
         line: &mut Octets,
     ) -> Result<(), NoMemory>
         requires ready { AreReady self.old }
-        requires valid { is_from_to 1 MAX_FRAME max ≡ true }
+        requires valid { is_from_to 1 MAX_PIECE max ≡ true }
         requires some { 0 < piece }
         ensures drained { OnOk result (Leads (Drained max piece line.old.octets
             line.new.octets) self.old self.new) }
@@ -54,7 +55,7 @@ impl Pair {
         line: &mut Octets,
     ) -> Result<bool, NoMemory>
         requires ready { AreReady self.old }
-        requires valid { is_from_to 1 MAX_FRAME max ≡ true }
+        requires valid { is_from_to 1 MAX_PIECE max ≡ true }
         requires some { 0 < piece }
         requires room { length buf.old ≡ MAX_COUNT }
         ensures rounded { IfOk result (λ sent. Leads (Rounded max piece sent line.old.octets
@@ -79,7 +80,7 @@ impl Pair {
         line: &mut Octets,
     ) -> Result<bool, NoMemory>
         requires ready { AreReady self.old }
-        requires valid { is_from_to 1 MAX_FRAME max ≡ true }
+        requires valid { is_from_to 1 MAX_PIECE max ≡ true }
         requires some { 0 < piece }
         requires room { length buf.old ≡ MAX_COUNT }
         requires other { other ≡ other_end at }

@@ -4,7 +4,8 @@ ghost use Rattle.beep_two_sessions.specs.beep_lives.specs.Lives.{live_at};
 ghost use Rattle.beep_two_sessions.specs.beep_peer.specs.Peering.{is_over};
 ghost use Rattle.beep_two_sessions.specs.beep_giving.specs.Looks.{inbox_of};
 ghost use Rattle.beep_two_sessions.specs.beep_session.specs.Session.{AreLimits};
-ghost use Rattle.beep_schedule.specs.declared.limits.TheConstants.{MAX_COUNT, MAX_FRAME};
+ghost use Rattle.beep_schedule.specs.declared.limits.TheConstants.{MAX_COUNT};
+ghost use Rattle.beep_two_sessions.specs.beep_settings.specs.declared.limits.TheConstants.{MAX_PIECE};
 ghost use Rattle.beep_schedule.specs.Events.{is_event, is_act, AreEvents, is_from_to};
 ghost use Rattle.beep_pair.specs.Sessions.{IsReady, Gets};
 ghost use Rattle.beep_pair.specs.Command.{HasBegun, pair_offers};
@@ -170,7 +171,7 @@ impl Pair {
     /// An end sends one frame.
     pub(crate) fn send(&mut self, at: End, max: u32) -> Result<Emit, NoMemory>
         requires ready { AreReady self.old }
-        requires valid { is_from_to 1 MAX_FRAME max ≡ true }
+        requires valid { is_from_to 1 MAX_PIECE max ≡ true }
         ensures sent { IfOk result (λ emit. Leads (SendsStep at max emit) self.old self.new) }
         ensures ready { OnOk result (AreReady self.new) }
     {

@@ -29,8 +29,8 @@ at-least least n (c ∷ cs) ascending there = of (c.held.number == n) refl there
 skip : (c : Live) (n : ℕ) (cs : List Live) → c.held.number + 1 ≤ n → is_live_in (c ∷ cs) n ≡ true → is_live_in cs n ≡ true
 skip c n cs above there = sym (further c n cs (apart-less c.held.number n (omega (arith, above)))) ∙ there
 
-behind : (c : Live) (n : ℕ) (cs : List Live) → IsAscendingFrom (c.held.number + 1) cs → is_live_in cs n ≡ true → is_live_in (c ∷ cs) n ≡ true
-behind c n cs ascending there =
+beyond : (c : Live) (n : ℕ) (cs : List Live) → IsAscendingFrom (c.held.number + 1) cs → is_live_in cs n ≡ true → is_live_in (c ∷ cs) n ≡ true
+beyond c n cs ascending there =
     let above = at-least (c.held.number + 1) n cs ascending there in
     further c n cs (apart-less c.held.number n (omega (arith, above))) ∙ there
 
@@ -53,7 +53,7 @@ module _ (c d : Live) (cs ds : List Live) (least other : ℕ) (up_c : IsAscendin
   both-further n same there is =
       let number = eqb-true d.held.number c.held.number same in
       let above = at-least (c.held.number + 1) n cs up_c.1 there in
-      skip d n ds (omega (arith, above, number)) (is (behind c n cs up_c.1 there))
+      skip d n ds (omega (arith, above, number)) (is (beyond c n cs up_c.1 there))
 
   -- the other begins with a lower number
   one-further : (n : ℕ) → (d.held.number == c.held.number) ≡ false → is_live_in (d ∷ ds) c.held.number ≡ true → is_live_in (c ∷ cs) n ≡ true → is_live_in (d ∷ ds) n ≡ true → is_live_in ds n ≡ true
@@ -86,7 +86,7 @@ one-more number least other (c ∷ cs) [] up_c up_d are = of (number == c.held.n
         let is = eqb-true number c.held.number same in
         let rest = none-more (c.held.number + 1) 0 cs [] up_c.1 tt (λ n there.
         let above = at-least (c.held.number + 1) n cs up_c.1 there in
-        are n (apart-less number n (omega (arith, above, is))) (behind c n cs up_c.1 there)) in
+        are n (apart-less number n (omega (arith, above, is))) (beyond c n cs up_c.1 there)) in
         omega (arith, rest)
     of false apart = absurd (let none : false ≡ true = are c.held.number apart (first-there c cs) in cc)
 one-more number least other (c ∷ cs) (d ∷ ds) up_c up_d are =
@@ -99,7 +99,7 @@ one-more number least other (c ∷ cs) (d ∷ ds) up_c up_d are =
         let number_is = eqb-true number c.held.number is in
         let rest = none-more (c.held.number + 1) other cs (d ∷ ds) up_c.1 up_d (λ n there.
         let above = at-least (c.held.number + 1) n cs up_c.1 there in
-        are n (apart-less number n (omega (arith, above, number_is))) (behind c n cs up_c.1 there)) in
+        are n (apart-less number n (omega (arith, above, number_is))) (beyond c n cs up_c.1 there)) in
         omega (arith, rest)
     of false true is same both one = let rest = both (λ n apart there. both-further c d cs ds least other up_c up_d n same there (are n apart)) in omega (arith, rest)
     of false false is apart both one =

@@ -9,7 +9,9 @@ use Rattle.beep_schedule.specs.declared.event.Act.{Act}
 use Rattle.beep_schedule.specs.declared.event.PairEvent.{PairEvent}
 use Rattle.beep_schedule.specs.declared.field.Numbers.{Numbers}
 use Rattle.beep_schedule.specs.declared.line.Verb.{Verb}
-use Rattle.beep_schedule.specs.declared.limits.TheConstants.{MAX_CHANNEL, MAX_LEN, MAX_FILL, MAX_FRAME, MAX_COUNT}
+use Rattle.beep_frame.specs.declared.head.TheConstants.{MAX_NUMBER}
+use Rattle.beep_settings.specs.declared.limits.TheConstants.{MAX_PIECE}
+use Rattle.beep_schedule.specs.declared.limits.TheConstants.{MAX_LEN, MAX_FILL, MAX_COUNT}
 use Rattle.beep_schedule.specs.Events.{field, end_text, act_text, event_text, is_from_to, is_above, is_of, is_message, is_bare, is_event}
 use Rattle.beep_schedule.specs.Reading.{numbers_of, verb_text, verb_in, all_verbs, message_act, bare_act, with_none, with_one, with_two, with_three, event_with, valid, counted, said, drained, drain_in, event_in}
 use Rattle.beep_schedule.proofs.WordLemmas.{numbers_text, AreSmall, numbers_word, numbers_said}
@@ -27,7 +29,7 @@ below least most n small e =
     omega arith
 
 pub above_small : (n : ℕ) → is_above n ≡ true → n < 2 ^ 32
-above_small n e = below 1 MAX_CHANNEL n (omega arith) e
+above_small n e = below 1 MAX_NUMBER n (omega arith) e
 
 pub record IsSent (len fill : ℕ) : Type 0 where
   pub small_len : len < 2 ^ 32
@@ -105,15 +107,15 @@ event_word (PairEvent.Do at Act.Release n len fill) is =
     let zero_number : n ≡ 0 = grind (arith, nat_tests, parts.0) in
     at_word at Verb.Release Numbers.Zero (act_text Act.Release n len fill) (PairEvent.Do at Act.Release n len fill) refl refl tt (rw (zero_number) (bare_word at Act.Release 0 len fill parts.1)) is
 event_word (PairEvent.Send at max) is =
-    at_word at Verb.Send (Numbers.One max) (codes " send" ++ field max) (PairEvent.Send at max) refl refl (below 1 MAX_FRAME max (omega arith) is) refl is
+    at_word at Verb.Send (Numbers.One max) (codes " send" ++ field max) (PairEvent.Send at max) refl refl (below 1 MAX_PIECE max (omega arith) is) refl is
 event_word (PairEvent.Get at count) is =
     at_word at Verb.Get (Numbers.One count) (codes " get" ++ field count) (PairEvent.Get at count) refl refl (below 1 MAX_COUNT count (omega arith) is) refl is
 event_word (PairEvent.Take at n count) is =
     let parts = both (is_above n) (is_from_to 1 MAX_COUNT count) is in
     at_word at Verb.Take (Numbers.Two n count) (codes " take" ++ field n ++ field count) (PairEvent.Take at n count) refl refl (above_small n parts.0, below 1 MAX_COUNT count (omega arith) parts.1) refl is
 event_word (PairEvent.Drain max piece) is =
-    let parts = both (is_from_to 1 MAX_FRAME max) (is_from_to 1 MAX_COUNT piece) is in
-    ap (λ r. valid (drained r)) (numbers_word (Numbers.Two max piece) (below 1 MAX_FRAME max (omega arith) parts.0, below 1 MAX_COUNT piece (omega arith) parts.1)) ∙ is_valid (PairEvent.Drain max piece) is
+    let parts = both (is_from_to 1 MAX_PIECE max) (is_from_to 1 MAX_COUNT piece) is in
+    ap (λ r. valid (drained r)) (numbers_word (Numbers.Two max piece) (below 1 MAX_PIECE max (omega arith) parts.0, below 1 MAX_COUNT piece (omega arith) parts.1)) ∙ is_valid (PairEvent.Drain max piece) is
 
 -- ---- from a line to its event
 

@@ -6,7 +6,8 @@ use Rattle.std.proofs.lemmas.List.Quantifiers.{position-Some}
 use Rattle.beep_schedule.specs.declared.event.End.{End}
 use Rattle.beep_schedule.specs.declared.event.Act.{Act}
 use Rattle.beep_schedule.specs.declared.event.PairEvent.{PairEvent}
-use Rattle.beep_schedule.specs.declared.limits.TheConstants.{MAX_FRAME, MAX_COUNT}
+use Rattle.beep_settings.specs.declared.limits.TheConstants.{MAX_PIECE}
+use Rattle.beep_schedule.specs.declared.limits.TheConstants.{MAX_COUNT}
 use Rattle.beep_schedule.specs.Events.{field, end_text, act_text, event_text, is_from_to, is_above, is_of, is_message, is_bare, is_event}
 use Rattle.beep_schedule.specs.Schedule.{event_line}
 use Rattle.beep_schedule.specs.Refused.{line_of}
@@ -63,14 +64,14 @@ act_lacks at Act.Release n len fill is = (refl, (refl, (refl, (refl, (refl, (ref
 
 event_lacks : (e : PairEvent) → IsTrue (is_event e) → Lacks 10 (event_text e)
 event_lacks (PairEvent.Do at act n len fill) is = lacks_append 10 (end_text at) (act_text act n len fill) (end_lacks at) (act_lacks at act n len fill is)
-event_lacks (PairEvent.Send at max) is = lacks_append 10 (end_text at) (codes " send" ++ field max) (end_lacks at) (one_lacks (codes " send") max (refl, (refl, (refl, (refl, (refl, tt))))) (below 1 MAX_FRAME max (omega arith) is))
+event_lacks (PairEvent.Send at max) is = lacks_append 10 (end_text at) (codes " send" ++ field max) (end_lacks at) (one_lacks (codes " send") max (refl, (refl, (refl, (refl, (refl, tt))))) (below 1 MAX_PIECE max (omega arith) is))
 event_lacks (PairEvent.Get at count) is = lacks_append 10 (end_text at) (codes " get" ++ field count) (end_lacks at) (one_lacks (codes " get") count (refl, (refl, (refl, (refl, tt)))) (below 1 MAX_COUNT count (omega arith) is))
 event_lacks (PairEvent.Take at n count) is =
     let parts = both (is_above n) (is_from_to 1 MAX_COUNT count) is in
     lacks_append 10 (end_text at) (codes " take" ++ field n ++ field count) (end_lacks at) (two_lacks (codes " take") n count (refl, (refl, (refl, (refl, (refl, tt))))) (above_small n parts.0) (below 1 MAX_COUNT count (omega arith) parts.1))
 event_lacks (PairEvent.Drain max piece) is =
-    let parts = both (is_from_to 1 MAX_FRAME max) (is_from_to 1 MAX_COUNT piece) is in
-    two_lacks (codes "drain") max piece (refl, (refl, (refl, (refl, (refl, tt))))) (below 1 MAX_FRAME max (omega arith) parts.0) (below 1 MAX_COUNT piece (omega arith) parts.1)
+    let parts = both (is_from_to 1 MAX_PIECE max) (is_from_to 1 MAX_COUNT piece) is in
+    two_lacks (codes "drain") max piece (refl, (refl, (refl, (refl, (refl, tt))))) (below 1 MAX_PIECE max (omega arith) parts.0) (below 1 MAX_COUNT piece (omega arith) parts.1)
 
 -- ---- the first line of octets
 

@@ -8,7 +8,8 @@ use Rattle.std.proofs.lemmas.Bool.Decides.{nat_tests}
 use Rattle.beep_schedule.specs.declared.event.End.{End}
 use Rattle.beep_schedule.specs.declared.event.Act.{Act}
 use Rattle.beep_schedule.specs.declared.event.PairEvent.{PairEvent}
-use Rattle.beep_schedule.specs.declared.limits.TheConstants.{MAX_CHANNEL, MAX_LEN, MAX_FILL, MAX_COUNT, REQUESTS, CHANNELS}
+use Rattle.beep_frame.specs.declared.head.TheConstants.{MAX_NUMBER}
+use Rattle.beep_schedule.specs.declared.limits.TheConstants.{MAX_LEN, MAX_FILL, MAX_COUNT, REQUESTS, CHANNELS}
 use Rattle.beep_schedule.specs.Events.{is_event, AreEvents, is_above, is_of, is_from_to, is_message}
 use Rattle.beep_schedule.specs.Generated.{drain, bare_of, reply_to, request_events, release, generated_events, channel_of, len_of, fill_of}
 
@@ -56,7 +57,7 @@ is_channel : (i : ℕ) → is_above (channel_of i) ≡ true
 is_channel i =
     let low : i % 8 < 8 = omega arith in
     let least : 1 ≤ channel_of i = omega arith in
-    let most : channel_of i ≤ MAX_CHANNEL = omega arith in
+    let most : channel_of i ≤ MAX_NUMBER = omega arith in
     grind (arith, nat_tests)
 
 is_odd : (i : ℕ) → is_of End.A (channel_of i) ≡ true

@@ -6,7 +6,9 @@ use Rattle.std.specs.Fmt.{decimal}
 use Rattle.beep_schedule.specs.declared.event.End.{End}
 use Rattle.beep_schedule.specs.declared.event.Act.{Act}
 use Rattle.beep_schedule.specs.declared.event.PairEvent.{PairEvent}
-use Rattle.beep_schedule.specs.declared.limits.TheConstants.{MAX_CHANNEL, MAX_LEN, MAX_FILL, MAX_FRAME, MAX_COUNT}
+use Rattle.beep_frame.specs.declared.head.TheConstants.{MAX_NUMBER}
+use Rattle.beep_settings.specs.declared.limits.TheConstants.{MAX_PIECE}
+use Rattle.beep_schedule.specs.declared.limits.TheConstants.{MAX_LEN, MAX_FILL, MAX_COUNT}
 
 -- ---- the text
 
@@ -46,7 +48,7 @@ is_from_to least most n = nat_le least n && nat_le n most
 
 -- a channel above zero
 abbrev pub is_above : ℕ → Bool
-is_above channel = is_from_to 1 MAX_CHANNEL channel
+is_above channel = is_from_to 1 MAX_NUMBER channel
 
 -- the numbers that an end may start: A the odd ones, B the even ones (RFC 3080, section 2.3.1.2)
 abbrev pub is_of : End → ℕ → Bool
@@ -75,10 +77,10 @@ is_act at Act.Release channel len fill = (channel == 0) && is_bare len fill
 -- the event is one that a line can say
 abbrev pub is_event : PairEvent → Bool
 is_event (PairEvent.Do at act channel len fill) = is_act at act channel len fill
-is_event (PairEvent.Send at max) = is_from_to 1 MAX_FRAME max
+is_event (PairEvent.Send at max) = is_from_to 1 MAX_PIECE max
 is_event (PairEvent.Get at count) = is_from_to 1 MAX_COUNT count
 is_event (PairEvent.Take at channel count) = is_above channel && is_from_to 1 MAX_COUNT count
-is_event (PairEvent.Drain max piece) = is_from_to 1 MAX_FRAME max && is_from_to 1 MAX_COUNT piece
+is_event (PairEvent.Drain max piece) = is_from_to 1 MAX_PIECE max && is_from_to 1 MAX_COUNT piece
 
 -- each event is one that a line can say
 abbrev pub AreEvents : List PairEvent → Type 0

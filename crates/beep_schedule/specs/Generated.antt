@@ -7,7 +7,8 @@ use Rattle.std.specs.List.{range_with_len}
 use Rattle.beep_schedule.specs.declared.event.End.{End}
 use Rattle.beep_schedule.specs.declared.event.Act.{Act}
 use Rattle.beep_schedule.specs.declared.event.PairEvent.{PairEvent}
-use Rattle.beep_schedule.specs.declared.limits.TheConstants.{MAX_COUNT, MAX_FRAME, REQUESTS, CHANNELS, LENGTHS, LENGTH_STEP, REPLY_LEN, A_PIECE, A_STEP, B_PIECE, B_STEP}
+use Rattle.beep_settings.specs.declared.limits.TheConstants.{MAX_PIECE}
+use Rattle.beep_schedule.specs.declared.limits.TheConstants.{MAX_COUNT, REQUESTS, CHANNELS, LENGTHS, LENGTH_STEP, REPLY_LEN, A_PIECE, A_STEP, B_PIECE, B_STEP}
 
 -- the channel of request i: one after another of the first odd numbers
 abbrev pub channel_of : ℕ → ℕ
@@ -22,7 +23,7 @@ fill_of i = i % 256
 
 -- one drain
 abbrev pub drain : PairEvent
-drain = PairEvent.Drain MAX_FRAME B_PIECE
+drain = PairEvent.Drain MAX_PIECE B_PIECE
 
 -- the reply to request i, of 16 octets
 abbrev pub reply_to : ℕ → PairEvent
@@ -32,8 +33,8 @@ reply_to i = PairEvent.Do End.B Act.Reply (channel_of i) REPLY_LEN (fill_of i)
 abbrev pub request_events : ℕ → ℕ → List PairEvent
 request_events seed i =
     PairEvent.Do End.A Act.Ask (channel_of i) (len_of seed i) (fill_of i)
-    ∷ PairEvent.Send End.A MAX_FRAME
-    ∷ PairEvent.Send End.B MAX_FRAME
+    ∷ PairEvent.Send End.A MAX_PIECE
+    ∷ PairEvent.Send End.B MAX_PIECE
     ∷ PairEvent.Get End.B (1 + (seed + B_STEP * i) % B_PIECE)
     ∷ PairEvent.Get End.A (1 + (seed + A_STEP * i) % A_PIECE)
     ∷ PairEvent.Take End.B (channel_of i) MAX_COUNT

@@ -1,7 +1,8 @@
 //! The schedule that a number makes.
 ghost use Rattle.std.specs.Prelude.{◌≡◌, ◌<◌, ◌+◌, ◌*◌, ◌%◌, ◌++◌, ◌∷◌, [], map, flat_map, OnOk, IfOk};
 ghost use Rattle.std.specs.List.{range_with_len};
-ghost use Rattle.beep_schedule.specs.declared.limits.TheConstants.{REQUESTS, CHANNELS, MAX_COUNT, MAX_FRAME, A_PIECE, A_STEP, B_PIECE, B_STEP};
+ghost use Rattle.beep_settings.specs.declared.limits.TheConstants.{MAX_PIECE};
+ghost use Rattle.beep_schedule.specs.declared.limits.TheConstants.{REQUESTS, CHANNELS, MAX_COUNT, A_PIECE, A_STEP, B_PIECE, B_STEP};
 ghost use Rattle.beep_schedule.specs.declared.event.End.{End as EndValue};
 ghost use Rattle.beep_schedule.specs.declared.event.PairEvent.{PairEvent as EventValue};
 ghost use Rattle.beep_schedule.specs.Events.{AreEvents};
@@ -9,7 +10,7 @@ ghost use Rattle.beep_schedule.specs.Generated.{generated_events, request_events
 
 use crate::event::{Act, End, PairEvent};
 use crate::limits::{
-    A_PIECE, A_STEP, B_PIECE, B_STEP, CHANNELS, LENGTH_STEP, LENGTHS, MAX_COUNT, MAX_FRAME,
+    A_PIECE, A_STEP, B_PIECE, B_STEP, CHANNELS, LENGTH_STEP, LENGTHS, MAX_COUNT, MAX_PIECE,
     REPLY_LEN, REQUESTS,
 };
 use crate::schedule::Schedule;
@@ -17,7 +18,7 @@ use beep_octets::NoMemory;
 use std::alloc::Global;
 
 const DRAIN: PairEvent = PairEvent::Drain {
-    max: MAX_FRAME,
+    max: MAX_PIECE,
     piece: B_PIECE,
 };
 
@@ -104,15 +105,15 @@ fn push_request(schedule: &mut Schedule, seed: u32, i: u32) -> Result<(), NoMemo
 
 fn push_sent(schedule: &mut Schedule) -> Result<(), NoMemory>
     ensures { OnOk result (schedule.new ≡ schedule.old
-        ++ EventValue.Send EndValue.A MAX_FRAME ∷ EventValue.Send EndValue.B MAX_FRAME ∷ []) }
+        ++ EventValue.Send EndValue.A MAX_PIECE ∷ EventValue.Send EndValue.B MAX_PIECE ∷ []) }
 {
     schedule.push(PairEvent::Send {
         at: End::A,
-        max: MAX_FRAME,
+        max: MAX_PIECE,
     })?;
     schedule.push(PairEvent::Send {
         at: End::B,
-        max: MAX_FRAME,
+        max: MAX_PIECE,
     })?;
     Ok(())
 }
@@ -137,7 +138,7 @@ fn push_gets(schedule: &mut Schedule, seed: u32, i: u32) -> Result<(), NoMemory>
 /// A number that depends on the seed and the place.
 fn spread(seed: u32, step: u32, i: u32, below: u32) -> u32
     requires few { i < REQUESTS }
-    requires small { step < 1000 }
+    requires small { step ≤ B_STEP }
     requires some { 0 < below }
     ensures value { result ≡ (seed + step * i) % below }
     ensures within { result < below }

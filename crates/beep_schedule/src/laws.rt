@@ -1,6 +1,7 @@
 //! What the text of a schedule means, as facts that hold of every text: each function does nothing,
 //! and its contract is the fact.
 ghost use Rattle.std.specs.Prelude.{◌≡◌, ℕ, List, length};
+ghost use Rattle.beep_schedule.specs.declared.limits.TheConstants.{EVENTS};
 ghost use Rattle.beep_schedule.specs.declared.event.PairEvent.{PairEvent as EventValue};
 ghost use Rattle.beep_schedule.specs.Schedule.{Says};
 ghost use Rattle.beep_schedule.specs.Refused.{IsBadAt};
@@ -26,5 +27,5 @@ pub fn a_text_has_one_first_bad_line()
 
 /// The schedule of a number has 9,027 events.
 pub fn a_generated_schedule_has_9027_events()
-    ensures { (seed : ℕ) → length (generated_events seed) ≡ 9027 }
+    ensures { (seed : ℕ) → length (generated_events seed) ≡ EVENTS }
 {}

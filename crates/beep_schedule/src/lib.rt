@@ -15,9 +15,7 @@ mod schedule;
 
 pub use event::{Act, End, PairEvent};
 pub use generate::generated;
-pub use limits::{
-    CHANNELS, MAX_CHANNEL, MAX_COUNT, MAX_FILL, MAX_FRAME, MAX_LEN, MAX_SCHEDULE, REQUESTS,
-};
+pub use limits::{CHANNELS, EVENTS, MAX_COUNT, MAX_FILL, MAX_LEN, REQUESTS};
 pub use line::is_event;
 pub use read::{ScheduleError, read_schedule};
 pub use schedule::Schedule;

@@ -1,19 +1,10 @@
 //! The ranges of what an event says.
 
-/// The most octets of a schedule's text.
-pub const MAX_SCHEDULE: usize = 16777216;
-
-/// The greatest number of a channel (RFC 3080, section 2.2.1.1).
-pub const MAX_CHANNEL: u32 = 2147483647;
-
 /// The most octets of a message: twice what a channel keeps.
 pub const MAX_LEN: u32 = 2097152;
 
 /// The greatest fill: an octet.
 pub const MAX_FILL: u32 = 255;
-
-/// The most octets of payload that an end is asked to send in one frame.
-pub const MAX_FRAME: u32 = 4096;
 
 /// The most octets in one piece of a wire, or in one take.
 pub const MAX_COUNT: u32 = 65536;
@@ -29,6 +20,9 @@ pub const LENGTHS: u32 = 1000;
 
 /// How far the next request's length is from the last, modulo `LENGTHS`.
 pub const LENGTH_STEP: u32 = 617;
+
+/// How many events such a schedule has.
+pub const EVENTS: usize = 9027;
 
 /// The octets of each reply of such a schedule.
 pub const REPLY_LEN: u32 = 16;

@@ -5,7 +5,9 @@ ghost use Rattle.beep_schedule.specs.Reading.{event_in as event_of, verb_text as
 
 use crate::event::{Act, End, PairEvent};
 use crate::field::{Numbers, numbers_in};
-use crate::limits::{MAX_CHANNEL, MAX_COUNT, MAX_FILL, MAX_FRAME, MAX_LEN};
+use crate::limits::{MAX_COUNT, MAX_FILL, MAX_LEN};
+use beep_frame::MAX_NUMBER;
+use beep_settings::MAX_PIECE;
 
 /// What a line says that an end does, by its word.
 #[derive(Clone, Copy)]
@@ -227,7 +229,7 @@ pub fn is_event(event: &PairEvent) -> bool
             len,
             fill,
         } => is_act(at, act, channel, len, fill),
-        PairEvent::Send { at: _, max } => is_from_to(1, MAX_FRAME, max),
+        PairEvent::Send { at: _, max } => is_from_to(1, MAX_PIECE, max),
         PairEvent::Get { at: _, count } => is_from_to(1, MAX_COUNT, count),
         PairEvent::Take {
             at: _,
@@ -235,7 +237,7 @@ pub fn is_event(event: &PairEvent) -> bool
             count,
         } => is_above(channel) && is_from_to(1, MAX_COUNT, count),
         PairEvent::Drain { max, piece } => {
-            is_from_to(1, MAX_FRAME, max) && is_from_to(1, MAX_COUNT, piece)
+            is_from_to(1, MAX_PIECE, max) && is_from_to(1, MAX_COUNT, piece)
         }
     }
 }
@@ -261,7 +263,7 @@ fn is_from_to(least: u32, most: u32, n: u32) -> bool
 fn is_above(channel: u32) -> bool
     ensures { result ≡ is_above_value channel }
 {
-    is_from_to(1, MAX_CHANNEL, channel)
+    is_from_to(1, MAX_NUMBER, channel)
 }
 
 fn is_of(at: End, channel: u32) -> bool

@@ -1,5 +1,6 @@
 //! Reading a schedule.
 ghost use Rattle.std.specs.Prelude.{◌≡◌, ◌≢◌, ◌+◌, ◌<◌, ◌≤◌, ◌++◌, IsTrue, length, drop, None, IfOk, IfErr, IfSome, IfNone};
+ghost use Rattle.beep_octets.specs.Numbers.{numbers_32};
 ghost use Rattle.beep_schedule.specs.Events.{is_event};
 ghost use Rattle.beep_schedule.specs.Schedule.{Says, event_line};
 ghost use Rattle.beep_schedule.specs.Refused.{Refuses, line_of, MayFollow};
@@ -7,7 +8,6 @@ ghost use Rattle.beep_schedule.specs.declared.event.PairEvent.{PairEvent as Even
 
 use crate::event::PairEvent;
 use crate::field::place_of;
-use crate::limits::MAX_SCHEDULE;
 use crate::line::event_in;
 use crate::schedule::Schedule;
 use std::alloc::Global;
@@ -26,9 +26,10 @@ pub enum ScheduleError {
 
 const FIRST_LINE: &[u8] = b"beep-schedule 1\n";
 
-/// The schedule that a text says. It goes over the octets once, and takes memory for the events.
+/// The schedule that a text says. It goes over the octets once, and takes memory for the events. The
+/// number of a line has 32 bits.
 pub fn read_schedule(alloc: Global, text: &[u8]) -> Result<Schedule, ScheduleError>
-    requires within { length text.now ≤ MAX_SCHEDULE }
+    requires within { length text.now < numbers_32 }
     ensures value { IfOk result (λ schedule. Says text.now schedule) }
     ensures refused { IfErr result (λ error. Refuses text.now error) }
 {

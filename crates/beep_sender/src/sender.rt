@@ -13,7 +13,8 @@ ghost use Rattle.beep_steps.specs.beep_link.specs.Causes.{ended_by, Grows, WithT
 ghost use Rattle.beep_steps.specs.beep_answering.specs.Sent.{is_uri as is_uri_text};
 ghost use Rattle.beep_steps.specs.beep_link.specs.declared.end.TheConstants.{FRAME_ROOM};
 ghost use Rattle.beep_steps.specs.beep_link.specs.declared.ended.Stop.{Stop as StopValue};
-ghost use Rattle.beep_sender.specs.declared.sender.TheConstants.{CHANNEL, TAKEN};
+ghost use Rattle.beep_steps.specs.beep_frame.specs.declared.limits.TheConstants.{MAX_PAYLOAD};
+ghost use Rattle.beep_sender.specs.declared.sender.TheConstants.{CHANNEL};
 ghost use Rattle.beep_steps.specs.Logs.{moments};
 ghost use Rattle.beep_steps.specs.Refusing.{closing_by};
 ghost use Rattle.beep_steps.specs.Resting.{AreShort, HasRepliedAt, HoldsStill, IsAwake, RestsAt};
@@ -26,7 +27,7 @@ mod noting;
 mod taking;
 
 use beep_steps::beep_chars::Text;
-use beep_steps::beep_frame::Head;
+use beep_steps::beep_frame::{Head, MAX_PAYLOAD};
 use beep_steps::beep_link::{BUFFER, End, FRAME_ROOM, Stop};
 use beep_steps::beep_octets::{NoMemory, Octets};
 use beep_steps::beep_session::Session;
@@ -53,9 +54,6 @@ const CLOSED: usize = 2;
 
 const RELEASED: usize = 3;
 
-/// How many octets are taken at once: a frame has no more.
-const TAKEN: usize = 65536;
-
 /// A session that sends.
 #[derive(Drop)]
 pub(crate) struct Sender<'l> {
@@ -70,7 +68,7 @@ pub(crate) struct Sender<'l> {
     body: Octets,
     taken: Vec<u8>,
     ghost listed: { is_uri_text uri.now ≡ true },
-    ghost room: { vec_len taken ≡ TAKEN },
+    ghost room: { vec_len taken ≡ MAX_PAYLOAD },
 }
 
 impl<'l> Sender<'l> {
@@ -92,7 +90,7 @@ impl<'l> Sender<'l> {
         ensures closing { IfOk result (λ sender. sender.is_closing ≡ false) }
     {
         let mut taken = Vec::new(alloc);
-        taken.resize(TAKEN, 0)?;
+        taken.resize(MAX_PAYLOAD as usize, 0)?;
         Ok(Sender {
             alloc,
             session,

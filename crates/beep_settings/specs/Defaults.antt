@@ -2,7 +2,8 @@
 -- The code makes the texts anew; here they are values.
 use Rattle.std.specs.Prelude.{false, chars, codes}
 use Rattle.beep_settings.specs.declared.settings.Settings.{Settings}
-use Rattle.beep_settings.specs.declared.settings.TheConstants.{HOST, RAW_URI, PORT, WINDOW, PIECE, IDLE, OCTETS, SESSIONS}
+use Rattle.beep_seq.specs.declared.limits.TheConstants.{INITIAL_WINDOW}
+use Rattle.beep_settings.specs.declared.settings.TheConstants.{HOST, RAW_URI, PORT, PIECE, IDLE, OCTETS, SESSIONS}
 
 -- the settings without options
 abbrev pub default_settings : Settings
@@ -10,7 +11,7 @@ default_settings = record {
   host = chars HOST.now;
   port = PORT;
   raw_uri = chars RAW_URI.now;
-  window = WINDOW;
+  window = INITIAL_WINDOW;
   piece = PIECE;
   idle = IDLE;
   octets = OCTETS;

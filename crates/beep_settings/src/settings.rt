@@ -4,6 +4,7 @@ ghost use Rattle.beep_settings.specs.Defaults.{default_settings};
 
 use beep_chars::Text;
 use beep_octets::NoMemory;
+use beep_seq::INITIAL_WINDOW;
 use std::alloc::Global;
 
 /// The host that is dialled where nothing else is set.
@@ -14,10 +15,6 @@ pub const RAW_URI: &str = "http://xml.resource.org/profiles/syslog/RAW";
 
 /// The port where nothing else is set, that of syslog over BEEP (RFC 3195, section 9.2).
 pub const PORT: u16 = 601;
-
-/// The own window where nothing else is set, in octets: the one with which a channel begins (RFC
-/// 3081, section 3.1.4).
-pub const WINDOW: u32 = 4096;
 
 /// The most octets of payload in one frame where nothing else is set.
 pub const PIECE: u32 = 1024;
@@ -41,7 +38,8 @@ pub struct Settings {
     pub port: u16,
     /// The URI of the profile RAW, 1 to 255 printable characters of ASCII.
     pub raw_uri: Text,
-    /// The own window of each channel, in octets, 4,096 to 65,536.
+    /// The own window of each channel, in octets, 4,096 to 65,536; where nothing is set, the one
+    /// with which a channel begins.
     pub window: u32,
     /// The most octets of payload in one frame that is sent, 1 to 4,096.
     pub piece: u32,
@@ -64,7 +62,7 @@ impl Settings {
             host: Text::of(alloc, HOST)?,
             port: PORT,
             raw_uri: Text::of(alloc, RAW_URI)?,
-            window: WINDOW,
+            window: INITIAL_WINDOW,
             piece: PIECE,
             idle: IDLE,
             octets: OCTETS,

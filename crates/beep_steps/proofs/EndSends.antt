@@ -116,8 +116,8 @@ module _ (plan : PlainPlan) (p : Progress) (session : Held) (log : List Moment) 
         (subst (HasSentAll plan) (sym shown.journal_is) (all-sent (none-shown log shown.past shown.shows shown.journal_is none) (over-on session log s.on e)))
 
     -- octets that come after the release
-    pub behind-sent : (octets : List ℕ) → session.peer.released ≡ true → ShowsNoRefusal (terms_of session) (got_all octets log) → ShowsSent plan (got_all octets log)
-    behind-sent octets e none =
+    pub after-sent : (octets : List ℕ) → session.peer.released ≡ true → ShowsNoRefusal (terms_of session) (got_all octets log) → ShowsSent plan (got_all octets log)
+    after-sent octets e none =
         let released = released-on session log s.on e in
         let l = released-gots (terms_of session) s.on.rest octets journal log released s.on.logged in
         shows-all plan (terms_of session) (got_all octets log) same (record { past = l.shown.past; shows = l.shown.shows; going = l.shown.going; lawful = l.lawful }) l.shown.whole
@@ -184,7 +184,7 @@ module _ (plan : PlainPlan) (p : Progress) (count : ℕ) (bytes : List ℕ) (old
       → Feeds event old.limits.window (take count bytes) fed journal given taken new.peer)
       → SendsOn plan p old log → plan.terms ≡ terms_of old → ShowsNoRefusal plan.terms (got_all bytes log) → ShowsSent plan (got_all bytes log)
   release-sent event true e is answers s same none =
-      behind-sent plan p old log s same bytes e (subst (λ (t : Terms). ShowsNoRefusal t (got_all bytes log)) same none)
+      after-sent plan p old log s same bytes e (subst (λ (t : Terms). ShowsNoRefusal t (got_all bytes log)) same none)
   release-sent event false e is answers s same none =
       absurd (subst (λ (x : Event). Feeds x old.limits.window (take count bytes) s.on.fed s.on.journal s.on.given s.on.taken new.peer) is
       (answers s.on.fed s.on.rest s.on.journal s.on.given s.on.taken e s.on.stands.stands))

@@ -274,8 +274,8 @@ module _ (session : Held) (log : List Moment) (w : WaitsOn session log) where
 
 module _ (bytes : List ℕ) (old : Held) (log : List Moment) (s : StandsOn old log) (closing : Bool) (u : IsUnrefused (command_of old.role) closing log) where
   -- it changes nothing
-  pub behind-unrefused : is_released s.journal ≡ true → ShowsNoRefusal (terms_of old) (got_all bytes log)
-  behind-unrefused e past shows =
+  pub after-unrefused : is_released s.journal ≡ true → ShowsNoRefusal (terms_of old) (got_all bytes log)
+  after-unrefused e past shows =
       let l = released-gots (terms_of old) s.rest bytes s.journal log e s.logged in
       let same : past.journal ≡ s.journal =
       ap (λ (p : Past). p.journal) (one-shown none_tunes (got_all bytes log) past l.shown.past shows l.shown.shows) ∙ l.shown.journal_is in
@@ -284,7 +284,7 @@ module _ (bytes : List ℕ) (old : Held) (log : List Moment) (s : StandsOn old l
   pub feed-unrefused : (event : Event) (released : Bool) → old.peer.released ≡ released → event ≡ Event.Released → (count : ℕ) (new : Held)
       → ((fed rest : List ℕ) (journal : List Item) (given taken : Marks) → old.peer.released ≡ false → IsPeer old.limits.window fed rest journal given taken old.peer
       → Feeds event old.limits.window (take count bytes) fed journal given taken new.peer) → ShowsNoRefusal (terms_of old) (got_all bytes log)
-  feed-unrefused event true e is count new answers = behind-unrefused (sym s.stands.stands.released ∙ e)
+  feed-unrefused event true e is count new answers = after-unrefused (sym s.stands.stands.released ∙ e)
   feed-unrefused event false e is count new answers =
       absurd (subst (λ (x : Event). Feeds x old.limits.window (take count bytes) s.fed s.journal s.given s.taken new.peer) is (answers s.fed s.rest s.journal s.given s.taken e s.stands.stands))
 

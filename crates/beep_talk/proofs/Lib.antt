@@ -1,2 +1,1 @@
-mod NoteLemmas
 mod ListLemmas

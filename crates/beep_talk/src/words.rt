@@ -11,7 +11,7 @@ ghost use Rattle.beep_mgmt.specs.Written.{is_uri_allowed, is_writable};
 ghost use Rattle.beep_talk.specs.AtZero.{profile_of};
 
 use beep_chars::Text;
-use beep_decide::Offer;
+use beep_decide::{Offer, note_of};
 use beep_mgmt::{Encoding, Mgmt, Profile, Profiles, SUCCESS, write_mgmt};
 use beep_octets::{NoMemory, Octets};
 use std::alloc::Global;
@@ -158,22 +158,5 @@ fn put_offered(alloc: Global, offers: &[Offer], profiles: &mut Profiles) -> Resu
             profiles.push(profile_of(alloc, offer.uri.copy()?))?;
             put_offered(alloc, others, profiles)
         }
-    }
-}
-
-/// The text that goes with a code.
-fn note_of(code: u16) -> &'static str
-    ensures value { chars result.now ≡ note_of code }
-    ensures allowed { list_all is_allowed (note_of code) ≡ true }
-{
-    match code {
-        450 | 550 => "requested action not taken",
-        451 => "requested action aborted",
-        500 => "general syntax error",
-        501 => "syntax error in parameters",
-        504 => "parameter not implemented",
-        537 => "action not authorized for user",
-        553 => "parameter invalid",
-        _ => "",
     }
 }

@@ -405,10 +405,10 @@ some_none s same = absurd (cc same)
 
 -- the machine read front and `&`, and then what follows
 pub record AtAmp (front rest : List ℕ) (s : State) : Type 0 where
-  pub behind : State
-  pub goes : run (Some start) (front ++ 38 ∷ []) ≡ Some behind
-  pub amp : AmpMode behind.mode
-  pub then_goes : run (Some behind) rest ≡ Some s
+  pub later : State
+  pub goes : run (Some start) (front ++ 38 ∷ []) ≡ Some later
+  pub amp : AmpMode later.mode
+  pub then_goes : run (Some later) rest ≡ Some s
 
 at_amp : (front rest : List ℕ) (s : State) → run (Some start) (front ++ 38 ∷ rest) ≡ Some s → AtAmp front rest s
 unfolding OnAmp
@@ -420,7 +420,7 @@ at_amp front rest s goes = by_front (run (Some start) front) refl
     by_step : (s0 : State) → run (Some start) front ≡ Some s0 → (o : Option State) → step s0 38 ≡ o → OnState (λ x. AmpMode x.mode) o → AtAmp front rest s
     by_step s0 is None stuck amp = absurd (some_none s (sym parted ∙ ap (λ x. run x (38 ∷ rest)) is ∙ ap (λ x. run x rest) stuck ∙ run-none rest))
     by_step s0 is (Some s1) next amp = record {
-      behind = s1;
+      later = s1;
       goes = run-append (Some start) front (38 ∷ []) ∙ ap (λ x. run x (38 ∷ [])) is ∙ next;
       amp = amp;
       then_goes = ap (λ x. run x rest) (sym next) ∙ ap (λ x. run x (38 ∷ rest)) (sym is) ∙ parted;
@@ -441,7 +441,7 @@ blank-none front s1 goes o next =
 pub blank-dead : (front rest : List ℕ) (s : State) → run (Some start) (front ++ 38 ∷ rest) ≡ Some s → in_ref s.mode ≡ true → list_all (λ b. not (b == 62)) rest ≡ true → IsAlive (front ++ 38 ∷ 32 ∷ []) → ⊥
 blank-dead front rest s goes ref no_gt alive =
     let a = at_amp front rest s goes in
-    let s1 = a.behind in
+    let s1 = a.later in
     ⊎_elim (λ r. alive-run (front ++ 38 ∷ 32 ∷ []) (blank-none front s1 a.goes None r.1) alive)
     (λ x. not_both s.mode ref (on_some (λ y. in_section y.mode ≡ true) (run (Some s1) rest) s a.then_goes (section-goes rest s1 x.0 no_gt)))
     (amp_case s1.mode s1.below s1.top s1.attr s1.value a.amp)
@@ -450,7 +450,7 @@ blank-dead front rest s goes ref no_gt alive =
 pub amp-ref : (front rest : List ℕ) (s : State) → run (Some start) (front ++ 38 ∷ rest) ≡ Some s → length front + 2 ≤ 65536 → list_all (λ b. not (b == 59)) rest ≡ true → ¬ (IsAlive (front ++ 38 ∷ 32 ∷ [])) → in_ref s.mode ≡ true
 amp-ref front rest s goes small no_end only =
     let a = at_amp front rest s goes in
-    let s1 = a.behind in
+    let s1 = a.later in
     ⊎_elim (λ r. on_some (λ y. in_ref y.mode ≡ true) (run (Some s1) rest) s a.then_goes (ref-run rest s1 r.0 no_end))
     (λ x. absurd (only (run-alive (front ++ 38 ∷ 32 ∷ []) x.1.0 (omega (arith, length-append front (38 ∷ 32 ∷ []))) (blank-none front s1 a.goes (Some x.1.0) x.1.1))))
     (amp_case s1.mode s1.below s1.top s1.attr s1.value a.amp)

@@ -1,5 +1,6 @@
 //! What one octet does to a character, and the classes of characters (RFC 3080, section 6.4).
-ghost use Rattle.std.specs.Prelude.{◌≡◌, ◌+◌, ◌*◌, ◌^◌, ◌≤◌};
+ghost use Rattle.std.specs.Prelude.{◌≡◌, ◌+◌, ◌*◌, ◌≤◌};
+ghost use Rattle.beep_octets.specs.Numbers.{numbers_32};
 ghost use Rattle.beep_chars.specs.Characters.{is_space, is_allowed, is_name_start, is_name_char, is_digit};
 ghost use Rattle.beep_text.specs.Elements.{is_hex_digit, digit_of};
 ghost use Rattle.beep_text.specs.Machine.{letter_after, letters_taken, is_no_letter, allowed_taken, first_taken, named_taken, digit_taken, is_digit_in, taken_after, char_taken, is_fresh, is_tail, grown, base_of, is_ref, in_ref};
@@ -319,7 +320,7 @@ fn number_after(hex: bool, any: bool, value: u32, octet: u8) -> Taken
 
 fn base_times(hex: bool, value: u32) -> u64
     ensures value { result ≡ base_of hex * value }
-    ensures within { result ≤ 2 ^ 36 }
+    ensures within { result ≤ 16 * numbers_32 }
 {
     if hex {
         16 * value as u64

@@ -18,7 +18,7 @@ use Rattle.beep_history.proofs.PassedLemmas.{sound}
 use Rattle.beep_two_ends.specs.Seen.{Sees}
 use Rattle.beep_history.proofs.RepliesLemmas.{same-threshold}
 use Rattle.beep_two_ends.proofs.KeptLemmas.{AllKept, none_broken}
-use Rattle.beep_two_ends.proofs.SeenLemmas.{Agrees, agrees, find-behind, find-near}
+use Rattle.beep_two_ends.proofs.SeenLemmas.{Agrees, agrees, find-after, find-near}
 
 -- ---- a reply names one request at both ends
 
@@ -44,7 +44,7 @@ named_of mine theirs head u v a k =
     let rs : List Request = requests Side.Received mine in
     let numbered = requests-numbered Side.Sent theirs in
     let found : latest Side.Sent head.msgno theirs ≡ Some d.request =
-    rw a.earlier.is (find-behind head.msgno t.oldest a.earlier.newer rs d.request (rw a.earlier.is at numbered) (requests-numbered Side.Received mine) d.found
+    rw a.earlier.is (find-after head.msgno t.oldest a.earlier.newer rs d.request (rw a.earlier.is at numbered) (requests-numbered Side.Received mine) d.found
     (omega (arith, d.at, same)) (rw a.earlier.is at t.apart)) in
     record {
       request = d.request;

@@ -81,16 +81,16 @@ other-number n m (x ∷ ns) none some = other-number-by (other-number n m ns) (x
     other-number-by later false e false f none' some' = later none' some'
 
 -- what is found at or after a place stays found after newer requests, where the numbers from that place on are apart
-pub find-behind : (n oldest : ℕ) (newer rs : List Request) (r : Request) → IsNumbered (newer ++ rs) → IsNumbered rs
+pub find-after : (n oldest : ℕ) (newer rs : List Request) (r : Request) → IsNumbered (newer ++ rs) → IsNumbered rs
     → find (λ x. x.number == n) rs ≡ Some r → oldest ≤ r.position
     → IsApartFirst (length (newer ++ rs) - oldest) (map (λ (x : Request). x.number) (newer ++ rs))
     → find (λ x. x.number == n) (newer ++ rs) ≡ Some r
-find-behind n oldest [] rs r numbered numbered' found least apart = found
-find-behind n oldest (x ∷ newer) rs r numbered numbered' found least apart =
+find-after n oldest [] rs r numbered numbered' found least apart = found
+find-after n oldest (x ∷ newer) rs r numbered numbered' found least apart =
     let below = find-below (λ (y : Request). y.number == n) rs r numbered' found in
     let more : suc (length (newer ++ rs)) - oldest ≡ suc (length (newer ++ rs) - oldest) = omega (arith, length-append newer rs) in
     let apart' = rw more at apart in
-    let rest = find-behind n oldest newer rs r numbered.1 numbered' found least apart'.1 in
+    let rest = find-after n oldest newer rs r numbered.1 numbered' found least apart'.1 in
     let other = other-number n x.number _ apart'.0 (has-found n oldest (newer ++ rs) r numbered.1 rest least) in
     rw other rest
 

@@ -33,7 +33,7 @@ use Rattle.beep_two_journals.proofs.FormLemmas.{form-arrives, form_is, content_i
 use Rattle.beep_two_journals.proofs.PassingLemmas.{Bridged}
 use Rattle.beep_two_journals.proofs.BridgeLemmas.{bridged, HasForms, has_form}
 use Rattle.beep_two_journals.proofs.LifeLemmas.{IsSteady, now-same, history-same, history-zero, there-live, live-there, zero-there, itself}
-use Rattle.beep_two_journals.proofs.KeptLemmas.{rules_keep, head_keeps, frame_keeps, Behind, behind}
+use Rattle.beep_two_journals.proofs.KeptLemmas.{rules_keep, head_keeps, frame_keeps, Follows, follows-header}
 
 clash : (b : Bool) → b ≡ true → b ≡ false → ⊥
 clash b t f = let e : true ≡ false = sym t ∙ f in cc
@@ -164,12 +164,12 @@ module _ (of_mine : Terms) (own : ℕ → Bool) (later mine theirs : List Item) 
 
   -- ---- a frame
 
-  frame-behind : (head : Head) (payload : List ℕ) → Meets of_mine own later mine theirs (passed Side.Received head payload) → Behind mine head payload
-  frame-behind head payload m = behind mine head payload (frame_keeps of_mine mine head payload m.mine_lawful).apart
+  frame-follows : (head : Head) (payload : List ℕ) → Meets of_mine own later mine theirs (passed Side.Received head payload) → Follows mine head payload
+  frame-follows head payload m = follows-header mine head payload (frame_keeps of_mine mine head payload m.mine_lawful).apart
 
   frame-content : (head : Head) (payload : List ℕ) → Meets of_mine own later mine theirs (passed Side.Received head payload) → broken_content Side.Received theirs head payload ≡ None
   frame-content head payload m =
-      let k = frame-behind head payload m in
+      let k = frame-follows head payload m in
       content_is Side.Received theirs head payload (λ z r more.
       let before = zero-before later (passed Side.Sent head payload ∷ mine) in
       let inside : zero_history (passed Side.Sent head payload ∷ mine) ≡ passed Side.Sent head payload ∷ zero_history mine = in-zero z in
@@ -188,7 +188,7 @@ module _ (of_mine : Terms) (own : ℕ → Bool) (later mine theirs : List Item) 
 
   frame-breaks : (head : Head) (payload : List ℕ) → Meets of_mine own later mine theirs (passed Side.Received head payload) → BreaksNothing theirs (passed Side.Received head payload)
   frame-breaks head payload m =
-      let k = frame-behind head payload m in
+      let k = frame-follows head payload m in
       (under-same (passed Side.Received head payload) m ∙ ap (under_way Side.Sent) k.is, k.size, frame-content head payload m)
 
   -- the frame passes in the life in which its header came
@@ -196,7 +196,7 @@ module _ (of_mine : Terms) (own : ℕ → Bool) (later mine theirs : List Item) 
       → life_under_way head.channel Side.Received theirs ≡ of_journal.life_now head.channel theirs
   frame-steady head payload m z =
       let n : ℕ = head.channel in
-      let k = frame-behind head payload m in
+      let k = frame-follows head payload m in
       let c = head_came theirs head (sent k.before) (m.sees.all ∙ ap sent k.is) in
       let mine_is : entries mine ≡ on n (began Side.Sent head) ∷ entries k.before = ap entries k.is ∙ rw z refl in
       let then_is : entries (passed Side.Sent head payload ∷ mine) ≡ on n (passed Side.Sent head payload) ∷ on n (began Side.Sent head) ∷ entries k.before =

@@ -223,17 +223,17 @@ one-head a b e =
     fields : (a b : Head) → a.kind ≡ b.kind → a.channel ≡ b.channel → a.msgno ≡ b.msgno → a.more ≡ b.more → a.seqno ≡ b.seqno → a.size ≡ b.size → a.ansno ≡ b.ansno → a ≡ b
     fields a b k c m o s z n = seven a.kind b.kind a.channel b.channel a.msgno b.msgno a.more b.more a.seqno b.seqno a.size b.size a.ansno b.ansno k c m o s z n
 
-pub record Behind (past : List Item) (head : Head) (payload : List ℕ) : Type 0 where
+pub record Follows (past : List Item) (head : Head) (payload : List ℕ) : Type 0 where
   pub before : List Item
   pub is : past ≡ began Side.Sent head ∷ before
   pub size : length payload ≡ head.size
 
-pub behind : (past : List Item) (head : Head) (payload : List ℕ) → breaks_apart past head payload ≡ false → Behind past head payload
-behind [] head payload e = cc
-behind (began Side.Received begun ∷ past) head payload e = cc
-behind (passed by begun octets ∷ past) head payload e = cc
-behind (told by seq ∷ past) head payload e = cc
-behind (began Side.Sent begun ∷ past) head payload e =
+pub follows-header : (past : List Item) (head : Head) (payload : List ℕ) → breaks_apart past head payload ≡ false → Follows past head payload
+follows-header [] head payload e = cc
+follows-header (began Side.Received begun ∷ past) head payload e = cc
+follows-header (passed by begun octets ∷ past) head payload e = cc
+follows-header (told by seq ∷ past) head payload e = cc
+follows-header (began Side.Sent begun ∷ past) head payload e =
     let both = not-not (same_head begun head && length payload == head.size) e in
     let same : begun ≡ head = one-head begun head (both-one (same_head begun head) (length payload == head.size) both) in
     record {
@@ -276,15 +276,15 @@ module _ (terms : Terms) (part : List Item → List Item) (test : Item → List 
   free (told by seq ∷ past) l u =
       ap (under_way Side.Sent) (step (told by seq) past)
       ∙ beside (test (told by seq) past) (told by seq) past refl (free past (lawful-tail terms (told by seq) past l) u)
-  free (passed Side.Sent head payload ∷ []) l u = let k = behind [] head payload (frame_keeps terms [] head payload l).apart in let bad = k.is in cc
+  free (passed Side.Sent head payload ∷ []) l u = let k = follows-header [] head payload (frame_keeps terms [] head payload l).apart in let bad = k.is in cc
   free (passed Side.Sent head payload ∷ began Side.Received begun ∷ past) l u =
-      let k = behind (began Side.Received begun ∷ past) head payload (frame_keeps terms (began Side.Received begun ∷ past) head payload l).apart in let bad = k.is in cc
+      let k = follows-header (began Side.Received begun ∷ past) head payload (frame_keeps terms (began Side.Received begun ∷ past) head payload l).apart in let bad = k.is in cc
   free (passed Side.Sent head payload ∷ passed by begun octets ∷ past) l u =
-      let k = behind (passed by begun octets ∷ past) head payload (frame_keeps terms (passed by begun octets ∷ past) head payload l).apart in let bad = k.is in cc
+      let k = follows-header (passed by begun octets ∷ past) head payload (frame_keeps terms (passed by begun octets ∷ past) head payload l).apart in let bad = k.is in cc
   free (passed Side.Sent head payload ∷ told by seq ∷ past) l u =
-      let k = behind (told by seq ∷ past) head payload (frame_keeps terms (told by seq ∷ past) head payload l).apart in let bad = k.is in cc
+      let k = follows-header (told by seq ∷ past) head payload (frame_keeps terms (told by seq ∷ past) head payload l).apart in let bad = k.is in cc
   free (passed Side.Sent head payload ∷ began Side.Sent begun ∷ past) l u =
-      let k = behind (began Side.Sent begun ∷ past) head payload (frame_keeps terms (began Side.Sent begun ∷ past) head payload l).apart in
+      let k = follows-header (began Side.Sent begun ∷ past) head payload (frame_keeps terms (began Side.Sent begun ∷ past) head payload l).apart in
       let is : began Side.Sent begun ∷ past ≡ began Side.Sent head ∷ k.before = k.is in
       let same_past : began Side.Sent begun ∷ past ≡ began Side.Sent head ∷ past = by-head begun head past k.before is in
       let l' : IsLawful terms none_tunes (began Side.Sent begun ∷ past) = lawful-tail terms (passed Side.Sent head payload) (began Side.Sent begun ∷ past) l in

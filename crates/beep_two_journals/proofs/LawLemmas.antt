@@ -36,7 +36,7 @@ use Rattle.beep_two_journals.proofs.FormLemmas.{count-asked}
 use Rattle.beep_two_journals.proofs.PassingLemmas.{Bridged}
 use Rattle.beep_two_journals.proofs.BridgeLemmas.{bridged, HasForms, has_form}
 use Rattle.beep_two_journals.proofs.LifeLemmas.{IsSteady, history-same, history-zero, there-live, number, itself}
-use Rattle.beep_two_journals.proofs.KeptLemmas.{lawful-first, head_keeps, frame_keeps, behind, free}
+use Rattle.beep_two_journals.proofs.KeptLemmas.{lawful-first, head_keeps, frame_keeps, follows-header, free}
 use Rattle.beep_two_journals.proofs.AsksLemmas.{ask_law, reply_law, close-of}
 use Rattle.beep_two_journals.proofs.ClosesLemmas.{none_begins, drained_since}
 
@@ -238,10 +238,10 @@ module _ (terms : Terms) (own : ℕ → Bool) (mine : (n : ℕ) → may_start te
 
     module _ (r : is_reply head.kind ≡ true) (more : head.more ≡ false) (some : (replies_ended (frames Side.Sent (zero_history past)) == 0) ≡ false) where
       count : replies_ended (frames Side.Sent (zero_history past)) ≡ length (replied Side.Sent (entries past)) + 1
-      count = behind-first (replies_ended (frames Side.Sent (zero_history past))) (length (replied Side.Sent (entries past))) some (same.replied_is Side.Sent)
+      count = after-first (replies_ended (frames Side.Sent (zero_history past))) (length (replied Side.Sent (entries past))) some (same.replied_is Side.Sent)
         where
-          behind-first : (n m : ℕ) → (n == 0) ≡ false → m ≡ n - 1 → n ≡ m + 1
-          behind-first n m e f = let h : 0 < n = positive n e in omega (arith, h, f)
+          after-first : (n m : ℕ) → (n == 0) ≡ false → m ≡ n - 1 → n ≡ m + 1
+          after-first n m e f = let h : 0 < n = positive n e in omega (arith, h, f)
 
       position : position_of Side.Sent (zero_history past) head ≡ length (replied Side.Sent (entries past)) + 1
       position = position-is Side.Sent (zero_history past) head keeps under r ∙ count
@@ -351,7 +351,7 @@ module _ (terms : Terms) (own : ℕ → Bool) (mine : (n : ℕ) → may_start te
       by-channel true z = head-zero head l z
       by-channel false z = head-above head l z
   goes (passed Side.Received head payload) r l =
-      let k = behind past head payload (frame_keeps terms past head payload l).apart in by-channel k.before k.is k.size (head.channel == 0) refl
+      let k = follows-header past head payload (frame_keeps terms past head payload l).apart in by-channel k.before k.is k.size (head.channel == 0) refl
     where
       by-channel : (before : List Item) → past ≡ began Side.Sent head ∷ before → length payload ≡ head.size → (b : Bool) → (head.channel == 0) ≡ b
           → Goes own (passed Side.Sent head payload ∷ past)

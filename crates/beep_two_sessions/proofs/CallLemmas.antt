@@ -23,7 +23,7 @@ use Rattle.beep_session.specs.beep_lawful.specs.declared.terms.Terms.{Terms}
 use Rattle.beep_session.specs.beep_lawful.specs.Lawful.{IsLawful}
 use Rattle.beep_session.specs.beep_speaking.specs.declared.emit.Emit.{Emit}
 use Rattle.beep_session.specs.beep_upright.specs.Upright.{IsUpright}
-use Rattle.beep_two_journals.proofs.KeptLemmas.{frame_keeps, behind}
+use Rattle.beep_two_journals.proofs.KeptLemmas.{frame_keeps, follows-header}
 use Rattle.beep_session.specs.beep_peer.specs.declared.peer.Peer.{Peer}
 use Rattle.beep_session.specs.beep_peer.specs.Acts.{IsUnchanged}
 use Rattle.beep_session.specs.beep_peer.specs.Calls.{Begins as BeginsPeer, Settles, Speaks, IsLawfulNext}
@@ -220,7 +220,7 @@ frame-step head most before after old session e h s m same = (
       same = same;
       is_frame = (
         h,
-        (behind (began Side.Sent head ∷ old.journal) head m.payload
+        (follows-header (began Side.Sent head ∷ old.journal) head m.payload
             (frame_keeps (terms_of old.session) (began Side.Sent head ∷ old.journal) head m.payload m.lawful).apart).size,
       );
       most = most;

@@ -8,13 +8,13 @@ use Rattle.std.specs.Str.{bytes_eq}
 use Rattle.std.proofs.lemmas.Slice.Eq.{bytes_eq-Decides}
 use Rattle.std.proofs.lemmas.Bool.Decides.{nat_tests}
 use Rattle.beep_settings.specs.declared.settings.Settings.{Settings}
-use Rattle.beep_settings.specs.declared.settings.TheConstants.{HOST, RAW_URI, PORT, WINDOW, PIECE, IDLE, OCTETS, SESSIONS}
+use Rattle.beep_settings.specs.declared.settings.TheConstants.{HOST, RAW_URI, PORT, PIECE, IDLE, OCTETS, SESSIONS}
 use Rattle.beep_words.specs.declared.form.Form.{Form}
 use Rattle.beep_words.specs.declared.command.ShowSettings.{ShowSettings}
 use Rattle.beep_words.specs.declared.command.PairSettings.{PairSettings}
 use Rattle.beep_words.specs.declared.command.Command.{Command}
 use Rattle.beep_settings.specs.declared.limits.TheConstants.{MAX_PIECE}
-use Rattle.beep_seq.specs.declared.limits.TheConstants.{MIN_WINDOW, MAX_WINDOW}
+use Rattle.beep_seq.specs.declared.limits.TheConstants.{INITIAL_WINDOW, MIN_WINDOW, MAX_WINDOW}
 use Rattle.beep_chars.specs.declared.limits.TheConstants.{MAX_URI}
 use Rattle.beep_words.specs.declared.options.TheConstants.{MAX_HOST, MAX_PORT, MAX_IDLE, MAX_SETTING, MAX_SESSIONS}
 use Rattle.beep_words.specs.CommandSet.{Value, choice, number, text, OptionRow, Chosen, words_of, number_set, form_in, IsOf, IsOfSome, IsTaken, value_in, AreWords, show_options, send_options, listen_options, pair_options, IsShow, IsReplay, IsTextOf, IsEnd, IsListen, IsPair, IsCommand, IsOfEnd}
@@ -127,8 +127,8 @@ pair_is words e =
     record {
       chosen = c.chosen;
       are_words = record { each = c.each; distinct = c.distinct; words_are = ap (λ ws. codes "pair" ∷ ws) c.words_are };
-      window = subst (λ (ws : List (List ℕ)). number (number_at (codes "--window") WINDOW ws) ≡ value_in (codes "--window") (number WINDOW) c.chosen) (sym c.words_are)
-          (number_is pair_options (codes "--window") WINDOW MAX_WINDOW (omega arith) pair_window_taken c.chosen c.each);
+      window = subst (λ (ws : List (List ℕ)). number (number_at (codes "--window") INITIAL_WINDOW ws) ≡ value_in (codes "--window") (number INITIAL_WINDOW) c.chosen) (sym c.words_are)
+          (number_is pair_options (codes "--window") INITIAL_WINDOW MAX_WINDOW (omega arith) pair_window_taken c.chosen c.each);
       piece = subst (λ (ws : List (List ℕ)). number (number_at (codes "--piece") PIECE ws) ≡ value_in (codes "--piece") (number PIECE) c.chosen) (sym c.words_are)
           (number_is pair_options (codes "--piece") PIECE MAX_PIECE (omega arith) pair_piece_taken c.chosen c.each);
       seed = subst (λ (ws : List (List ℕ)). number_set_at (codes "--seed") ws ≡ number_set (codes "--seed") c.chosen) (sym c.words_are)
@@ -138,15 +138,15 @@ pair_is words e =
 is_pair : (settings : PairSettings) (name : List ℕ) (words : List (List ℕ)) → IsPair settings (name ∷ words) → (settings ≡ pair_of words) × ((bytes_eq name (codes "pair") && are_options pair_options words) ≡ true)
 is_pair settings name words s =
     let w = tail_of name (codes "pair") words (flat_map words_of s.chosen) s.are_words.words_are in
-    let window = number_same settings.window (number_at (codes "--window") WINDOW (flat_map words_of s.chosen)) _ s.window
-    (number_is pair_options (codes "--window") WINDOW MAX_WINDOW (omega arith) pair_window_taken s.chosen s.are_words.each) in
+    let window = number_same settings.window (number_at (codes "--window") INITIAL_WINDOW (flat_map words_of s.chosen)) _ s.window
+    (number_is pair_options (codes "--window") INITIAL_WINDOW MAX_WINDOW (omega arith) pair_window_taken s.chosen s.are_words.each) in
     let piece = number_same settings.piece (number_at (codes "--piece") PIECE (flat_map words_of s.chosen)) _ s.piece
     (number_is pair_options (codes "--piece") PIECE MAX_PIECE (omega arith) pair_piece_taken s.chosen s.are_words.each) in
     let seed : settings.seed ≡ number_set_at (codes "--seed") (flat_map words_of s.chosen) = s.seed
     ∙ sym (number_set_is pair_options (codes "--seed") MAX_SETTING (omega arith) pair_seed_taken s.chosen s.are_words.each) in
     let same : settings ≡ pair_of (flat_map words_of s.chosen) =
     ap₂ (λ (a : ℕ) (b : ℕ). record { window = a; piece = b; seed = settings.seed }) window piece
-    ∙ ap (λ (n : Option ℕ). record { window = number_at (codes "--window") WINDOW (flat_map words_of s.chosen); piece = number_at (codes "--piece") PIECE (flat_map words_of s.chosen); seed = n }) seed in
+    ∙ ap (λ (n : Option ℕ). record { window = number_at (codes "--window") INITIAL_WINDOW (flat_map words_of s.chosen); piece = number_at (codes "--piece") PIECE (flat_map words_of s.chosen); seed = n }) seed in
     (same ∙ ap pair_of (sym w), options_are (codes "pair") pair_options readable_pair s.chosen name words s.are_words)
 
 -- ---- send and listen
@@ -208,7 +208,7 @@ module _ (command : List ℕ) (rows : List OptionRow) (takes : TakesSettings row
         host = text_is_of HOST.now _ _ (text_is rows (codes "--host") HOST.now takes.host chosen each);
         port = ap (λ (n : ℕ). number n) (min_under (number_at (codes "--port") PORT ws) MAX_PORT few) ∙ port;
         raw_uri = text_is_of RAW_URI.now _ _ (text_is rows (codes "--raw-uri") RAW_URI.now takes.raw_uri chosen each);
-        window = number_is rows (codes "--window") WINDOW MAX_WINDOW (omega arith) takes.window chosen each;
+        window = number_is rows (codes "--window") INITIAL_WINDOW MAX_WINDOW (omega arith) takes.window chosen each;
         piece = number_is rows (codes "--piece") PIECE MAX_PIECE (omega arith) takes.piece chosen each;
         idle = number_is rows (codes "--idle") IDLE MAX_IDLE (omega arith) takes.idle chosen each;
         octets = number_is rows (codes "--octets") OCTETS MAX_SETTING (omega arith) takes.octets chosen each;
@@ -233,7 +233,7 @@ module _ (command : List ℕ) (rows : List OptionRow) (takes : TakesSettings row
       (ap (λ (n : ℕ). number n) (min_under (number_at (codes "--port") PORT ws) MAX_PORT
       (to_most MAX_PORT (number_at (codes "--port") PORT ws) (value_in (codes "--port") (number PORT) s.chosen) (number_is rows (codes "--port") PORT MAX_PORT (omega arith) takes.port s.chosen each) (value_to rows (codes "--port") PORT MAX_PORT takes.port (omega arith) s.chosen each)))
       ∙ number_is rows (codes "--port") PORT MAX_PORT (omega arith) takes.port s.chosen each) in
-      let window : settings.window ≡ (settings_of ws).window = number_same settings.window (settings_of ws).window (value_in (codes "--window") (number WINDOW) s.chosen) s.window (number_is rows (codes "--window") WINDOW MAX_WINDOW (omega arith) takes.window s.chosen each) in
+      let window : settings.window ≡ (settings_of ws).window = number_same settings.window (settings_of ws).window (value_in (codes "--window") (number INITIAL_WINDOW) s.chosen) s.window (number_is rows (codes "--window") INITIAL_WINDOW MAX_WINDOW (omega arith) takes.window s.chosen each) in
       let piece : settings.piece ≡ (settings_of ws).piece = number_same settings.piece (settings_of ws).piece (value_in (codes "--piece") (number PIECE) s.chosen) s.piece (number_is rows (codes "--piece") PIECE MAX_PIECE (omega arith) takes.piece s.chosen each) in
       let idle : settings.idle ≡ (settings_of ws).idle = number_same settings.idle (settings_of ws).idle (value_in (codes "--idle") (number IDLE) s.chosen) s.idle (number_is rows (codes "--idle") IDLE MAX_IDLE (omega arith) takes.idle s.chosen each) in
       let octets : settings.octets ≡ (settings_of ws).octets = number_same settings.octets (settings_of ws).octets (value_in (codes "--octets") (number OCTETS) s.chosen) s.octets (number_is rows (codes "--octets") OCTETS MAX_SETTING (omega arith) takes.octets s.chosen each) in

@@ -7,10 +7,10 @@ use Rattle.std.proofs.lemmas.Bool.Decides.{nat_tests}
 use Rattle.std.proofs.lemmas.Str.{chars-IsAscii}
 use Rattle.beep_chars.specs.Characters.{is_allowed}
 use Rattle.beep_settings.specs.declared.settings.Settings.{Settings}
-use Rattle.beep_settings.specs.declared.settings.TheConstants.{RAW_URI, PORT, WINDOW, PIECE, IDLE, OCTETS, SESSIONS}
+use Rattle.beep_settings.specs.declared.settings.TheConstants.{RAW_URI, PORT, PIECE, IDLE, OCTETS, SESSIONS}
 use Rattle.beep_words.specs.declared.form.Form.{Form}
 use Rattle.beep_settings.specs.declared.limits.TheConstants.{MAX_PIECE}
-use Rattle.beep_seq.specs.declared.limits.TheConstants.{MIN_WINDOW, MAX_WINDOW}
+use Rattle.beep_seq.specs.declared.limits.TheConstants.{INITIAL_WINDOW, MIN_WINDOW, MAX_WINDOW}
 use Rattle.beep_chars.specs.declared.limits.TheConstants.{MAX_URI}
 use Rattle.beep_words.specs.declared.options.TheConstants.{MAX_PORT, MAX_IDLE, MAX_SETTING, MAX_SESSIONS}
 use Rattle.beep_words.specs.CommandSet.{Value, choice, number, text, is_printable, OptionRow, Chosen, form_in, IsText, IsOf, IsOfSome, IsTaken, value_in, IsTextOf, IsEnd, IsSend, IsListen, IsPair, send_options, listen_options, pair_options}
@@ -120,7 +120,7 @@ usable command rows t settings words s =
     record {
       ranged = record {
         port = number_of 1 MAX_PORT settings.port _ s.port (of_form rows (codes "--port") (Form.Number 1 MAX_PORT) t.port (number PORT) (omega arith, omega arith) s.chosen each);
-        window = number_of MIN_WINDOW MAX_WINDOW settings.window _ s.window (of_form rows (codes "--window") (Form.Number MIN_WINDOW MAX_WINDOW) t.window (number WINDOW) (omega arith, omega arith) s.chosen each);
+        window = number_of MIN_WINDOW MAX_WINDOW settings.window _ s.window (of_form rows (codes "--window") (Form.Number MIN_WINDOW MAX_WINDOW) t.window (number INITIAL_WINDOW) (omega arith, omega arith) s.chosen each);
         piece = number_of 1 MAX_PIECE settings.piece _ s.piece (of_form rows (codes "--piece") (Form.Number 1 MAX_PIECE) t.piece (number PIECE) (omega arith, omega arith) s.chosen each);
         idle = number_of 1 MAX_IDLE settings.idle _ s.idle (of_form rows (codes "--idle") (Form.Number 1 MAX_IDLE) t.idle (number IDLE) (omega arith, omega arith) s.chosen each);
         octets = number_of 1 MAX_SETTING settings.octets _ s.octets (of_form rows (codes "--octets") (Form.Number 1 MAX_SETTING) t.octets (number OCTETS) (omega arith, omega arith) s.chosen each);
@@ -143,6 +143,6 @@ pair_is_usable settings words s =
     let window : Takes pair_options (codes "--window") (IsOf (Form.Number MIN_WINDOW MAX_WINDOW)) = λ v i. i in
     let piece : Takes pair_options (codes "--piece") (IsOf (Form.Number 1 MAX_PIECE)) = λ v i. i in
     record {
-      window = number_of MIN_WINDOW MAX_WINDOW settings.window _ s.window (of_form pair_options (codes "--window") (Form.Number MIN_WINDOW MAX_WINDOW) window (number WINDOW) (omega arith, omega arith) s.chosen each);
+      window = number_of MIN_WINDOW MAX_WINDOW settings.window _ s.window (of_form pair_options (codes "--window") (Form.Number MIN_WINDOW MAX_WINDOW) window (number INITIAL_WINDOW) (omega arith, omega arith) s.chosen each);
       piece = number_of 1 MAX_PIECE settings.piece _ s.piece (of_form pair_options (codes "--piece") (Form.Number 1 MAX_PIECE) piece (number PIECE) (omega arith, omega arith) s.chosen each);
     }

@@ -4,8 +4,9 @@ use Rattle.std.specs.Prelude.{ℕ, min, Bool, true, false, not, ◌&&◌, ◌||�
 use Rattle.std.specs.Fmt.{decimal}
 use Rattle.std.specs.List.{list_all}
 use Rattle.std.specs.Str.Parse.{digits_value}
+use Rattle.beep_seq.specs.declared.limits.TheConstants.{INITIAL_WINDOW}
 use Rattle.beep_settings.specs.declared.settings.Settings.{Settings}
-use Rattle.beep_settings.specs.declared.settings.TheConstants.{HOST, RAW_URI, PORT, WINDOW, PIECE, IDLE, OCTETS, SESSIONS}
+use Rattle.beep_settings.specs.declared.settings.TheConstants.{HOST, RAW_URI, PORT, PIECE, IDLE, OCTETS, SESSIONS}
 use Rattle.beep_words.specs.declared.form.Form.{Form}
 use Rattle.beep_words.specs.declared.command.ShowSettings.{ShowSettings}
 use Rattle.beep_words.specs.declared.command.PairSettings.{PairSettings}
@@ -123,7 +124,7 @@ settings_of words = record {
   host = chars (text_at (codes "--host") HOST.now words);
   port = min (number_at (codes "--port") PORT words) MAX_PORT;
   raw_uri = chars (text_at (codes "--raw-uri") RAW_URI.now words);
-  window = number_at (codes "--window") WINDOW words;
+  window = number_at (codes "--window") INITIAL_WINDOW words;
   piece = number_at (codes "--piece") PIECE words;
   idle = number_at (codes "--idle") IDLE words;
   octets = number_at (codes "--octets") OCTETS words;
@@ -134,7 +135,7 @@ settings_of words = record {
 -- what the options of `pair` say
 abbrev pub pair_of : List (List ℕ) → PairSettings
 pair_of words = record {
-  window = number_at (codes "--window") WINDOW words;
+  window = number_at (codes "--window") INITIAL_WINDOW words;
   piece = number_at (codes "--piece") PIECE words;
   seed = number_set_at (codes "--seed") words;
 }

@@ -5,13 +5,13 @@ use Rattle.std.specs.Prelude.{◌≡◌, ℕ, ◌<◌, ◌≤◌, ◌⊎◌, ◌
 use Rattle.std.specs.Fmt.{decimal}
 use Rattle.std.specs.List.{flat_map, list_all, AllByRecursion}
 use Rattle.beep_settings.specs.declared.settings.Settings.{Settings}
-use Rattle.beep_settings.specs.declared.settings.TheConstants.{HOST, RAW_URI, PORT, WINDOW, PIECE, IDLE, OCTETS, SESSIONS}
+use Rattle.beep_settings.specs.declared.settings.TheConstants.{HOST, RAW_URI, PORT, PIECE, IDLE, OCTETS, SESSIONS}
 use Rattle.beep_words.specs.declared.form.Form.{Form}
 use Rattle.beep_words.specs.declared.command.Command.{Command}
 use Rattle.beep_words.specs.declared.command.ShowSettings.{ShowSettings}
 use Rattle.beep_words.specs.declared.command.PairSettings.{PairSettings}
 use Rattle.beep_settings.specs.declared.limits.TheConstants.{MAX_PIECE}
-use Rattle.beep_seq.specs.declared.limits.TheConstants.{MIN_WINDOW, MAX_WINDOW}
+use Rattle.beep_seq.specs.declared.limits.TheConstants.{INITIAL_WINDOW, MIN_WINDOW, MAX_WINDOW}
 use Rattle.beep_chars.specs.declared.limits.TheConstants.{MAX_URI}
 use Rattle.beep_words.specs.declared.options.TheConstants.{MAX_HOST, MAX_PORT, MAX_IDLE, MAX_SETTING, MAX_SESSIONS}
 
@@ -198,7 +198,7 @@ pub record IsEnd (command : List ℕ) (rows : List OptionRow) (settings : Settin
   pub port : number settings.port ≡ value_in (codes "--port") (number PORT) chosen
   pub raw_uri : IsTextOf settings.raw_uri
       (value_in (codes "--raw-uri") (text RAW_URI.now) chosen)
-  pub window : number settings.window ≡ value_in (codes "--window") (number WINDOW) chosen
+  pub window : number settings.window ≡ value_in (codes "--window") (number INITIAL_WINDOW) chosen
   pub piece : number settings.piece ≡ value_in (codes "--piece") (number PIECE) chosen
   pub idle : number settings.idle ≡ value_in (codes "--idle") (number IDLE) chosen
   pub octets : number settings.octets ≡ value_in (codes "--octets") (number OCTETS) chosen
@@ -219,7 +219,7 @@ pub record IsListen (settings : Settings) (words : List (List ℕ)) : Type 0 whe
 pub record IsPair (settings : PairSettings) (words : List (List ℕ)) : Type 0 where
   pub chosen : List Chosen
   pub are_words : AreWords (codes "pair") pair_options chosen words
-  pub window : number settings.window ≡ value_in (codes "--window") (number WINDOW) chosen
+  pub window : number settings.window ≡ value_in (codes "--window") (number INITIAL_WINDOW) chosen
   pub piece : number settings.piece ≡ value_in (codes "--piece") (number PIECE) chosen
   pub seed : settings.seed ≡ number_set (codes "--seed") chosen
 

@@ -10,7 +10,8 @@ use crate::form::{is_of, number_in};
 use crate::options::{MAX_PORT, Options};
 use beep_chars::Text;
 use beep_octets::NoMemory;
-use beep_settings::{HOST, IDLE, OCTETS, PIECE, PORT, RAW_URI, SESSIONS, Settings, WINDOW};
+use beep_seq::INITIAL_WINDOW;
+use beep_settings::{HOST, IDLE, OCTETS, PIECE, PORT, RAW_URI, SESSIONS, Settings};
 use std::alloc::Global;
 
 /// Whether the words are options of a command and their values, each option once at most.
@@ -145,7 +146,7 @@ pub(crate) fn settings_in(alloc: Global, words: &[String]) -> Result<Settings, N
         host: text_at(alloc, "--host", HOST, words)?,
         port: number_at("--port", u32::from(PORT), words).min(MAX_PORT) as u16,
         raw_uri: text_at(alloc, "--raw-uri", RAW_URI, words)?,
-        window: number_at("--window", WINDOW, words),
+        window: number_at("--window", INITIAL_WINDOW, words),
         piece: number_at("--piece", PIECE, words),
         idle: number_at("--idle", IDLE, words),
         octets: number_at("--octets", OCTETS, words),
@@ -158,7 +159,7 @@ pub(crate) fn settings_in(alloc: Global, words: &[String]) -> Result<Settings, N
 pub(crate) fn pair_in(words: &[String]) -> PairSettings
     ensures { result ≡ pair_of (map string_bytes words.now) }
 {
-    let window = number_at("--window", WINDOW, words);
+    let window = number_at("--window", INITIAL_WINDOW, words);
     let piece = number_at("--piece", PIECE, words);
     let seed = number_set_at("--seed", words);
     PairSettings {

@@ -75,7 +75,7 @@ fn arrive(
 
 /// Takes all that is untaken.
 pub(crate) fn take_all(channel: &mut Channel) {
-    let mut buf = [0u8; 4096];
+    let mut buf = [0u8; PIECE];
     for _ in 0..MOST_PARTS {
         if channel.take(&mut buf).is_none() {
             return;

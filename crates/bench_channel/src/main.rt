@@ -7,7 +7,7 @@ mod sending;
 mod stop;
 
 use crate::arriving::{arrive_all, take_all};
-use crate::sending::{cut_all, give_all};
+use crate::sending::{PIECE, cut_all, give_all};
 use crate::stop::Stop;
 use beep_channel::Channel;
 use beep_octets::Octets;
@@ -17,7 +17,7 @@ use std::io;
 use std::process::ExitCode;
 
 /// The own window of each channel, in octets.
-const WINDOW: u32 = 65536;
+pub(crate) const WINDOW: u32 = 65536;
 
 fn main(rt: HostRuntime) -> ExitCode {
     let words = match words_of(&rt) {
@@ -71,7 +71,7 @@ fn channels(alloc: Global, last: &str, size: u32, messages: u32, count: u32) -> 
         payload.extend(b"x")?;
     }
     let mut out = Octets::new(alloc);
-    out.reserve(4096)?;
+    out.reserve(PIECE as usize)?;
     let room = (size as usize).saturating_mul(messages as usize);
     for _ in 0..count {
         let mut channel = Channel::new(alloc, 1, WINDOW)?;

@@ -1,11 +1,12 @@
 //! Messages that are given, and frames that are cut.
+use crate::WINDOW;
 use crate::stop::Stop;
 use beep_channel::Channel;
 use beep_frame::Seq;
 use beep_octets::Octets;
 
 /// The most octets in a frame.
-const PIECE: u32 = 4096;
+pub(crate) const PIECE: u32 = 4096;
 
 /// More frames than any run cuts of one channel.
 const MOST_FRAMES: u32 = 4096;
@@ -48,7 +49,7 @@ fn open(channel: &mut Channel, sent: u32) -> Result<(), Stop> {
     let seq = Seq {
         channel: 1,
         ackno: sent,
-        window: 65536,
+        window: WINDOW,
     };
     match channel.acked(&seq) {
         Ok(()) => Ok(()),

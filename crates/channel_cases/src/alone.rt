@@ -5,14 +5,18 @@ use crate::give::put_refusal;
 use beep_channel::Channel;
 use beep_frame::{Head, Kind, Rule, Seq};
 use beep_octets::{NoMemory, Octets};
+use beep_seq::INITIAL_WINDOW;
 use case_lines::{Bad, Fields, put_number, put_word, put_yes};
 use std::alloc::Global;
+
+/// The most octets of a frame that is cut.
+const PIECE: u32 = 4096;
 
 /// A new life of channel 1 with a window of 4,096 octets.
 pub(crate) fn new_channel(alloc: Global) -> Result<Channel, NoMemory>
     ensures { IfOk result (λ channel. channel.held.number ≡ 1) }
 {
-    Channel::new(alloc, 1, 4096)
+    Channel::new(alloc, 1, INITIAL_WINDOW)
 }
 
 /// The size of a first request: the rule that its header breaks.
@@ -38,7 +42,7 @@ pub(crate) fn acked(alloc: Global, fields: &mut Fields<'_>, out: &mut Octets) ->
     let seq = Seq {
         channel: 1,
         ackno: fields.number()?,
-        window: 4096,
+        window: INITIAL_WINDOW,
     };
     let mut channel = new_channel(alloc)?;
     match channel.acked(&seq) {
@@ -89,11 +93,11 @@ fn ask(alloc: Global, channel: &mut Channel, count: u32, out: &mut Octets) -> Re
 /// Cuts a frame of at most 4,096 octets: its keyword, number, flag, sequence number and size.
 fn cut(alloc: Global, channel: &mut Channel, out: &mut Octets) -> Result<(), Bad> {
     let mut octets = Octets::new(alloc);
-    octets.reserve(4096)?;
+    octets.reserve(PIECE as usize)?;
     if !channel.is_ready() {
         return Err(Bad::Field);
     }
-    let head = channel.cut(4096, &mut octets);
+    let head = channel.cut(PIECE, &mut octets);
     put_head(&head, out)
 }
 

@@ -6,8 +6,12 @@ use beep_history::{JournalItem, Side};
 use beep_journal::{Role, StartPlace};
 use beep_lawful::{Breach, Terms, due, is_lawful, open_octets, unlawful_item};
 use beep_octets::Octets;
+use beep_seq::MIN_WINDOW;
 use case_lines::{Bad, Fields, put_number, put_word, put_yes};
 use std::alloc::Global;
+
+/// The most octets of payload in one frame that these ends send.
+const PIECE: u32 = 1024;
 
 /// An end, which start is tuning, what has happened, which is lawful, and what goes out next: what
 /// it breaks.
@@ -35,9 +39,9 @@ pub(crate) fn lawful(alloc: Global, fields: &mut Fields<'_>, out: &mut Octets) -
 /// of twice the size.
 fn terms_of(word: &str) -> Result<Terms, Bad> {
     match word {
-        "listener" => Ok(terms(Role::Listener, 4096)),
-        "initiator" => Ok(terms(Role::Initiator, 4096)),
-        "wide" => Ok(terms(Role::Listener, 8192)),
+        "listener" => Ok(terms(Role::Listener, MIN_WINDOW)),
+        "initiator" => Ok(terms(Role::Initiator, MIN_WINDOW)),
+        "wide" => Ok(terms(Role::Listener, 2 * MIN_WINDOW)),
         _ => Err(Bad::Field),
     }
 }
@@ -46,7 +50,7 @@ fn terms(role: Role, window: u32) -> Terms {
     Terms {
         role,
         window,
-        piece: 1024,
+        piece: PIECE,
     }
 }
 

@@ -10,6 +10,9 @@ use beep_octets::Octets;
 use case_lines::{Bad, Fields, put_word};
 use std::alloc::Global;
 
+/// An edge that no frame passes whose size and sequence number have 32 bits each.
+const WIDE: u128 = 1 << 33;
+
 /// What happens in a few words, what has happened, and the header that comes: the rule that it
 /// breaks, as it is and with the sides exchanged.
 pub(crate) fn life(alloc: Global, fields: &mut Fields<'_>, out: &mut Octets) -> Result<(), Bad> {
@@ -105,5 +108,5 @@ fn after_in_wide(
 fn broken_in_wide(story: &mut Story, past: &str, next: &str) -> Result<Option<Rule>, Bad> {
     story.play(past)?;
     let (side, head) = header(story, next)?;
-    Ok(broken_within(8589934592, side, story.items.as_slice(), &head))
+    Ok(broken_within(WIDE, side, story.items.as_slice(), &head))
 }

@@ -7,6 +7,9 @@ use beep_lives::Lives;
 use beep_octets::Octets;
 use case_lines::{Bad, put_number, put_word, put_yes};
 
+/// The most octets that arrive, or are taken, at once.
+const PIECE: usize = 4096;
+
 /// The header of a first request of so many octets.
 pub(crate) fn head_of(channel: u32, size: u32) -> Result<Head, Bad> {
     match Head::new(Kind::Msg, channel, 0, false, 0, size, 0) {
@@ -43,7 +46,7 @@ pub(crate) fn arrive(lives: &mut Lives, channel: u32, out: &mut Octets) -> Resul
 
 fn has_arrived(lives: &mut Lives, channel: u32, size: u32) -> Result<bool, Bad> {
     let head = head_of(channel, size)?;
-    let payload = [b'x'; 4096];
+    let payload = [b'x'; PIECE];
     let Some(payload) = payload.get(..size as usize) else {
         return Err(Bad::Field);
     };
@@ -78,7 +81,7 @@ pub(crate) fn take(lives: &mut Lives, channel: u32, out: &mut Octets) -> Result<
     if !lives.is_live(channel) {
         return Err(Bad::Field);
     }
-    let mut buf = [0u8; 4096];
+    let mut buf = [0u8; PIECE];
     match lives.take(channel, &mut buf) {
         Some(part) => put_part(part.len, part.ended, out),
         None => Err(Bad::Field),

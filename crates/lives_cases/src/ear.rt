@@ -6,6 +6,7 @@ use beep_hearing::laws::a_new_ear_stands;
 use beep_hearing::{Ear, Heard};
 use beep_lives::Lives;
 use beep_octets::NoMemory;
+use beep_seq::INITIAL_WINDOW;
 use std::alloc::Global;
 use std::marker::Model;
 
@@ -32,7 +33,7 @@ impl Model for Session {
 impl Session {
     pub(crate) fn new(alloc: Global) -> Result<Session, NoMemory> {
         let ear = Ear::new(alloc)?;
-        let lives = Lives::new(alloc, 4096)?;
+        let lives = Lives::new(alloc, INITIAL_WINDOW)?;
         a_new_ear_stands();
         Ok(Session {
             ear,

@@ -3,16 +3,21 @@
 
 use crate::carry::{arrive, begin, receive, take};
 use beep_channel::Channel;
-use beep_frame::{Rule, Seq};
+use beep_frame::{MAX_NUMBER, Rule, Seq};
 use beep_lives::Lives;
 use beep_octets::{NoMemory, Octets};
+use beep_seq::INITIAL_WINDOW;
+use beep_turns::MAX_CHANNELS;
 use case_lines::{Bad, Fields, begin as begin_word, number_of, put_number, put_word, put_yes};
 use std::alloc::Global;
+
+/// The most octets of a frame that is cut.
+const PIECE: u32 = 1024;
 
 /// What is done with channel zero and the channels 3 and 1, whose windows have 4,096 octets.
 pub(crate) fn lives(alloc: Global, fields: &mut Fields<'_>, out: &mut Octets) -> Result<(), Bad> {
     let steps = fields.next()?;
-    let mut lives = Lives::new(alloc, 4096)?;
+    let mut lives = Lives::new(alloc, INITIAL_WINDOW)?;
     with_three(alloc, &mut lives, steps, out)
 }
 
@@ -26,11 +31,11 @@ fn with_three(alloc: Global, lives: &mut Lives, steps: &str, out: &mut Octets) -
 }
 
 fn add(alloc: Global, lives: &mut Lives, number: u32) -> Result<(), Bad> {
-    if number == 0 || 2147483647 < number {
+    if number == 0 || MAX_NUMBER < number {
         return Err(Bad::Field);
     }
-    let channel = Channel::new(alloc, number, 4096)?;
-    if lives.is_live(channel.number()) || 64 < lives.len() {
+    let channel = Channel::new(alloc, number, INITIAL_WINDOW)?;
+    if lives.is_live(channel.number()) || MAX_CHANNELS < lives.len() {
         return Err(Bad::Field);
     }
     lives.add(channel);
@@ -63,7 +68,7 @@ fn of_number(lives: &mut Lives, step: &str, out: &mut Octets) -> Result<(), Bad>
         "live" => live(lives, number_of(text)?, out),
         "end" => end(lives, number_of(text)?),
         "give" => give(lives, text),
-        "come" => receive(lives, number_of(text)?, 4096),
+        "come" => receive(lives, number_of(text)?, INITIAL_WINDOW),
         "take" => take(lives, number_of(text)?, out),
         "begin" => begin(lives, number_of(text)?, 1),
         "whole" => arrive(lives, number_of(text)?, out),
@@ -111,8 +116,8 @@ fn give(lives: &mut Lives, text: &str) -> Result<(), Bad> {
 /// Cuts the next frame: its channel, number, size and octets.
 fn cut(lives: &mut Lives, out: &mut Octets) -> Result<(), Bad> {
     let mut payload = Octets::new(out.alloc());
-    payload.reserve(1024)?;
-    let Some(head) = lives.cut(1024, &mut payload) else {
+    payload.reserve(PIECE as usize)?;
+    let Some(head) = lives.cut(PIECE, &mut payload) else {
         return put_none(out);
     };
     put_number(head.channel as u64, out)?;
@@ -162,7 +167,7 @@ fn acked(lives: &mut Lives, text: &str, out: &mut Octets) -> Result<(), Bad> {
     let seq = Seq {
         channel: number_of(channel)?,
         ackno: number_of(ackno)?,
-        window: 4096,
+        window: INITIAL_WINDOW,
     };
     match lives.acked(&seq) {
         Ok(live) => put_yes(live, out)?,

@@ -1,9 +1,7 @@
 //! Schedules of two ends.
 
 use beep_octets::Octets;
-use beep_schedule::{
-    Act, MAX_SCHEDULE, PairEvent, Schedule, ScheduleError, generated, is_event, read_schedule,
-};
+use beep_schedule::{Act, PairEvent, Schedule, ScheduleError, generated, is_event, read_schedule};
 use case_lines::{Bad, Fields, octets_of, put_number, put_word};
 use std::alloc::Global;
 
@@ -14,7 +12,7 @@ pub(crate) fn schedule(
     out: &mut Octets,
 ) -> Result<(), Bad> {
     let text = octets_of(alloc, fields.next()?)?;
-    if MAX_SCHEDULE < text.len() {
+    if u32::MAX as usize <= text.len() {
         return Err(Bad::Field);
     }
     match read_schedule(alloc, text.as_slice()) {

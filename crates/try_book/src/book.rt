@@ -6,6 +6,9 @@ use beep_frame::{Kind, Tag};
 use beep_inbox::Part;
 use std::alloc::Global;
 
+/// How many numbers tell messages apart: so many have 32 bits.
+const IDS: u64 = 1 << 32;
+
 /// One of the two ends: A is the initiator.
 #[derive(Clone, Copy, Debug, PartialEq, Eq)]
 pub enum Who {
@@ -190,7 +193,7 @@ impl Book {
 
     /// What tells the message that is given next from all others.
     pub fn next_id(&self) -> u32 {
-        (self.counts.given % 4294967296) as u32
+        (self.counts.given % IDS) as u32
     }
 
     /// The life of a number that lives at an end.

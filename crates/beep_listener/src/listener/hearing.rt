@@ -8,7 +8,7 @@ ghost use Rattle.beep_steps.specs.beep_link.specs.Causes.{ended_by, Grows, WithT
 ghost use Rattle.beep_steps.specs.beep_link.specs.declared.ended.Stop.{Stop as StopValue};
 ghost use Rattle.beep_lines.specs.Bodies.{body_of, IsOver};
 ghost use Rattle.beep_lines.specs.Lines.{lines_of, GathersAll, GathersSome};
-ghost use Rattle.beep_listener.specs.declared.listener.TheConstants.{TAKEN};
+ghost use Rattle.beep_steps.specs.beep_frame.specs.declared.limits.TheConstants.{MAX_PAYLOAD};
 ghost use Rattle.beep_listener.specs.Listening.{is_first, is_whole, part_lines, plan_of, Listens, ListensTaking, ListensWaiting, PartOf, UnrefusedOn, UnrefusedWaiting, WritesLines};
 ghost use Rattle.beep_steps.specs.Logs.{AreTaken, SaysNothing, StandsOn, StaysOn, StopsOn, WaitsOn};
 ghost use Rattle.beep_steps.specs.Refusing.{refused_so, IsOtherStop, RefusesOn, RefusesWith};
@@ -16,7 +16,7 @@ ghost use Rattle.beep_steps.specs.Serving.{KeepsServing, ServesOn, ServesWaiting
 ghost use Rattle.beep_steps.specs.beep_talk.specs.declared.plan.Command.{Command};
 ghost use Rattle.beep_steps.specs.beep_talk.specs.Plan.{PlainPlan};
 
-use super::{Listener, TAKEN};
+use super::Listener;
 use crate::pruning::prune;
 use beep_steps::beep_frame::Kind;
 use beep_steps::beep_inbox::Part;
@@ -280,7 +280,7 @@ impl Listener {
     /// Uses a part that was taken: one of an answer to the first request goes on with it, or ends
     /// it.
     fn took<O: Sink>(&mut self, number: u32, part: Part, output: &mut O) -> Result<(), Stop>
-        requires within { part.len ≤ TAKEN }
+        requires within { part.len ≤ MAX_PAYLOAD }
         ensures session { self.new.session ≡ self.old.session }
         ensures notes { notes_of self.new ≡ notes_of self.old }
         ensures bodies { OnOk result (PartOf number (part_marks part self.old.taken.items)
@@ -324,7 +324,7 @@ impl Listener {
         count: usize,
         output: &mut O,
     ) -> Result<(), Stop>
-        requires within { count ≤ TAKEN }
+        requires within { count ≤ MAX_PAYLOAD }
         ensures session { self.new.session ≡ self.old.session }
         ensures notes { notes_of self.new ≡ notes_of self.old }
         ensures bodies { OnOk result (IsOver number ansno self.old.bodies self.new.bodies) }

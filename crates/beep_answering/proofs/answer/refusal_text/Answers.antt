@@ -8,5 +8,5 @@ use Rattle.beep_answering.proofs.answer.refusal_text.Goals as goal
 
 pub returns : goal.returns
 returns c =
-    is-message-of (λ o. o.octets) c.message_of.result _ (refusal_of c.args.code) (ap (λ (note : List ℕ). fault c.args.code note) (c.in_ok-note.ensures ∙ c.note_of.ensures))
+    is-message-of (λ o. o.octets) c.message_of.result _ (refusal_of c.args.code) (ap (λ (note : List ℕ). fault c.args.code note) (c.in_ok-note.ensures ∙ c.note_of.ensures.value))
     c.message_of.ensures.text c.message_of.ensures.says refl (refusal-length c.args.code)

@@ -81,10 +81,10 @@ one-more : (b : Bool) (n : ℕ) → (if b then n + 1 else n) ≡ n + (if b then 
 one-more true n = refl
 one-more false n = omega arith
 
-pub ended-behind : (test : Kind → Bool) (rs : List Run) (r : Run)
+pub ended-after : (test : Kind → Bool) (rs : List Run) (r : Run)
     → ended_of test (put_after rs r) ≡ ended_of test rs + (if r.ended && test r.tag.kind then 1 else 0)
-ended-behind test [] r = one-more (r.ended && test r.tag.kind) 0
-ended-behind test (x ∷ []) r =
+ended-after test [] r = one-more (r.ended && test r.tag.kind) 0
+ended-after test (x ∷ []) r =
     by-join x r (λ (xs : List Run). ended_of test xs ≡ ended_of test (x ∷ []) + (if r.ended && test r.tag.kind then 1 else 0))
     (λ e f. rw (← e, f) (one-more (r.ended && test r.tag.kind) 0))
     (two (x.ended && test x.tag.kind) (r.ended && test r.tag.kind))
@@ -94,28 +94,28 @@ ended-behind test (x ∷ []) r =
     two true false = refl
     two false true = refl
     two false false = refl
-ended-behind test (x ∷ y ∷ rs) r = of (x.ended && test x.tag.kind) (ended-behind test (y ∷ rs) r)
+ended-after test (x ∷ y ∷ rs) r = of (x.ended && test x.tag.kind) (ended-after test (y ∷ rs) r)
   where
     of : (b : Bool) → ended_of test (put_after (y ∷ rs) r) ≡ ended_of test (y ∷ rs) + (if r.ended && test r.tag.kind then 1 else 0)
         → (if b then ended_of test (put_after (y ∷ rs) r) + 1 else ended_of test (put_after (y ∷ rs) r)) ≡ (if b then ended_of test (y ∷ rs) + 1 else ended_of test (y ∷ rs)) + (if r.ended && test r.tag.kind then 1 else 0)
     of true e = omega (arith, e)
     of false e = e
 
-pub octets-behind : (rs : List Run) (r : Run) → octets_of (put_after rs r) ≡ octets_of rs + length r.octets
-octets-behind [] r = omega arith
-octets-behind (x ∷ []) r =
+pub octets-after : (rs : List Run) (r : Run) → octets_of (put_after rs r) ≡ octets_of rs + length r.octets
+octets-after [] r = omega arith
+octets-after (x ∷ []) r =
     by-join x r (λ (xs : List Run). octets_of xs ≡ octets_of (x ∷ []) + length r.octets)
     (λ e f. omega (arith, length-append x.octets r.octets))
     (omega arith)
-octets-behind (x ∷ y ∷ rs) r = let e = octets-behind (y ∷ rs) r in omega (arith, e)
+octets-after (x ∷ y ∷ rs) r = let e = octets-after (y ∷ rs) r in omega (arith, e)
 
 no-more : (xs : List Mark) → xs ++ [] ≡ xs
 no-more [] = refl
 no-more (x ∷ xs) = ap (λ (l : List Mark). x ∷ l) (no-more xs)
 
-pub marks-behind : (rs : List Run) (r : Run) → marks_of (put_after rs r) ≡ marks_of rs ++ run_marks r
-marks-behind [] r = no-more (run_marks r)
-marks-behind (x ∷ []) r =
+pub marks-after : (rs : List Run) (r : Run) → marks_of (put_after rs r) ≡ marks_of rs ++ run_marks r
+marks-after [] r = no-more (run_marks r)
+marks-after (x ∷ []) r =
     by-join x r (λ (xs : List Run). marks_of xs ≡ marks_of (x ∷ []) ++ run_marks r)
     (λ e f. rw (e, f) (one x.octets r.octets (if r.ended then end x.tag ∷ [] else [])))
     (ap (λ (l : List Mark). run_marks x ++ l) (no-more (run_marks r)) ∙ ap (λ (l : List Mark). l ++ run_marks r) (sym (no-more (run_marks x))))
@@ -123,27 +123,27 @@ marks-behind (x ∷ []) r =
     one : (xs ys : List ℕ) (e : List Mark) → (map (octet x.tag) (xs ++ ys) ++ e) ++ [] ≡ ((map (octet x.tag) xs ++ []) ++ []) ++ (map (octet x.tag) ys ++ e)
     one [] ys e = no-more (map (octet x.tag) ys ++ e)
     one (x' ∷ xs) ys e = ap (λ (l : List Mark). octet x.tag x' ∷ l) (one xs ys e)
-marks-behind (x ∷ y ∷ rs) r =
-    ap (λ (l : List Mark). run_marks x ++ l) (marks-behind (y ∷ rs) r) ∙ sym (append_assoc (run_marks x) (marks_of (y ∷ rs)) (run_marks r))
+marks-after (x ∷ y ∷ rs) r =
+    ap (λ (l : List Mark). run_marks x ++ l) (marks-after (y ∷ rs) r) ∙ sym (append_assoc (run_marks x) (marks_of (y ∷ rs)) (run_marks r))
 
-pub marked-behind : (rs : List Run) (r : Run) → AllMarked rs → has_mark r ≡ true → AllMarked (put_after rs r)
-marked-behind [] r a m = (m, tt)
-marked-behind (x ∷ []) r a m =
+pub marked-after : (rs : List Run) (r : Run) → AllMarked rs → has_mark r ≡ true → AllMarked (put_after rs r)
+marked-after [] r a m = (m, tt)
+marked-after (x ∷ []) r a m =
     by-join x r (λ (xs : List Run). AllMarked xs) (λ e f. (both x.octets r.octets r.ended m, tt)) (a.0, (m, tt))
   where
     both : (xs ys : List ℕ) (b : Bool) → (nat_lt 0 (length ys) || b) ≡ true → (nat_lt 0 (length (xs ++ ys)) || b) ≡ true
     both [] ys b e = e
     both (x ∷ xs) ys b e = let g : nat_lt 0 (suc (length (xs ++ ys))) ≡ true = grind (arith, nat_tests) in ap (λ (c : Bool). c || b) g
-marked-behind (x ∷ y ∷ rs) r a m = (a.0, marked-behind (y ∷ rs) r a.1 m)
+marked-after (x ∷ y ∷ rs) r a m = (a.0, marked-after (y ∷ rs) r a.1 m)
 
-pub placed-behind : (own theirs : ℕ) (rs : List Run) (r : Run) → IsPlaced own theirs rs
+pub placed-after : (own theirs : ℕ) (rs : List Run) (r : Run) → IsPlaced own theirs rs
     → r.tag.request ≡ (if is_msg r.tag.kind then theirs + ended_of is_msg rs else own + ended_of ends_reply rs) % 2 ^ 64 → IsPlaced own theirs (put_after rs r)
-placed-behind own theirs [] r p e = (e ∙ ap (λ (n : ℕ). n % 2 ^ 64) (of (is_msg r.tag.kind)), tt)
+placed-after own theirs [] r p e = (e ∙ ap (λ (n : ℕ). n % 2 ^ 64) (of (is_msg r.tag.kind)), tt)
   where
     of : (b : Bool) → (if b then theirs + 0 else own + 0) ≡ (if b then theirs else own)
     of true = omega arith
     of false = omega arith
-placed-behind own theirs (x ∷ []) r p e =
+placed-after own theirs (x ∷ []) r p e =
     by-join x r (λ (xs : List Run). IsPlaced own theirs xs) (λ _ _. (p.0, tt))
     (p.0, (e ∙ ap (λ (n : ℕ). n % 2 ^ 64) (of (is_msg r.tag.kind) (x.ended && ends_reply x.tag.kind) (x.ended && is_msg x.tag.kind)), tt))
   where
@@ -153,9 +153,9 @@ placed-behind own theirs (x ∷ []) r p e =
     of true a false = omega arith
     of false true b = refl
     of false false b = omega arith
-placed-behind own theirs (x ∷ y ∷ rs) r p e = (
+placed-after own theirs (x ∷ y ∷ rs) r p e = (
   p.0,
-  placed-behind (if x.ended && ends_reply x.tag.kind then own + 1 else own) (if x.ended && is_msg x.tag.kind then theirs + 1 else theirs) (y ∷ rs) r p.1
+  placed-after (if x.ended && ends_reply x.tag.kind then own + 1 else own) (if x.ended && is_msg x.tag.kind then theirs + 1 else theirs) (y ∷ rs) r p.1
       (e ∙ ap (λ (n : ℕ). n % 2 ^ 64) (of (is_msg r.tag.kind) (x.ended && ends_reply x.tag.kind) (x.ended && is_msg x.tag.kind))),
 )
   where
@@ -167,14 +167,14 @@ placed-behind own theirs (x ∷ y ∷ rs) r p e = (
     of false false b = refl
 
 -- a run of a reply joins, and the request that waits is answered by its end
-pub answerable-behind : (w v : ℕ) (rs : List Run) (r : Run) → IsAnswerable w rs → w ≡ v + (if r.ended && ends_reply r.tag.kind then 1 else 0) → 0 < w
+pub answerable-after : (w v : ℕ) (rs : List Run) (r : Run) → IsAnswerable w rs → w ≡ v + (if r.ended && ends_reply r.tag.kind then 1 else 0) → 0 < w
     → IsAnswerable v (put_after rs r)
-answerable-behind w v [] r a e p = (λ _. last (r.ended && ends_reply r.tag.kind) e, tt)
+answerable-after w v [] r a e p = (λ _. last (r.ended && ends_reply r.tag.kind) e, tt)
   where
     last : (b : Bool) → w ≡ v + (if b then 1 else 0) → 0 < (if b then 0 + 1 else 0) + v
     last true e = omega arith
     last false e = omega (arith, e, p)
-answerable-behind w v (x ∷ []) r a e p =
+answerable-after w v (x ∷ []) r a e p =
     by-join x r (λ (xs : List Run). IsAnswerable v xs)
     (λ t f. (λ _. last (r.ended && ends_reply x.tag.kind) (e ∙ ap (λ (t : Tag). v + (if r.ended && ends_reply t.kind then 1 else 0)) t), tt))
     (λ k. let q = a.0 k in two (x.ended && ends_reply x.tag.kind) (r.ended && ends_reply r.tag.kind) e q, (λ _. last (r.ended && ends_reply r.tag.kind) e, tt))
@@ -187,13 +187,13 @@ answerable-behind w v (x ∷ []) r a e p =
     two true b e q = omega arith
     two false true e q = omega arith
     two false false e q = omega (arith, e, q)
-answerable-behind w v (x ∷ y ∷ rs) r a e p =
-    (λ k. let q = a.0 k in let b = ended-behind ends_reply (x ∷ y ∷ rs) r in omega (arith, q, b, e), answerable-behind w v (y ∷ rs) r a.1 e p)
+answerable-after w v (x ∷ y ∷ rs) r a e p =
+    (λ k. let q = a.0 k in let b = ended-after ends_reply (x ∷ y ∷ rs) r in omega (arith, q, b, e), answerable-after w v (y ∷ rs) r a.1 e p)
 
 -- a run of a request belongs to no reply
-pub request-behind : (w : ℕ) (rs : List Run) (r : Run) → IsAnswerable w rs → is_msg r.tag.kind ≡ true → IsAnswerable w (put_after rs r)
-request-behind w [] r a k = (λ f. absurd (let g : true ≡ false = sym f ∙ ap (λ (b : Bool). not b) k in cc), tt)
-request-behind w (x ∷ []) r a k =
+pub request-after : (w : ℕ) (rs : List Run) (r : Run) → IsAnswerable w rs → is_msg r.tag.kind ≡ true → IsAnswerable w (put_after rs r)
+request-after w [] r a k = (λ f. absurd (let g : true ≡ false = sym f ∙ ap (λ (b : Bool). not b) k in cc), tt)
+request-after w (x ∷ []) r a k =
     by-join x r (λ (xs : List Run). IsAnswerable w xs)
     (λ t f. (λ q. absurd (let g : true ≡ false = sym q ∙ ap (λ (b : Bool). not b) (ap (λ (t : Tag). is_msg t.kind) (sym t) ∙ k) in cc), tt)) (
       λ f. let q = a.0 f in two (x.ended && ends_reply x.tag.kind) (r.ended && ends_reply r.tag.kind) q,
@@ -204,5 +204,5 @@ request-behind w (x ∷ []) r a k =
     two true b q = omega arith
     two false true q = omega arith
     two false false q = q
-request-behind w (x ∷ y ∷ rs) r a k =
-    (λ f. let q = a.0 f in let b = ended-behind ends_reply (x ∷ y ∷ rs) r in omega (arith, q, b), request-behind w (y ∷ rs) r a.1 k)
+request-after w (x ∷ y ∷ rs) r a k =
+    (λ f. let q = a.0 f in let b = ended-after ends_reply (x ∷ y ∷ rs) r in omega (arith, q, b), request-after w (y ∷ rs) r a.1 k)

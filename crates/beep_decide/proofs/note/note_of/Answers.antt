@@ -1,7 +1,7 @@
 -- The text of a code, whose octets are its characters.
 use Rattle.std.proofs.Common.{refl, arith, codes}
-use Rattle.beep_talk.proofs.NoteLemmas.{note-text, note-either, no-note}
-use Rattle.beep_talk.proofs.words.note_of.Goals as goal
+use Rattle.beep_decide.proofs.NoteLemmas.{note-text, note-either, no-note}
+use Rattle.beep_decide.proofs.note.note_of.Goals as goal
 
 pub returns-in-450-clause-value : goal.returns-in-450-clause-value
 returns-in-450-clause-value c = note-either c.args.code c.in-450.is
