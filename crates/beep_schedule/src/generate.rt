@@ -1,5 +1,5 @@
 //! The schedule that a number makes.
-ghost use Rattle.std.specs.Prelude.{◌≡◌, ◌<◌, ◌+◌, ◌*◌, ◌%◌, ◌++◌, ◌∷◌, [], map, flat_map, OnOk, IfOk};
+ghost use Rattle.std.specs.Prelude.{◌≡◌, ◌<◌, ◌≤◌, ◌+◌, ◌*◌, ◌%◌, ◌++◌, ◌∷◌, [], map, flat_map, OnOk, IfOk};
 ghost use Rattle.std.specs.List.{range_with_len};
 ghost use Rattle.beep_settings.specs.declared.limits.TheConstants.{MAX_PIECE};
 ghost use Rattle.beep_schedule.specs.declared.limits.TheConstants.{REQUESTS, CHANNELS, MAX_COUNT, A_PIECE, A_STEP, B_PIECE, B_STEP};
@@ -10,11 +10,12 @@ ghost use Rattle.beep_schedule.specs.Generated.{generated_events, request_events
 
 use crate::event::{Act, End, PairEvent};
 use crate::limits::{
-    A_PIECE, A_STEP, B_PIECE, B_STEP, CHANNELS, LENGTH_STEP, LENGTHS, MAX_COUNT, MAX_PIECE,
-    REPLY_LEN, REQUESTS,
+    A_PIECE, A_STEP, B_PIECE, B_STEP, CHANNELS, LENGTH_STEP, LENGTHS, MAX_COUNT, REPLY_LEN,
+    REQUESTS,
 };
 use crate::schedule::Schedule;
 use beep_octets::NoMemory;
+use beep_settings::MAX_PIECE;
 use std::alloc::Global;
 
 const DRAIN: PairEvent = PairEvent::Drain {
