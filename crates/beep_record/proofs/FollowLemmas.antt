@@ -65,11 +65,11 @@ feeds old new octets count place within used place_is max frames = record {
 
 -- ---- what an item adds
 
-spelled_frame : (side : Side) (head : Head) (payload : List ℕ) (journal : List Item) (rest : List ℕ) → rest ≡ [] → spelled side (passed side head payload ∷ journal) ++ rest ≡ spelled side journal ++ spelling (framed head payload)
+pub spelled_frame : (side : Side) (head : Head) (payload : List ℕ) (journal : List Item) (rest : List ℕ) → rest ≡ [] → spelled side (passed side head payload ∷ journal) ++ rest ≡ spelled side journal ++ spelling (framed head payload)
 spelled_frame Side.Received head payload journal rest none = ap (λ x. (spelled Side.Received journal ++ spelling (framed head payload)) ++ x) none ∙ append-nil _
 spelled_frame Side.Sent head payload journal rest none = ap (λ x. (spelled Side.Sent journal ++ spelling (framed head payload)) ++ x) none ∙ append-nil _
 
-spelled_seq : (side : Side) (seq : Seq) (journal : List Item) (rest : List ℕ) → rest ≡ [] → spelled side (told side seq ∷ journal) ++ rest ≡ spelled side journal ++ spelling (seq_frame seq)
+pub spelled_seq : (side : Side) (seq : Seq) (journal : List Item) (rest : List ℕ) → rest ≡ [] → spelled side (told side seq ∷ journal) ++ rest ≡ spelled side journal ++ spelling (seq_frame seq)
 spelled_seq Side.Received seq journal rest none = ap (λ x. (spelled Side.Received journal ++ spelling (seq_frame seq)) ++ x) none ∙ append-nil _
 spelled_seq Side.Sent seq journal rest none = ap (λ x. (spelled Side.Sent journal ++ spelling (seq_frame seq)) ++ x) none ∙ append-nil _
 
@@ -99,7 +99,7 @@ too_large side journal head large =
     let e : nat_lt MAX_PAYLOAD head.size ≡ true = lt-ltb MAX_PAYLOAD head.size large in
     rw e refl
 
-broken_by : (side : Side) (octet : ℕ) (past : Past) (rule : Rule) (frames : List Frame) (max : ℕ) → max ≡ MAX_PAYLOAD → Stream (octets_of side past) frames (past.rest side)
+pub broken_by : (side : Side) (octet : ℕ) (past : Past) (rule : Rule) (frames : List Frame) (max : ℕ) → max ≡ MAX_PAYLOAD → Stream (octets_of side past) frames (past.rest side)
     → BreaksBy rule max (octets_of side past) frames octet → TakesOctet none_tunes side octet past (record past { fault = Some (fault_at side past rule) })
 broken_by side octet past rule frames max limit stream (inl header) =
     inr (inr (inr (inr (record { rule = rule; dies = header.1; place = inl (header.0, header.2); new_is = refl }))))

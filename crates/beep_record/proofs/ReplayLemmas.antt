@@ -62,7 +62,7 @@ same_seq Side.Received None seq past = record { spelled_is = refl; rest_is = ref
 same_seq Side.Sent None seq past = record { spelled_is = refl; rest_is = refl; count_is = refl }
 same_seq side (Some rule) seq past = record { spelled_is = refl; rest_is = refl; count_is = refl }
 
-same_other : (side : Side) (octet : ℕ) (past after : Past) → TakesOctet none_tunes side octet past after → Same (other side) past after
+pub same_other : (side : Side) (octet : ℕ) (past after : Past) → TakesOctet none_tunes side octet past after → Same (other side) past after
 same_other side octet past after (inl on) =
     subst (Same (other side) past) (sym on.new_is) (record { spelled_is = refl; rest_is = rest_other side _ past.rest; count_is = refl })
 same_other side octet past after (inr (inl h)) = subst (Same (other side) past) (sym h.new_is) (same_begins side (broken_head none_tunes side past.journal h.head) octet h.head past)
@@ -109,7 +109,7 @@ shows_put : (octets : List ℕ) (log : List Moment) (past after : Past) → Show
 shows_put [] log past after shows same = subst (Shows none_tunes log) (sym same) shows
 shows_put (octet ∷ octets) log past after shows takes = shows_put octets (put octet ∷ log) takes.0 after (past, shows, takes.1) takes.2
 
-shows_each : (side : Side) (octets : List ℕ) (log : List Moment) (past after : Past) → Shows none_tunes log past → TakesEach side octets past after → Shows none_tunes (many side octets log) after
+pub shows_each : (side : Side) (octets : List ℕ) (log : List Moment) (past after : Past) → Shows none_tunes log past → TakesEach side octets past after → Shows none_tunes (many side octets log) after
 shows_each Side.Received octets log past after shows takes = shows_got octets log past after shows takes
 shows_each Side.Sent octets log past after shows takes = shows_put octets log past after shows takes
 
