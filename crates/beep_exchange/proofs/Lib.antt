@@ -1,5 +1,6 @@
 pub mod NumbersLemmas
 pub mod AskerLemmas
+pub mod PlainLemmas
 pub mod RowsLemmas
 pub mod JudgedLemmas
 pub mod NotedLemmas

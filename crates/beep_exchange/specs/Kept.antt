@@ -1,7 +1,7 @@
 -- What an exchange keeps of one direction, and each rule as a test of that alone.
 -- What a rule means is said over the whole history, in beep_history; here stands what a bounded
 -- memory can tell.
-use Rattle.std.specs.Prelude.{ℕ, ◌+◌, ◌-◌, ◌==◌, min, nat_lt, nat_le, Bool, false, not, ◌&&◌, ◌||◌, if◌then◌else◌, List, [], ◌∷◌, ◌++◌, length, take, drop, map, filter, find, option_map, Option, None, Some, slice_index}
+use Rattle.std.specs.Prelude.{ℕ, ◌+◌, ◌-◌, ◌==◌, min, nat_lt, nat_le, Bool, true, false, not, ◌&&◌, ◌||◌, if◌then◌else◌, List, [], ◌∷◌, ◌++◌, length, take, drop, map, filter, find, option_map, Option, None, Some, slice_index}
 use Rattle.std.specs.List.{list_any}
 use Rattle.std.specs.Option.{option_map_or}
 use Rattle.beep_octets.specs.Numbers.{numbers_32, numbers_64}
@@ -164,6 +164,18 @@ limit_tests mine theirs head =
     ∷ (Rule.TooManyRequests, breaks_too_many_requests mine head)
     ∷ (Rule.TooManyAnswers, breaks_too_many_answers theirs head)
     ∷ []
+
+-- the header is of an answer with octets, and the frame before it completed its message
+abbrev pub is_plain : Kept → Head → Bool
+is_plain mine head =
+    is_ans head.kind && (nat_lt 0 head.size
+    && not (option_map_or (λ before. before.more) mine.before false))
+
+-- an answer to the oldest request that waits may begin, and no request is under way
+abbrev pub takes_answers : Kept → Head → Bool
+takes_answers theirs head =
+    is_current theirs head.msgno && (nat_lt (length theirs.answers) MAX_ANSWERS
+    && (not (is_open theirs) && option_map_or is_ans theirs.kind true))
 
 -- the first rule that a header breaks, by what is kept of its direction and of the other
 unfoldable pub judged : Kept → Kept → Head → Option Rule

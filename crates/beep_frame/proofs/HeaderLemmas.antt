@@ -1,12 +1,12 @@
 -- A header that is read at once.
-use Rattle.std.proofs.Common.{◌≡◌, ℕ, ◌+◌, ◌<◌, ◌≤◌, ◌==◌, Bool, true, false, List, [], ◌∷◌, ◌++◌, Option, Some, None, length, take, get_or, length-append, ◌-◌, refl, ap, sym, ◌∙◌, subst, arith, append_assoc, nat_lt, if◌then◌else◌, slice_index_or, slice_set}
+use Rattle.std.proofs.Common.{◌≡◌, ℕ, ◌+◌, ◌*◌, ◌^◌, ◌<◌, ◌≤◌, ◌==◌, Bool, true, false, List, [], ◌∷◌, ◌++◌, Option, Some, None, length, take, get_or, length-append, ◌-◌, refl, ap, sym, ◌∙◌, arith, append_assoc, nat_lt, if◌then◌else◌, slice_index_or, slice_set}
 use Rattle.std.specs.Fmt.{decimal}
 use Rattle.std.proofs.lemmas.List.{take_more}
+use Rattle.std.proofs.lemmas.Fmt.{decimal_digit}
 use Rattle.std.proofs.Math.Seq.{take-append_seam}
 use Rattle.std.proofs.lemmas.Bool.Decides.{nat_tests}
 use Rattle.beep_frame.specs.declared.line.Part.{Part}
 use Rattle.beep_frame.specs.declared.line.PartTurn.{PartTurn}
-use Rattle.beep_frame.specs.Machine.{number_turn_of}
 use Rattle.beep_frame.specs.declared.head.Head.{Head}
 use Rattle.beep_frame.specs.declared.seq.Seq.{Seq}
 use Rattle.beep_frame.specs.declared.line.Keyword.{Keyword}
@@ -16,15 +16,20 @@ use Rattle.beep_frame.specs.Line.{Turn, at_line, at_head, at_seq, dead, line_sta
 use Rattle.beep_frame.specs.Machine.{parts_of, keyword_by, part_turn}
 use Rattle.beep_frame.specs.Reading.{run}
 use Rattle.beep_frame.specs.Spelling.{header, header_line, keyword, continuation, answer_field, line_end}
-use Rattle.beep_frame.proofs.PartLemmas.{IsPart, IsOpen, PartSound, so_far, part_sound}
+use Rattle.beep_frame.proofs.PartLemmas.{next_digit}
+
+-- the first digit of a number
+pub digit_first : (bytes : List ℕ) → 0 < length bytes → 48 ≤ get_or bytes 0 0 → get_or bytes 0 0 ≤ 57 → take 1 bytes ≡ decimal (get_or bytes 0 0 - 48)
+digit_first bytes some low high =
+    let small : get_or bytes 0 0 - 48 < 10 = omega arith in
+    let back : 48 + (get_or bytes 0 0 - 48) ≡ get_or bytes 0 0 = omega arith in
+    take_more bytes 0 0 some ∙ sym (decimal_digit (get_or bytes 0 0 - 48) small ∙ ap (λ x. x ∷ []) back)
 
 -- one more digit of a number
-pub digit_more : (max end i n : ℕ) (bytes : List ℕ) (number : Option ℕ) → IsPart (Part.Number max end) → IsOpen (Part.Number max end) number → take i bytes ≡ so_far number
-    → i < length bytes → number_turn_of max end number (get_or bytes i 0) ≡ PartTurn.Digit n → (n ≤ max) × (take (i + 1) bytes ≡ decimal n)
-digit_more max end i n bytes number is goes so within e =
-    let s : PartSound (Part.Number max end) number (get_or bytes i 0) (PartTurn.Digit n) =
-    subst (PartSound (Part.Number max end) number (get_or bytes i 0)) e (part_sound (Part.Number max end) number (get_or bytes i 0) is goes) in
-    (s.0, take_more bytes i 0 within ∙ ap (λ x. x ++ get_or bytes i 0 ∷ []) so ∙ sym s.1)
+pub digit_more : (i n : ℕ) (bytes : List ℕ) → take i bytes ≡ decimal n → 0 < n → n < 2 ^ 32 → i < length bytes → 48 ≤ get_or bytes i 0 → get_or bytes i 0 ≤ 57
+    → take (i + 1) bytes ≡ decimal (n * 10 + (get_or bytes i 0 - 48))
+digit_more i n bytes so some small within low high =
+    take_more bytes i 0 within ∙ ap (λ x. x ++ get_or bytes i 0 ∷ []) so ∙ sym (next_digit n (get_or bytes i 0) some (omega arith) low high)
 
 -- the parts of a header, and what follows it
 pub joined : (k ch msg : List ℕ) (flag : ℕ) (seq size answer end rest : List ℕ)

@@ -66,7 +66,8 @@ first_digit : (c : ℕ) → 48 ≤ c → c ≤ 57 → decimal (0 * 10 + (c - 48)
 first_digit c low high =
     decimal_digit (0 * 10 + (c - 48)) (omega arith) ∙ ap (λ x. x ∷ []) (let e : 48 + (0 * 10 + (c - 48)) ≡ c = omega arith in e)
 
-next_digit : (n c : ℕ) → 0 < n → n * 10 + (c - 48) < 2 ^ 32 → 48 ≤ c → c ≤ 57 → decimal (n * 10 + (c - 48)) ≡ decimal n ++ c ∷ []
+-- one more digit
+pub next_digit : (n c : ℕ) → 0 < n → n * 10 + (c - 48) < 2 ^ 64 → 48 ≤ c → c ≤ 57 → decimal (n * 10 + (c - 48)) ≡ decimal n ++ c ∷ []
 next_digit n c some small low high =
     let m : ℕ = n * 10 + (c - 48) in
     let front : m / 10 ≡ n = omega arith in

@@ -120,6 +120,9 @@ fn find_trailer(place: &mut Place, at: usize, bytes: &[u8]) -> (usize, Found)
         → At (Place.Trailer at) line rest known
         → Finds result.1 place.new line rest known bytes.now result.0 }
 {
+    if let (0, [b'E', b'N', b'D', b'\r', b'\n', ..]) = (at, bytes) {
+        return (TRAILER.len(), Found::Frame);
+    }
     let count = matched(&TRAILER[at..], bytes);
     if at + count == TRAILER.len() {
         return (count, Found::Frame);

@@ -93,49 +93,27 @@ const LAST: Part = Part::Number {
     end: b'\r',
 };
 
-/// The parts of a header that has no answer number and begins with these letters.
-macro_rules! header_parts {
-    ($a:literal, $b:literal, $c:literal) => {
-        [
-            Part::Octet($a), Part::Octet($b), Part::Octet($c), Part::Octet(SPACE),
-            NUMBER, NUMBER, Part::Flag, Part::Octet(SPACE), ANY, LAST, Part::Octet(b'\n'),
-        ]
+const GAP: Part = Part::Octet(SPACE);
+
+/// The parts of a line that begins with these letters, and has these between its first number and
+/// its last one.
+macro_rules! line_parts {
+    ($a:literal, $b:literal, $c:literal, $($part:expr),*) => {
+        [Part::Octet($a), Part::Octet($b), Part::Octet($c), GAP, NUMBER, $($part,)* LAST, Part::Octet(b'\n')]
     };
 }
 
-static MSG: [Part; 11] = header_parts!(b'M', b'S', b'G');
+static MSG: [Part; 11] = line_parts!(b'M', b'S', b'G', NUMBER, Part::Flag, GAP, ANY);
 
-static RPY: [Part; 11] = header_parts!(b'R', b'P', b'Y');
+static RPY: [Part; 11] = line_parts!(b'R', b'P', b'Y', NUMBER, Part::Flag, GAP, ANY);
 
-static ERR: [Part; 11] = header_parts!(b'E', b'R', b'R');
+static ERR: [Part; 11] = line_parts!(b'E', b'R', b'R', NUMBER, Part::Flag, GAP, ANY);
 
-static NUL: [Part; 11] = header_parts!(b'N', b'U', b'L');
+static NUL: [Part; 11] = line_parts!(b'N', b'U', b'L', NUMBER, Part::Flag, GAP, ANY);
 
-static ANS: [Part; 12] = [
-    Part::Octet(b'A'),
-    Part::Octet(b'N'),
-    Part::Octet(b'S'),
-    Part::Octet(SPACE),
-    NUMBER,
-    NUMBER,
-    Part::Flag,
-    Part::Octet(SPACE),
-    ANY,
-    NUMBER,
-    LAST,
-    Part::Octet(b'\n'),
-];
+static ANS: [Part; 12] = line_parts!(b'A', b'N', b'S', NUMBER, Part::Flag, GAP, ANY, NUMBER);
 
-static SEQ: [Part; 8] = [
-    Part::Octet(b'S'),
-    Part::Octet(b'E'),
-    Part::Octet(b'Q'),
-    Part::Octet(SPACE),
-    NUMBER,
-    ANY,
-    LAST,
-    Part::Octet(b'\n'),
-];
+static SEQ: [Part; 8] = line_parts!(b'S', b'E', b'Q', ANY);
 
 fn parts(keyword: Keyword) -> &'static [Part]
     ensures parts { result.now ≡ parts_of keyword }

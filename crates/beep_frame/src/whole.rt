@@ -1,12 +1,12 @@
 //! A header that stands whole at the front of octets, read at once (RFC 3080, section 2.2.1.1).
-ghost use Rattle.std.specs.Prelude.{◌≡◌, ◌<◌, ◌≤◌, ◌^◌, ◌++◌, ◌∷◌, IfSome};
+ghost use Rattle.std.specs.Prelude.{◌≡◌, ◌<◌, ◌≤◌, ◌++◌, ◌∷◌, length, slice_index, IfSome};
 ghost use Rattle.std.specs.Fmt.{decimal};
 ghost use Rattle.beep_frame.specs.Frame.{IsHead, max_ansno_of};
 ghost use Rattle.beep_frame.specs.Spelling.{answer_field, continuation, header, keyword as letters, line_end};
 
 use crate::head::{Head, MAX_NUMBER};
 use crate::kind::Kind;
-use crate::line::{PartTurn, SPACE, number_turn};
+use crate::line::SPACE;
 
 /// A header, and what follows it, where one stands whole at the front of these octets.
 pub(crate) fn whole_header(bytes: &[u8]) -> Option<(Head, &[u8])>
@@ -46,18 +46,34 @@ fn keyword(bytes: &[u8]) -> Option<(Kind, &[u8])>
 
 /// A number of at most `max`, and the octet that ends it.
 fn number(bytes: &[u8], max: u32, end: u8) -> Option<(u32, &[u8])>
-    requires least { 9 ≤ max }
-    requires end { end < 48 }
     ensures { IfSome result (λ found. (found.0 ≤ max)
         × (bytes.now ≡ decimal found.0 ++ end ∷ found.1.now)) }
 {
-    let mut number = None;
-    for i in 0..bytes.len() {
-        match number_turn(max, end, number, bytes[i]) {
-            PartTurn::Digit(n) => number = Some(n),
-            PartTurn::Whole(n) => return Some((n, &bytes[i + 1..])),
-            PartTurn::Dead => return None,
-        }
+    if let Some(rest) = after(bytes, b'0') {
+        return Some((0, after(rest, end)?));
+    }
+    match bytes {
+        [b'1'..=b'9', ..] => positive(bytes, max, end),
+        _ => None,
+    }
+}
+
+/// The same where the first octet is a digit above zero. Most octets of a header are digits.
+fn positive(bytes: &[u8], max: u32, end: u8) -> Option<(u32, &[u8])>
+    requires some { 0 < length bytes.now }
+    requires first { (49 ≤ slice_index bytes.now 0) × (slice_index bytes.now 0 ≤ 57) }
+    ensures { IfSome result (λ found. (found.0 ≤ max)
+        × (bytes.now ≡ decimal found.0 ++ end ∷ found.1.now)) }
+{
+    let most = u64::from(max);
+    let mut number = u64::from(bytes[0] - b'0');
+    let mut at = 1;
+    while at < bytes.len() && bytes[at].is_ascii_digit() && number <= most {
+        number = number * 10 + u64::from(bytes[at] - b'0');
+        at += 1;
+    }
+    if at < bytes.len() && bytes[at] == end && number <= most {
+        return Some((number as u32, &bytes[at + 1..]));
     }
     None
 }
@@ -82,21 +98,21 @@ fn sizes(kind: Kind, bytes: &[u8]) -> Option<(u32, u32, &[u8])>
         Kind::Ans => {
             let (size, rest) = number(bytes, MAX_NUMBER, SPACE)?;
             let (ansno, rest) = number(rest, MAX_NUMBER, b'\r')?;
-            Some((size, ansno, line_feed(rest)?))
+            Some((size, ansno, after(rest, b'\n')?))
         }
         Kind::Msg | Kind::Rpy | Kind::Err | Kind::Nul => {
             let (size, rest) = number(bytes, MAX_NUMBER, b'\r')?;
-            Some((size, 0, line_feed(rest)?))
+            Some((size, 0, after(rest, b'\n')?))
         }
     }
 }
 
-/// What follows a LF.
-fn line_feed(bytes: &[u8]) -> Option<&[u8]>
-    ensures { IfSome result (λ rest. bytes.now ≡ 10 ∷ rest.now) }
+/// What follows this octet, where it stands first.
+fn after(bytes: &[u8], octet: u8) -> Option<&[u8]>
+    ensures { IfSome result (λ rest. bytes.now ≡ octet ∷ rest.now) }
 {
     match bytes {
-        [b'\n', rest @ ..] => Some(rest),
+        [first, rest @ ..] if *first == octet => Some(rest),
         _ => None,
     }
 }

@@ -1,3 +1,4 @@
 pub mod Runs
 pub mod Untaken
 pub mod Laws
+pub mod Queued

@@ -1,6 +1,6 @@
 -- What arrived in one life and was not taken: runs of octets of one message each, the oldest first,
 -- and whether the end of the message stands after them (RFC 3080, section 2.1).
--- The code keeps one ring of octets and a short entry for each run; here a run has its octets.
+-- The code keeps one list of octets and a short entry for each run; here a run has its octets.
 use Rattle.std.specs.Prelude.{◌≡◌, ℕ, ◌+◌, Bool, true, not, ◌&&◌, ◌||◌, nat_lt, if◌then◌else◌, List, [], ◌∷◌, ◌++◌, length, map, drop}
 use Rattle.beep_frame.specs.declared.tag.Tag.{Tag}
 use Rattle.beep_history.specs.Marks.{Mark, octet, end}

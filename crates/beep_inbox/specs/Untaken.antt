@@ -1,5 +1,5 @@
 -- An inbox as a list of runs, and what one take makes of it.
--- The code keeps the octets of all runs in one ring, and of each run its tag, its length and its
+-- The code keeps the octets of all runs in one list, and of each run its tag, its length and its
 -- end.
 use Rattle.std.specs.Prelude.{◌≡◌, ℕ, ◌+◌, ◌-◌, ◌==◌, nat_lt, if◌then◌else◌, Bool, false, not, ◌&&◌, min, List, [], ◌∷◌, ◌++◌, length, take, drop}
 use Rattle.beep_history.specs.Messages.{same_tag}

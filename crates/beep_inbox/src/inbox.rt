@@ -7,9 +7,9 @@ ghost use Rattle.beep_inbox.specs.Untaken.{lengths, goes_on, TakesPart};
 ghost use Rattle.beep_inbox.specs.Untaken.{put_part as put_of};
 
 use crate::part::Part;
+use crate::queue::Queue;
 use beep_frame::Tag;
 use beep_octets::NoMemory;
-use circular_buffer::HeapCircularBuffer;
 use std::alloc::Global;
 use std::collections::VecDeque;
 use std::marker::Model;
@@ -17,7 +17,7 @@ use std::marker::Model;
 /// The untaken octets of one life, and the ends of their messages.
 #[derive(Drop)]
 pub struct Inbox {
-    octets: HeapCircularBuffer<u8>,
+    octets: Queue,
     parts: VecDeque<Part>,
 }
 
@@ -49,7 +49,7 @@ impl Inbox {
         ensures runs { IfOk result (λ inbox. inbox.runs ≡ []) }
         ensures window { IfOk result (λ inbox. inbox.window ≡ window) }
     {
-        let octets = HeapCircularBuffer::with_capacity(alloc, window as usize)?;
+        let octets = Queue::with_capacity(alloc, window as usize)?;
         Ok(Inbox {
             octets,
             parts: VecDeque::new(alloc),

@@ -5,6 +5,7 @@
 mod inbox;
 pub mod laws;
 mod part;
+mod queue;
 
 pub use inbox::Inbox;
 pub use part::Part;

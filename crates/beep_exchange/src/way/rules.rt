@@ -1,7 +1,7 @@
 //! The rules that a header of one direction can break, by what both directions keep.
 ghost use Rattle.std.specs.Prelude.{◌≡◌};
 ghost use Rattle.beep_history.specs.Broken.{first_of, breaks_nul_shape};
-ghost use Rattle.beep_exchange.specs.Kept.{breaks_not_continued, goes_on_request, changes_message, changes_reply, breaks_kind_changed, breaks_number_in_use, breaks_never_asked, breaks_early_reply, breaks_already_answered, breaks_out_of_turn, breaks_nul_not_after_ans, breaks_nul_too_soon, breaks_empty_answer, breaks_too_many_requests, breaks_too_many_answers, shape_tests, limit_tests, judged};
+ghost use Rattle.beep_exchange.specs.Kept.{breaks_not_continued, goes_on_request, changes_message, changes_reply, breaks_kind_changed, breaks_number_in_use, breaks_never_asked, breaks_early_reply, breaks_already_answered, breaks_out_of_turn, breaks_nul_not_after_ans, breaks_nul_too_soon, breaks_empty_answer, breaks_too_many_requests, breaks_too_many_answers, shape_tests, limit_tests, is_plain, takes_answers, judged};
 
 use super::{Way, goes_on};
 use beep_frame::{Head, Rule};
@@ -15,10 +15,37 @@ impl Way {
     pub fn judge(&self, theirs: &Way, head: &Head) -> Option<Rule>
         ensures { result ≡ judged self.now theirs.now head.now }
     {
+        // Most frames are so, and break no rule.
+        if self.is_plain(head) && theirs.takes_answers(head) {
+            return None;
+        }
         match self.judge_shape(theirs, head) {
             Some(rule) => Some(rule),
             None => self.judge_limits(theirs, head),
         }
+    }
+
+    fn is_plain(&self, head: &Head) -> bool
+        ensures { result ≡ is_plain self.now head.now }
+    {
+        head.kind.is_ans()
+            && head.size > 0
+            && match self.before {
+                None => true,
+                Some(before) => !before.more,
+            }
+    }
+
+    fn takes_answers(&self, head: &Head) -> bool
+        ensures { result ≡ takes_answers self.now head.now }
+    {
+        self.is_current(head.msgno)
+            && self.answers.len() < MAX_ANSWERS as usize
+            && !self.is_open()
+            && match self.kind {
+                None => true,
+                Some(kind) => kind.is_ans(),
+            }
     }
 
     fn judge_shape(&self, theirs: &Way, head: &Head) -> Option<Rule>

@@ -1,5 +1,5 @@
 -- A number of 32 bits has at most ten digits, and a space finds room before them.
-use Rattle.std.proofs.Common.{◌<◌, ◌≤◌, ◌+◌, ◌≡◌, ◌∙◌, length, length-append, ap, arith}
+use Rattle.std.proofs.Common.{◌+◌, ◌≡◌, ◌∙◌, length, length-append, ap, arith}
 use Rattle.std.specs.Fmt.{decimal}
 use Rattle.beep_frame.proofs.FieldLemmas.{few_digits}
 use Rattle.beep_frame.proofs.spelling.put_field.Goals as goal

@@ -1,13 +1,8 @@
--- One more digit.
-use Rattle.std.proofs.Common.{sym, ◌∙◌, arith}
-use Rattle.beep_frame.proofs.HeaderLemmas.{digit_more}
+-- A zero is its own text.
+use Rattle.std.proofs.Common.{◌∷◌, ◌∙◌, ap, refl, arith}
+use Rattle.std.proofs.lemmas.Fmt.{decimal_digit}
 use Rattle.beep_frame.proofs.whole.number.Goals as goal
 
-pub loop-i-preserved : goal.loop-i-preserved
-loop-i-preserved c =
-    let least = c.requires.least in
-    let end = c.requires.end in
-    let fits = c.ranges.max.fits in
-    let inside = c.loop-i-test.true in
-    digit_more c.args.max c.args.end c.loop-i.i c.in-Digit.n c.args.bytes.now c.loop-i.number (omega (arith, fits), end, least) c.loop-i.invariant.0 c.loop-i.invariant.1
-    (omega (arith, inside)) (sym c.number_turn.ensures ∙ c.in-Digit.is)
+pub returns-in-Some : goal.returns-in-Some
+returns-in-Some c =
+    (omega arith, c.in-Some.ensures ∙ ap (λ r. 48 ∷ r) (c.in_ok-after.ensures) ∙ rw (decimal_digit 0 (omega arith)) refl)

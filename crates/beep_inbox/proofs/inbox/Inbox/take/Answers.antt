@@ -10,7 +10,7 @@ returns-clause-some c =
     let sum : lengths c.self.inside.parts.items ≡ t.first.len + lengths t.others =
     ap lengths t.is in
     takes c.in-Some.part t.first t.others c.take_part.new.parts.items
-    c.self.inside.octets.items c.read_into.new.self.items c.args.buf.now c.read_into.new.dst
+    c.self.inside.octets.items c.read_into.new.self.items c.args.buf.now c.read_into.new.buf
     c.args.self.now.runs (length c.args.buf.now) c.read_into.result
     (omega (arith, sum, c.self.invariant.0)) t.part_is t.left refl
     (sym (ap (λ (untaken : Untaken). untaken.runs) c.self.view_is)
