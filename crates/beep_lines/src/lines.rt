@@ -1,5 +1,5 @@
 //! The lines that are to be written to the output.
-ghost use Rattle.std.specs.Prelude.{◌≡◌, ◌≤◌, [], IfErr, IfOk, OnErr, OnOk};
+ghost use Rattle.std.specs.Prelude.{◌≡◌, ◌≤◌, ◌++◌, ◌∷◌, [], IfErr, IfOk, OnErr, OnOk};
 ghost use Rattle.beep_wires.specs.Counts.{Rose};
 ghost use Rattle.beep_link.specs.Causes.{Grows};
 ghost use Rattle.beep_link.specs.declared.ended.Stop.{Stop as StopValue};
@@ -11,7 +11,7 @@ use beep_link::{BUFFER, Stop};
 use beep_mime::body;
 use beep_octets::{NoMemory, Octets};
 use beep_wires::{Failed, Sink, write_all};
-use prof_raw::{ENTRY_MAX, line_room, next_entry, write_line};
+use prof_raw::{ENTRY_MAX, line_room, next_entry, plain_entry, write_line};
 use std::alloc::Global;
 
 /// Lines that are gathered until they are written.
@@ -46,11 +46,35 @@ impl Lines {
         ensures kept { (O.state output.old).faults ≤ (O.state output.new).faults }
     {
         let body = body(message);
+        if let Some(entry) = plain_entry(body) {
+            return self.put_plain(entry, output);
+        }
         let mut at = 0;
         while let Some(place) = next_entry(body, at) {
             self.put_entry(&body[place.start..place.end], output)?;
             at = place.end;
         }
+        Ok(())
+    }
+
+    /// Adds an entry and the LF that ends its line. Where they find no room, the lines before are
+    /// written.
+    fn put_plain<O: Sink>(&mut self, entry: &[u8], output: &mut O) -> Result<(), Stop>
+        ensures ok { OnOk result (GathersAll (O.state output.old).written
+            (O.state output.new).written self.old.octets.octets
+            (entry.now ++ 10 ∷ []) self.new.octets.octets) }
+        ensures err { OnErr result (GathersSome (O.state output.old).written
+            (O.state output.new).written self.old.octets.octets
+            (entry.now ++ 10 ∷ []) self.new.octets.octets) }
+        ensures grew { Grows (O.state output.old).written (O.state output.new).written }
+        ensures failed { IfErr result (λ stop. stop ≡ StopValue.WriteFault
+            → Rose (O.state output.old).faults (O.state output.new).faults) }
+        ensures stopped { IfErr result (λ stop. IsOfOutput stop) }
+        ensures kept { (O.state output.old).faults ≤ (O.state output.new).faults }
+    {
+        self.make_room(entry.len() + 1, output)?;
+        self.octets.extend_spare(entry);
+        self.octets.push_spare(b'\n');
         Ok(())
     }
 

@@ -2,3 +2,4 @@ mod ListLemmas
 mod PieceLemmas
 mod PlainLemmas
 mod EntryLemmas
+mod PlainEntryLemmas

@@ -5,10 +5,12 @@
 pub mod laws;
 mod line;
 mod list;
+mod plain;
 mod read;
 mod write;
 
 pub use line::{ENTRY_MAX, line_room, write_line};
 pub use list::Entries;
+pub use plain::plain_entry;
 pub use read::{Place, entries, next_entry};
 pub use write::{body_len, body_of, entry_body};

@@ -1,5 +1,6 @@
 //! The line that a listener writes of an entry.
-ghost use Rattle.std.specs.Prelude.{◌≡◌, ◌+◌, ◌*◌, ◌≤◌, ◌++◌, length};
+ghost use Rattle.std.specs.Prelude.{◌≡◌, ℕ, ◌+◌, ◌-◌, ◌*◌, ◌<◌, ◌≤◌, ◌++◌, false, drop, get_or, length};
+ghost use Rattle.memchr.specs.Find.{is_byte3};
 ghost use Rattle.std.specs.List.{slice_range};
 ghost use Rattle.prof_raw.specs.Line.{line_of, line_room, bang_mark, more_mark, octet_written, octets_written};
 
@@ -67,8 +68,10 @@ fn put_octets(octets: &[u8], out: &mut Octets)
 }
 
 /// The place from which on the first octet isn't written as it is, or the end.
-fn plain_end(octets: &[u8], from: usize) -> usize
+pub(crate) fn plain_end(octets: &[u8], from: usize) -> usize
     requires { from ≤ length octets.now }
+    ensures none { (k : ℕ) → k < result - from
+        → is_byte3 10 13 92 (get_or (drop from octets.now) k 0) ≡ false }
     ensures place { (from ≤ result) × (result ≤ length octets.now) }
     ensures plain { octets_written (slice_range octets.now from result)
         ≡ slice_range octets.now from result }

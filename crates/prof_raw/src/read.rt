@@ -92,7 +92,7 @@ fn next_cr(body: &[u8], from: usize) -> Option<usize>
 }
 
 /// Whether CR LF stands at `at`.
-fn is_line_end(body: &[u8], at: usize) -> bool
+pub(crate) fn is_line_end(body: &[u8], at: usize) -> bool
     requires { at ≤ length body.now }
     ensures { result ≡ begins_with_end (drop at body.now) }
 {

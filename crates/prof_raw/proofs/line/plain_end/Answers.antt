@@ -22,3 +22,15 @@ returns-in-None-clause-plain c =
     let count : length hay ≡ length octets - from = subst (λ (h : List ℕ). length h ≡ length octets - from) (sym (take_rest octets from)) (length-drop from octets) in
     plain-written (drop from octets) (length octets - from)
     (λ k below. none-found (is_byte3 10 13 92) octets from (length hay) c.in-None.ensures k (omega (arith, count, below)))
+
+pub returns-in-Some-clause-none : goal.returns-in-Some-clause-none
+returns-in-Some-clause-none c =
+    λ k below. none-found (is_byte3 10 13 92) c.args.octets.now c.args.from c.in-Some.count c.in-Some.ensures.0.before k (omega (arith, below))
+
+pub returns-in-None-clause-none : goal.returns-in-None-clause-none
+returns-in-None-clause-none c =
+    let octets = c.args.octets.now in
+    let from = c.args.from in
+    let hay = take (length octets - from) (drop from octets) in
+    let count : length hay ≡ length octets - from = subst (λ (h : List ℕ). length h ≡ length octets - from) (sym (take_rest octets from)) (length-drop from octets) in
+    λ k below. none-found (is_byte3 10 13 92) octets from (length hay) c.in-None.ensures k (omega (arith, count, below))

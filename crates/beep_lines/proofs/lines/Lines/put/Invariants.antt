@@ -1,5 +1,5 @@
 -- The lines so far, and those of the entries after them, are the lines of the message.
-use Rattle.std.proofs.Common.{◌≡◌, ◌-◌, ◌≤◌, ◌++◌, List, ℕ, length, drop}
+use Rattle.std.proofs.Common.{◌≡◌, ◌-◌, ◌≤◌, ◌++◌, length, drop}
 use Rattle.std.specs.List.{flat_map}
 use Rattle.prof_raw.specs.Entries.{entries_of}
 use Rattle.prof_raw.specs.Line.{line_of}
