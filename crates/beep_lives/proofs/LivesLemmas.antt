@@ -1,10 +1,10 @@
 -- One channel of the list makes a step, and the others stay.
-use Rattle.std.proofs.Common.{◌≡◌, ℕ, zero, suc, ◌<◌, ◌==◌, Bool, true, false, if◌then◌else◌, List, [], ◌∷◌, length, get_or, slice_get, slice_set, Option, None, Some, refl, sym, ap, ◌∙◌, subst}
+use Rattle.std.proofs.Common.{◌≡◌, ℕ, zero, suc, ◌<◌, ◌==◌, Bool, true, false, if◌then◌else◌, List, [], ◌∷◌, length, map, get_or, slice_get, slice_set, Option, None, Some, refl, sym, ap, ◌∙◌, subst}
 use Rattle.std.specs.Prelude.{is_some}
 use Rattle.std.proofs.lemmas.Bool.{eqb-true, eq-eqb}
-use Rattle.std.proofs.lemmas.List.{map-set, length-map}
+use Rattle.std.proofs.lemmas.List.{map-set, length-map, set-get_or}
 use Rattle.std.proofs.lemmas.Option.{slice_get_read}
-use Rattle.beep_channel.specs.Held.{Live}
+use Rattle.beep_channel.specs.Held.{Live, Held, is_held_ready, is_seq_due_of}
 use Rattle.beep_turns.specs.Order.{IsAscending}
 use Rattle.beep_turns.proofs.PlaceLemmas.{IsPlace, found}
 use Rattle.beep_lives.specs.Lives.{live_at, numbers, IsAscendingFrom, can_send, owes_seq, AreKept}
@@ -105,6 +105,21 @@ kept number i turns cs ready due b a r d k h stays re de =
     of : (t : Bool) → is_some (if t then Some a else live_at 0 cs) ≡ true
     of true = refl
     of false = k.zero
+
+-- the same where the channel holds what it held, and no flag is noted
+module _ (i : ℕ) (cs : List Live) (b a : Live) (value : b ≡ get_or cs i b) where
+  flags-same : (test : Live → Bool) (flags : List Bool) → flags ≡ map test cs → test a ≡ test b → flags ≡ slice_set flags i (test a)
+  flags-same test flags e t =
+      let own : slice_set cs i b ≡ cs = ap (λ (x : Live). slice_set cs i x) value ∙ set-get_or cs i b in
+      e ∙ ap (λ (xs : List Live). map test xs) (sym own) ∙ map-set test cs i b
+      ∙ ap (λ (x : Bool). slice_set (map test cs) i x) (sym t) ∙ ap (λ (xs : List Bool). slice_set xs i (test a)) (sym e)
+
+  pub kept-same : (number : ℕ) (turns : List ℕ) (ready due : List Bool) → AreKept turns cs ready due → IsHere number i cs b → a.held ≡ b.held
+      → AreKept turns (slice_set cs i a) ready due
+  kept-same number turns ready due k h same =
+      kept number i turns cs ready due b a ready due k h (ap (λ (x : Held). x.number) same)
+      (flags-same can_send ready k.ready_are (ap (λ (x : Held). is_held_ready x) same))
+      (flags-same owes_seq due k.due_are (ap (λ (x : Held). is_seq_due_of x) same))
 
 -- the flags have a place for each channel
 pub ready-within : (turns : List ℕ) (cs : List Live) (ready due : List Bool) (i : ℕ) → AreKept turns cs ready due → i < length cs

@@ -192,10 +192,9 @@ impl Lives {
         let Some(i) = self.find(number) else {
             return Ok(());
         };
+        // What can go out is as before.
         let channel = &mut self.channels[i];
-        let made = channel.make_room();
-        note(&mut self.ready, &mut self.due, i, channel);
-        made
+        channel.make_room()
     }
 
     /// Notes that a received frame is whole, in the channel in which it began. False where that
