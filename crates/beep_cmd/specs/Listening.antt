@@ -49,11 +49,11 @@ run_cause (session ∷ earlier) =
 -- ---- what is written
 
 -- what was written of a session is the lines that its log shows, or a beginning of them where it
--- ended out of memory, by a refusal or by a fault of the output, which has the lines of the log
--- before its latest read; what was sent in each life, channel zero among them, is the beginning of
--- its script, and nothing of that was due where the settings ended it; no more was read than these
--- allow; the peer refused nothing where that didn't end it; and wherever was read the session went
--- on, and the peer had refused nothing
+-- ended out of memory or by a fault of the output, which has the lines of the log before its latest
+-- read; what was sent in each life, channel zero among them, is the beginning of its script, and
+-- nothing of that was due where the settings ended it; no more was read than these allow; the peer
+-- refused nothing where that didn't end it; and wherever was read the session went on, and the peer
+-- had refused nothing
 pub record WritesOf (settings : Settings) (session : Session) (log : List Entry) : Type 0 where
   pub shows : Shows (terms_by Role.Listener settings) session.cause log
   pub lines : AreLinesOf (listener_plan settings) (is_whole session.cause) (moments log)

@@ -18,7 +18,7 @@ use Rattle.beep_steps.specs.beep_wires.specs.Log.{Entry}
 use Rattle.beep_steps.specs.Logs.{moments, SaysNothing, Shows, StandsOn, StaysOn, WaitsOn}
 use Rattle.beep_steps.specs.Steps.{EndsSo, IsUntaken, TookNone, TookPart}
 use Rattle.beep_steps.proofs.OnLemmas.{got-rest}
-use Rattle.beep_listener.specs.Listening.{Listens, ListensDry, ListensTaking, ListensWaiting, PartOf, TellsLines, WritesLines, is_whole, part_lines, plan_of}
+use Rattle.beep_listener.specs.Listening.{Listens, ListensDry, ListensTaking, ListensWaiting, PartOf, TellsLines, WritesLines, is_gathered, is_whole, part_lines, plan_of}
 use Rattle.beep_listener.proofs.ListenLemmas.{stays-listens}
 use Rattle.beep_listener.proofs.PartLemmas.{taking-ends, taking-last, taking-part, taking-stops}
 use Rattle.beep_listener.proofs.TextLemmas.{nothing-writes, shown-all, stop-writes, writes-less, written-all, written-some}
@@ -40,11 +40,11 @@ module _ (session : Held) (bodies : List Body) (buffer text : List ℕ) (log : L
   pub listens-some : WritesLines (plan_of session) false log (text ++ buffer)
   listens-some = writes-less (plan_of session) log (text ++ buffer) listens-all
 
-  pub hear-stops : (stop : Stop) (octets : List ℕ) → EndsSo stop l.on.journal (got_all octets log) → WritesLines (plan_of session) (is_whole (ended_by stop)) (got_all octets log) (text ++ buffer)
+  pub hear-stops : (stop : Stop) (octets : List ℕ) → EndsSo stop l.on.journal (got_all octets log) → WritesLines (plan_of session) (is_gathered stop) (got_all octets log) (text ++ buffer)
   hear-stops stop octets e = stop-writes (plan_of session) l.on.journal (text ++ buffer) l.gathers.lines stop l.on.rest octets log l.on.logged.shown e
 
   -- one that is gone on with
-  pub does-stops : (plan : PlainPlan) → plan_of session ≡ plan → (stop : Stop) (octets : List ℕ) → SaysNothing stop → WritesLines plan (is_whole (ended_by stop)) (got_all octets log) (text ++ buffer)
+  pub does-stops : (plan : PlainPlan) → plan_of session ≡ plan → (stop : Stop) (octets : List ℕ) → SaysNothing stop → WritesLines plan (is_gathered stop) (got_all octets log) (text ++ buffer)
   does-stops plan same stop octets n = nothing-writes plan stop octets log (text ++ buffer) n (subst (λ p. WritesLines p false log (text ++ buffer)) same listens-some)
 
   -- what a call leaves that changes neither bodies nor lines
@@ -69,12 +69,12 @@ err-of (Ok value) P p = tt
 err-of (Err error) P p = p
 
 pub settle-stops : (session : Held) (bodies : List Body) (buffer text : List ℕ) (log : List Moment) (w : ListensWaiting session bodies buffer log text) (stop : Stop) (octets : List ℕ)
-    → EndsSo stop w.on.journal (got_all octets log) → WritesLines (plan_of session) (is_whole (ended_by stop)) (got_all octets log) (text ++ buffer)
+    → EndsSo stop w.on.journal (got_all octets log) → WritesLines (plan_of session) (is_gathered stop) (got_all octets log) (text ++ buffer)
 settle-stops session bodies buffer text log w stop octets e =
     let k = w.on.logged in
     let all = stop-writes (plan_of session) w.on.journal (text ++ buffer) w.gathers.lines stop k.rest (k.octet ∷ octets) k.earlier k.logged.shown
     (subst (λ x. EndsSo stop w.on.journal (got_all octets x)) k.log_is e) in
-    subst (λ x. WritesLines (plan_of session) (is_whole (ended_by stop)) (got_all octets x) (text ++ buffer)) (sym k.log_is) all
+    subst (λ x. WritesLines (plan_of session) (is_gathered stop) (got_all octets x) (text ++ buffer)) (sym k.log_is) all
 
 -- a message waits
 pub waits-zero : (session : Held) (log : List Moment) → WaitsOn session log → zero_waits session.peer ≡ true
@@ -82,9 +82,9 @@ waits-zero session log w = rw (w.going, w.waits.waits.waiting) refl
 
 -- memory runs out, or a write fails, with octets that aren't used
 pub take-stops : (plan mid : PlainPlan) → mid ≡ plan → (stop : Stop) (count : ℕ) (bytes : List ℕ) (log : List Moment) (text : List ℕ) → SaysNothing stop
-    → WritesLines mid false (got_all (take count bytes) log) text → WritesLines plan (is_whole (ended_by stop)) (got_all bytes log) text
+    → WritesLines mid false (got_all (take count bytes) log) text → WritesLines plan (is_gathered stop) (got_all bytes log) text
 take-stops plan mid same stop count bytes log text n w =
-    subst (λ x. WritesLines plan (is_whole (ended_by stop)) x text) (got-rest count bytes log)
+    subst (λ x. WritesLines plan (is_gathered stop) x text) (got-rest count bytes log)
     (nothing-writes plan stop (drop count bytes) (got_all (take count bytes) log) text n (subst (λ p. WritesLines p false (got_all (take count bytes) log) text) same w))
 
 -- ---- a frame, part by part
@@ -171,25 +171,26 @@ dry-all session bodies buffer text log s =
 module _ (plan : PlainPlan) (text : List ℕ) (before mid after : Option (List ℕ)) (log : List Moment) (session : Held) (bodies : List Body) (buffer now : List ℕ) (same : plan_of session ≡ plan) where
   -- whether it stopped or not
   pub heard-or : {A : Type 0} (result : Result A Stop) → OnOk result (WithText before mid (λ more. Listens session bodies buffer log (text ++ more)))
-      → IfErr result (λ stop. WithText before mid (λ more. WritesLines plan (is_whole (ended_by stop)) log ((text ++ more) ++ buffer)))
+      → IfErr result (λ stop. WithText before mid (λ more. WritesLines plan (is_gathered stop) log ((text ++ more) ++ buffer)))
       → (whole : Bool) × WithText before mid (λ more. WritesLines plan whole log ((text ++ more) ++ buffer))
   heard-or (Ok value) h w = (
     true,
     text-map before mid _ (λ more. WritesLines plan true log ((text ++ more) ++ buffer))
         (λ more l. subst (λ p. WritesLines p true log ((text ++ more) ++ buffer)) same (listens-all session bodies buffer (text ++ more) log l)) h,
   )
-  heard-or (Err stop) h w = (is_whole (ended_by stop), w)
+  heard-or (Err stop) h w = (is_gathered stop, w)
 
   module _ (entries : List Entry) (log_is : log ≡ moments entries) where
     tells-so : (cause : Ended) → Shows plan.terms cause entries → (t : List ℕ) → WritesLines plan (is_whole cause) log t → TellsLines plan cause entries t
     tells-so cause shows t w = record { shows = shows; lines = subst (λ l. WritesLines plan (is_whole cause) l t) log_is w }
 
-    pub stop-tells : GathersAll mid after buffer [] now → now ≡ [] → (stop : Stop) → Shows plan.terms (ended_by stop) entries
-        → WithText before mid (λ more. WritesLines plan (is_whole (ended_by stop)) log ((text ++ more) ++ buffer)) → WithText before after (λ more. TellsLines plan (ended_by stop) entries (text ++ more))
-    stop-tells g dry stop shows w =
-        let whole = is_whole (ended_by stop) in
+    pub stop-tells : GathersAll mid after buffer [] now → now ≡ [] → (stop : Stop) → ((t : List ℕ) → WritesLines plan (is_gathered stop) log t → WritesLines plan (is_whole (ended_by stop)) log t)
+        → Shows plan.terms (ended_by stop) entries
+        → WithText before mid (λ more. WritesLines plan (is_gathered stop) log ((text ++ more) ++ buffer)) → WithText before after (λ more. TellsLines plan (ended_by stop) entries (text ++ more))
+    stop-tells g dry stop all shows w =
+        let whole = is_gathered stop in
         text-then (λ t. WritesLines plan whole log (t ++ buffer)) (λ t. TellsLines plan (ended_by stop) entries t) text before mid after
-        (λ more v. text-map mid after _ _ (λ two l. tells-so (ended_by stop) shows ((text ++ more) ++ two) l) (flushed-stops plan whole buffer now (text ++ more) log mid after v g dry)) w
+        (λ more v. text-map mid after _ _ (λ two l. tells-so (ended_by stop) shows ((text ++ more) ++ two) (all ((text ++ more) ++ two) l)) (flushed-stops plan whole buffer now (text ++ more) log mid after v g dry)) w
 
     pub failed-tells : GathersSome mid after buffer [] now → (stop : Stop) → stop ≡ Stop.WriteFault → Shows plan.terms (ended_by stop) entries → (whole : Bool)
         → WithText before mid (λ more. WritesLines plan whole log ((text ++ more) ++ buffer)) → WithText before after (λ more. TellsLines plan (ended_by stop) entries (text ++ more))

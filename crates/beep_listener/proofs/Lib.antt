@@ -1,4 +1,5 @@
 -- Proofs.
+mod DeniedLemmas
 mod GatherLemmas
 mod HearLemmas
 mod ListenLemmas
@@ -10,3 +11,4 @@ mod RefusingLemmas
 mod RestingLemmas
 pub mod ServingLemmas
 mod TextLemmas
+mod UnderLemmas

@@ -6,9 +6,8 @@ use Rattle.beep_steps.specs.beep_lawful.specs.declared.terms.Terms.{Terms}
 use Rattle.beep_steps.specs.beep_session.specs.Lawfully.{terms_of}
 use Rattle.beep_steps.specs.beep_session.specs.Session.{Held}
 use Rattle.beep_steps.specs.beep_talk.specs.declared.plan.Command.{Command}
-use Rattle.beep_steps.specs.beep_link.specs.declared.ended.Stop.{Stop}
 use Rattle.beep_steps.specs.Logs.{StandsOn, StaysOn, WaitsOn}
-use Rattle.beep_steps.specs.Refusing.{IsOtherStop, IsUnrefused, RefusesOn, Unrefused}
+use Rattle.beep_steps.specs.Refusing.{IsUnrefused, Unrefused}
 use Rattle.beep_steps.proofs.SettledLemmas.{first-unrefused}
 use Rattle.beep_listener.specs.Listening.{UnrefusedOn, UnrefusedWaiting}
 

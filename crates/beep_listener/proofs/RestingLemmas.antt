@@ -11,7 +11,7 @@ use Rattle.beep_steps.specs.beep_mgmt.specs.Message.{message_text}
 use Rattle.beep_steps.specs.beep_journal.proofs.MomentLemmas.{equal-number, same-number}
 use Rattle.beep_steps.specs.beep_decide.specs.Decide.{is_among, note_of}
 use Rattle.beep_steps.specs.beep_session.specs.Session.{Held}
-use Rattle.beep_steps.specs.Resting.{HasSaidAll, HoldsStill}
+use Rattle.beep_steps.specs.Resting.{HoldsStill}
 use Rattle.beep_steps.specs.Speaking.{Notes}
 use Rattle.beep_steps.proofs.RestCalls.{awake-before, still-said}
 use Rattle.beep_listener.specs.Speaking.{RepliesOn, RestsOn, SaysOn}

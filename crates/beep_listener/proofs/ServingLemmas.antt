@@ -1,5 +1,5 @@
 -- All that comes to a listener is served, so what it wrote is the lines of the session that its log shows.
-use Rattle.std.proofs.Common.{◌≡◌, ◌<◌, ◌^◌, ℕ, ◌+◌, Bool, true, List, [], ◌∷◌, ◌++◌, length, Option, None, Some, ◌⊎◌, inl, inr, refl, subst, sym, ap, arith}
+use Rattle.std.proofs.Common.{◌≡◌, ◌<◌, ◌^◌, ℕ, ◌+◌, Bool, true, List, [], ◌∷◌, ◌++◌, length, Option, None, Some, inl, inr, refl, subst, sym, ap, arith}
 use Rattle.beep_steps.specs.beep_journal.specs.Broken.{none_tunes}
 use Rattle.beep_steps.specs.beep_journal.specs.Journal.{Past, Shows}
 use Rattle.beep_steps.specs.beep_decide.specs.Decide.{PlainOffer}
@@ -58,7 +58,7 @@ kept-read plan stop octets log text more lawful serving all = of stop
     of (Stop.Broken rule place) = tt
     of Stop.WriteFault = kept
     of Stop.NoMemory = inr kept
-    of (Stop.Refused code) = kept
+    of (Stop.Refused code) = tt
 
 module _ (plan : PlainPlan) (text : List ℕ) where
   -- all was served
@@ -79,7 +79,7 @@ module _ (plan : PlainPlan) (text : List ℕ) where
   keeps-lines Ended.WireFault log few kept = tt
   keeps-lines Ended.NoMemory log few (inl kept) = inl (has-lines log few kept)
   keeps-lines Ended.NoMemory log few (inr kept) = inr (had-lines log few kept)
-  keeps-lines (Ended.Refused code) log few kept = had-lines log few kept
+  keeps-lines (Ended.Refused code) log few kept = tt
   keeps-lines (Ended.Cut left) log few kept = tt
   keeps-lines (Ended.Idle count) log few kept = tt
   keeps-lines (Ended.Spent count) log few kept = tt

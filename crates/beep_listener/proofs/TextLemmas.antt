@@ -9,7 +9,6 @@ use Rattle.beep_steps.specs.beep_journal.specs.Log.{Moment, got_all}
 use Rattle.beep_steps.specs.beep_journal.proofs.ShownLemmas.{one-shown}
 use Rattle.beep_steps.specs.beep_hearing.specs.Hears.{is_above}
 use Rattle.beep_steps.specs.beep_link.specs.declared.ended.Stop.{Stop}
-use Rattle.beep_steps.specs.beep_link.specs.Causes.{ended_by}
 use Rattle.beep_steps.specs.beep_talk.specs.Plan.{PlainPlan}
 use Rattle.beep_steps.specs.beep_mime.specs.Split.{body_of as body_of_message}
 use Rattle.beep_steps.specs.prof_raw.specs.Entries.{entries_of}
@@ -22,7 +21,7 @@ use Rattle.beep_steps.specs.Logs.{SaysNothing}
 use Rattle.beep_steps.specs.Steps.{CameBelow, EndsSo}
 use Rattle.beep_steps.proofs.GrowLemmas.{gots-back}
 use Rattle.beep_steps.proofs.StepLemmas.{same-lines, zero-heard}
-use Rattle.beep_listener.specs.Listening.{IsServed, WritesLines, is_whole}
+use Rattle.beep_listener.specs.Listening.{IsServed, WritesLines, is_gathered}
 use Rattle.beep_listener.proofs.GatherLemmas.{served-then}
 
 -- ---- lines only grow
@@ -114,7 +113,7 @@ module _ (plan : PlainPlan) (journal : List Item) (text : List ℕ) (are : IsSer
 
   -- what stops a session brings no line, or what was written is a beginning
   pub stop-writes : (stop : Stop) (rest octets : List ℕ) (log : List Moment) → IsShown rest journal log → EndsSo stop journal (got_all octets log)
-      → WritesLines plan (is_whole (ended_by stop)) (got_all octets log) text
+      → WritesLines plan (is_gathered stop) (got_all octets log) text
   stop-writes Stop.Released rest octets log s e = below-then (got_all octets log) e
   stop-writes (Stop.Broken rule place) rest octets log s e = below-then (got_all octets log) e
   stop-writes Stop.WriteFault rest octets log s e = some-then rest octets log s
@@ -123,7 +122,7 @@ module _ (plan : PlainPlan) (journal : List Item) (text : List ℕ) (are : IsSer
 
 -- a stop of which a log shows nothing
 pub nothing-writes : (plan : PlainPlan) (stop : Stop) (octets : List ℕ) (log : List Moment) (text : List ℕ) → SaysNothing stop → WritesLines plan false log text
-    → WritesLines plan (is_whole (ended_by stop)) (got_all octets log) text
+    → WritesLines plan (is_gathered stop) (got_all octets log) text
 nothing-writes plan Stop.Released octets log text n w = absurd n
 nothing-writes plan (Stop.Broken rule place) octets log text n w = absurd n
 nothing-writes plan Stop.WriteFault octets log text n w = writes-then plan log text octets w

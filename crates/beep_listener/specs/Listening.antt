@@ -33,6 +33,7 @@ use Rattle.beep_lines.specs.declared.bodies.Body.{Body}
 use Rattle.beep_lines.specs.Bodies.{body_of}
 use Rattle.beep_lines.specs.Lines.{lines_of}
 use Rattle.beep_steps.specs.beep_link.specs.declared.ended.Ended.{Ended}
+use Rattle.beep_steps.specs.beep_link.specs.declared.ended.Stop.{Stop}
 use Rattle.beep_steps.specs.beep_settings.specs.declared.settings.Settings.{Settings}
 use Rattle.beep_steps.specs.beep_wires.specs.Log.{Entry, read, wrote, quiet, ended}
 use Rattle.beep_steps.specs.Logs.{moments, terms_by, AreTaken, Shows as ShowsEnd, StandsOn, WaitsOn}
@@ -74,10 +75,19 @@ is_whole (Ended.Broken rule place) = true
 is_whole Ended.WriteFault = false
 is_whole Ended.WireFault = true
 is_whole Ended.NoMemory = false
-is_whole (Ended.Refused code) = false
+is_whole (Ended.Refused code) = true
 is_whole (Ended.Cut left) = true
 is_whole (Ended.Idle count) = true
 is_whole (Ended.Spent count) = true
+
+-- all lines were gathered where a read was stopped so, or else a beginning of them, which is all of
+-- them at a refusal: before the peer's greeting no line comes
+abbrev pub is_gathered : Stop → Bool
+is_gathered Stop.Released = true
+is_gathered (Stop.Broken rule place) = true
+is_gathered Stop.WriteFault = false
+is_gathered Stop.NoMemory = false
+is_gathered (Stop.Refused code) = false
 
 -- what was written is the lines of the session that a log shows, or a beginning of them
 abbrev pub WritesLines : PlainPlan → Bool → List Moment → List ℕ → Type 0
@@ -129,7 +139,7 @@ KeepsWhere P (Ended.Broken rule place) log = Unit {0}
 KeepsWhere P Ended.WriteFault log = HoldsBefore P log
 KeepsWhere P Ended.WireFault log = Unit {0}
 KeepsWhere P Ended.NoMemory log = P (moments log) ⊎ HoldsBefore P log
-KeepsWhere P (Ended.Refused code) log = HoldsBefore P log
+KeepsWhere P (Ended.Refused code) log = Unit {0}
 KeepsWhere P (Ended.Cut left) log = Unit {0}
 KeepsWhere P (Ended.Idle count) log = Unit {0}
 KeepsWhere P (Ended.Spent count) log = Unit {0}

@@ -4,12 +4,12 @@ ghost use Rattle.beep_steps.specs.beep_wires.specs.Counts.{Rose};
 ghost use Rattle.beep_steps.specs.beep_inbox.specs.Laws.{part_marks};
 ghost use Rattle.beep_steps.specs.beep_journal.specs.Log.{Moment, got_all};
 ghost use Rattle.beep_steps.specs.beep_session.specs.Lawfully.{terms_of};
-ghost use Rattle.beep_steps.specs.beep_link.specs.Causes.{ended_by, Grows, WithText};
+ghost use Rattle.beep_steps.specs.beep_link.specs.Causes.{Grows, WithText};
 ghost use Rattle.beep_steps.specs.beep_link.specs.declared.ended.Stop.{Stop as StopValue};
 ghost use Rattle.beep_lines.specs.Bodies.{body_of, IsOver};
 ghost use Rattle.beep_lines.specs.Lines.{lines_of, GathersAll, GathersSome};
 ghost use Rattle.beep_steps.specs.beep_frame.specs.declared.limits.TheConstants.{MAX_PAYLOAD};
-ghost use Rattle.beep_listener.specs.Listening.{is_first, is_whole, part_lines, plan_of, Listens, ListensTaking, ListensWaiting, PartOf, UnrefusedOn, UnrefusedWaiting, WritesLines};
+ghost use Rattle.beep_listener.specs.Listening.{is_first, is_gathered, part_lines, plan_of, Listens, ListensTaking, ListensWaiting, PartOf, UnrefusedOn, UnrefusedWaiting, WritesLines};
 ghost use Rattle.beep_steps.specs.Logs.{AreTaken, SaysNothing, StandsOn, StaysOn, StopsOn, WaitsOn};
 ghost use Rattle.beep_steps.specs.Refusing.{refused_so, IsOtherStop, RefusesOn, RefusesWith};
 ghost use Rattle.beep_steps.specs.Serving.{KeepsServing, ServesOn, ServesWaiting};
@@ -43,7 +43,7 @@ impl Listener {
         ensures wrote { (log : List Moment) (text : List ℕ) → Listens self.old.session
             self.old.bodies self.old.lines.octets.octets log text → IfErr result (λ stop.
             WithText (O.state output.old).written (O.state output.new).written
-            (λ more. WritesLines (plan_of self.old.session) (is_whole (ended_by stop))
+            (λ more. WritesLines (plan_of self.old.session) (is_gathered stop)
             (got_all bytes.now log) ((text ++ more) ++ self.new.lines.octets.octets))) }
         ensures serving { (plan : PlainPlan) (log : List Moment)
             → ServesOn plan self.old.session log
@@ -92,7 +92,7 @@ impl Listener {
         ensures wrote { (log : List Moment) (text : List ℕ) → Listens self.old.session
             self.old.bodies self.old.lines.octets.octets log text → IfErr result (λ stop.
             WithText (O.state output.old).written (O.state output.new).written
-            (λ more. WritesLines (plan_of self.old.session) (is_whole (ended_by stop))
+            (λ more. WritesLines (plan_of self.old.session) (is_gathered stop)
             (got_all bytes.now log) ((text ++ more) ++ self.new.lines.octets.octets))) }
         ensures serving { (plan : PlainPlan) (log : List Moment)
             → ServesOn plan self.old.session log → IfOk result (λ n.
@@ -138,7 +138,7 @@ impl Listener {
         ensures wrote { (log : List Moment) (octets text : List ℕ) → ListensWaiting
             self.old.session self.old.bodies self.old.lines.octets.octets log text
             → IfErr result (λ stop. WritesLines (plan_of self.old.session)
-            (is_whole (ended_by stop)) (got_all octets log)
+            (is_gathered stop) (got_all octets log)
             (text ++ self.new.lines.octets.octets)) }
         ensures serving { (plan : PlainPlan) (log : List Moment)
             → ServesWaiting plan self.old.session log

@@ -1,5 +1,5 @@
 -- Each refusal leaves what the session stands for.
-use Rattle.std.proofs.Common.{◌≡◌, ◌∙◌, ◌==◌, ℕ, true, false, ap, sym, subst, take, get_or, length, arith}
+use Rattle.std.proofs.Common.{◌≡◌, ◌∙◌, ◌==◌, ℕ, false, ap, sym, take, get_or, length, arith}
 use Rattle.std.proofs.Math.Seq.{take-length}
 use Rattle.beep_steps.specs.beep_decide.specs.Decide.{is_among}
 use Rattle.beep_steps.specs.Resting.{HasRepliedAt}

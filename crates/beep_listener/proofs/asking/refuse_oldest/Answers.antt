@@ -25,7 +25,7 @@ use Rattle.std.specs.Prelude.{◌≢◌, length}
 use Rattle.beep_steps.specs.beep_outbox.specs.declared.give_error.GiveError.{GiveError}
 use Rattle.beep_steps.specs.Resting.{HasRepliedAt, HoldsStill, IsAwake}
 use Rattle.beep_steps.proofs.OnLemmas.{ok-map}
-use Rattle.beep_steps.proofs.RestCalls.{full-replied, none-owed, none-there, still-none, still-replied, unchanged-still}
+use Rattle.beep_steps.proofs.RestCalls.{full-replied, none-there, still-none, still-replied, unchanged-still}
 use Rattle.beep_listener.proofs.asking.refuse_oldest.Goals as goal
 
 pub returns-in-Ok : goal.returns-in-Ok

@@ -1,7 +1,6 @@
 -- Each event uses one octet at least, so that all are used.
 use Rattle.std.proofs.Common.{◌≡◌, ◌∙◌, ◌++◌, ◌+◌, refl, subst, length, take, arith}
 use Rattle.beep_steps.specs.beep_journal.specs.Log.{got_all}
-use Rattle.beep_steps.specs.beep_link.specs.Causes.{ended_by}
 use Rattle.beep_steps.specs.beep_link.proofs.StandLemmas.{grown-more, grown-none, text-map}
 use Rattle.beep_steps.specs.beep_session.specs.Lawfully.{terms_of}
 use Rattle.beep_steps.specs.beep_talk.specs.Plan.{PlainPlan}
@@ -9,7 +8,7 @@ use Rattle.beep_steps.specs.Logs.{StopsOn}
 use Rattle.beep_steps.specs.Refusing.{RefusesOn}
 use Rattle.beep_steps.specs.Serving.{ServesOn}
 use Rattle.beep_steps.proofs.OnLemmas.{got-last, got-more, got-whole, length-rest, rest-some}
-use Rattle.beep_listener.specs.Listening.{Listens, UnrefusedOn, WritesLines, is_whole, plan_of}
+use Rattle.beep_listener.specs.Listening.{Listens, UnrefusedOn, WritesLines, is_gathered, plan_of}
 use Rattle.beep_listener.proofs.HearLemmas.{text-here, text-then}
 use Rattle.beep_listener.specs.Speaking.{SpeaksBy}
 use Rattle.beep_listener.proofs.listener.Listener.hear_all.Goals as goal
@@ -31,7 +30,7 @@ returns-in-Err-clause-wrote g c log text s =
     let before = (state c.args.output.now).written in
     let mid = (state c.loop.output).written in
     let after = (state c.hear_some.new.output).written in
-    let whole = is_whole (ended_by c.in-Err.stop) in
+    let whole = is_gathered c.in-Err.stop in
     let buffer = c.hear_some.new.self.lines.octets.octets in
     text-then (λ t. Listens l.session l.bodies l.lines.octets.octets front t) (λ t. WritesLines (plan_of c.args.self.now.session) whole (got_all bytes log) (t ++ buffer)) text before mid after
     (λ more t. text-map mid after _ _ (λ two w. subst (λ (p : PlainPlan). WritesLines p whole (got_all bytes log) (((text ++ more) ++ two) ++ buffer)) c.loop.invariant.plan

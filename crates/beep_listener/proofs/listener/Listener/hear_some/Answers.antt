@@ -2,7 +2,7 @@
 use Rattle.std.proofs.Common.{◌++◌, false, rules, sym, ap, subst, take, drop}
 use Rattle.beep_steps.specs.beep_journal.specs.Log.{got_all}
 use Rattle.beep_steps.specs.beep_lawful.specs.declared.terms.Terms.{Terms}
-use Rattle.beep_steps.specs.beep_link.specs.Causes.{ended_by, WithText}
+use Rattle.beep_steps.specs.beep_link.specs.Causes.{WithText}
 use Rattle.beep_steps.specs.beep_link.proofs.StandLemmas.{text-map}
 use Rattle.beep_steps.specs.beep_talk.specs.declared.plan.Command.{Command}
 use Rattle.beep_steps.specs.beep_session.specs.Lawfully.{terms_of}
@@ -13,7 +13,7 @@ use Rattle.beep_steps.specs.Desking.{ComesDesk, DesksWaiting, DesksWithin}
 use Rattle.beep_steps.specs.Serving.{ComesServing, ServesOn, ServesWaiting}
 use Rattle.beep_steps.specs.Steps.{CameFrame, CameMore, CameZero, ComesSo, EndsSo}
 use Rattle.beep_steps.proofs.OnLemmas.{err-map, got-rest}
-use Rattle.beep_listener.specs.Listening.{Listens, ListensTaking, ListensWaiting, UnrefusedWaiting, WritesLines, is_whole, plan_of}
+use Rattle.beep_listener.specs.Listening.{Listens, ListensTaking, ListensWaiting, UnrefusedWaiting, WritesLines, is_gathered, plan_of}
 use Rattle.beep_listener.proofs.HearLemmas.{err-at, hear-stops, take-stops, text-here}
 use Rattle.beep_listener.proofs.ListenLemmas.{same-plan}
 use Rattle.beep_listener.proofs.PartLemmas.{frame-taking, more-listens, zero-waits}
@@ -40,9 +40,9 @@ returns-in_err-count-clause-wrote g c log text l =
     let all = got_all bytes log in
     search (
       rules,
-      err-at c.hear_next.result _ c.in_err-count.was (λ stop. WithText now now (λ more. WritesLines (plan_of a.session) (is_whole (ended_by stop)) all ((text ++ more) ++ a.lines.octets.octets)))
+      err-at c.hear_next.result _ c.in_err-count.was (λ stop. WithText now now (λ more. WritesLines (plan_of a.session) (is_gathered stop) all ((text ++ more) ++ a.lines.octets.octets)))
           (err-map c.hear_next.result (λ stop. EndsSo stop l.on.journal all) _
-          (λ stop e. text-here text now (λ t. WritesLines (plan_of a.session) (is_whole (ended_by stop)) all (t ++ a.lines.octets.octets))
+          (λ stop e. text-here text now (λ t. WritesLines (plan_of a.session) (is_gathered stop) all (t ++ a.lines.octets.octets))
           (hear-stops a.session a.bodies a.lines.octets.octets text log l stop bytes e)) (c.hear_next.ensures.ends log l.on)),
     )
 
@@ -100,7 +100,7 @@ returns-in-Err-settle-clause-wrote g c log text l =
     let bytes = c.args.bytes.now in
     let count = c.in_ok-count.count in
     let front = got_all (take count bytes) log in
-    let whole = is_whole (ended_by c.in-Err-settle.stop) in
+    let whole = is_gathered c.in-Err-settle.stop in
     let buffer = c.settle.new.self.lines.octets.octets in
     let same = same-plan a.session n c.hear_next.ensures.terms c.hear_next.ensures.offers in
     let came : CameZero a.session n l.on.journal front = subst (λ (x : Came). ComesSo x a.session n l.on.journal front) c.in-Zero.is (c.in_ok-count.ensures.came log l.on) in

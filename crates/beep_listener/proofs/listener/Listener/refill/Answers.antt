@@ -1,5 +1,5 @@
 -- What is owed is refused in each life that is noted.
-use Rattle.std.proofs.Common.{◌≡◌, ◌∙◌, ◌≤◌, ap, sym, subst, rules, ℕ, List, length}
+use Rattle.std.proofs.Common.{◌≡◌, ◌≤◌, sym, subst, rules, ℕ, List, length}
 use Rattle.beep_steps.specs.beep_history.specs.declared.limits.TheConstants.{MAX_MESSAGE}
 use Rattle.beep_steps.specs.beep_mgmt.specs.Form.{fault}
 use Rattle.beep_steps.specs.beep_mgmt.specs.Message.{message_text}

@@ -14,6 +14,7 @@ use Rattle.beep_steps.proofs.OnLemmas.{nothing-stops, ok-then, stopped-on}
 use Rattle.beep_steps.proofs.RefusesLemmas.{stop-refuses}
 use Rattle.beep_steps.proofs.ServeLemmas.{shows-served, shows-serving}
 use Rattle.beep_listener.specs.Listening.{Listens, ListensDry, plan_of}
+use Rattle.beep_listener.proofs.DeniedLemmas.{denied-lines, denied-writes}
 use Rattle.beep_listener.proofs.HearLemmas.{dry-all, failed-tells, flushed-listens, heard-or, stop-tells, text-then}
 use Rattle.beep_listener.proofs.ServingLemmas.{kept-read}
 use Rattle.beep_steps.proofs.DeskSaid.{said-comes}
@@ -64,7 +65,9 @@ returns-in-Ok-clause-stopped g c log text s =
     )) w)
     (err-both c.hear_all-heard.result _ _ _
     (λ stop (p : StopsOn (terms_of a.session) stop (got_all c.args.bytes.now (moments log)) × RefusesOn (terms_of a.session) stop (got_all c.args.bytes.now (moments log))) w. stop-tells (plan_of a.session) text before mid after all h.session h.bodies h.lines.octets.octets c.flush.new.self.octets.octets c.hear_all-heard.ensures.plan
-    (read c.args.bytes.now ∷ log) refl c.in-Ok.ensures.ok c.flush.ensures.empty stop (stopped-on a.session log s.0.0.listens.on c.args.bytes.now stop p.0 p.1) w)
+    (read c.args.bytes.now ∷ log) refl c.in-Ok.ensures.ok c.flush.ensures.empty stop
+    (λ t. denied-writes (plan_of a.session) (terms_of a.session) stop (got_all c.args.bytes.now (moments log)) t (denied-lines (plan_of a.session) a.session (moments log) s.0.1 s.1.1 s.0.2 c.args.bytes.now) p.1)
+    (stopped-on a.session log s.0.0.listens.on c.args.bytes.now stop p.0 p.1) w)
     (err-both c.hear_all-heard.result _ _ _ (λ stop p r. (p, r)) (c.hear_all-heard.ensures.stopped (moments log) text s.0.0.listens) (c.hear_all-heard.ensures.refuses (moments log) s.0.2))
     (c.hear_all-heard.ensures.wrote (moments log) text s.0.0.listens))
     (c.hear_all-heard.ensures.refuses (moments log) s.0.2)
