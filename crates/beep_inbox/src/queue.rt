@@ -58,8 +58,10 @@ impl Queue {
     /// Puts the first of these octets after the others, as many as find room, and answers how
     /// many. The others are moved only where the room that is left at the end doesn't do.
     pub(crate) fn fill_from_slice(&mut self, octets: &[u8]) -> usize
-        ensures count { result ≡ min (length octets.now) (self.old.capacity - length self.old.items) }
-        ensures items { self.new ≡ queued (self.old.items ++ take result octets.now) self.old.capacity }
+        ensures count { result
+            ≡ min (length octets.now) (self.old.capacity - length self.old.items) }
+        ensures items { self.new
+            ≡ queued (self.old.items ++ take result octets.now) self.old.capacity }
     {
         let count = octets.len().min(self.capacity - self.len());
         if self.capacity - self.bytes.len() < count {

@@ -26,8 +26,8 @@ pub enum ScheduleError {
 
 const FIRST_LINE: &[u8] = b"beep-schedule 1\n";
 
-/// The schedule that a text says. It goes over the octets once, and takes memory for the events. The
-/// number of a line has 32 bits.
+/// The schedule that a text says. It goes over the octets once, and takes memory for the events.
+/// The number of a line has 32 bits.
 pub fn read_schedule(alloc: Global, text: &[u8]) -> Result<Schedule, ScheduleError>
     requires within { length text.now < numbers_32 }
     ensures value { IfOk result (λ schedule. Says text.now schedule) }
