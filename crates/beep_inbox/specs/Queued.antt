@@ -1,5 +1,5 @@
 -- What a contract sees of the octets of an inbox.
--- The code keeps them behind those that were taken, in one piece of memory.
+-- The code keeps them after those that were taken, in one piece of memory.
 use Rattle.std.specs.Prelude.{ℕ, List}
 
 -- the octets, the oldest first, and how many there may be
