@@ -3,6 +3,8 @@ mod PlaceLemmas
 mod JudgeLemmas
 mod CompleteLemmas
 mod ExcludedLemmas
+mod GoesWellLemmas
+mod MetLemmas
 mod ServingLemmas
 mod EndsLemmas
 mod StatusLemmas

@@ -5,6 +5,7 @@ pub mod Ends
 pub mod Recording
 pub mod Listening
 pub mod Pair
+pub mod Complete
 -- What proofs alone need: what each part says of an input.
 pub mod Judging
 pub mod Pairing

@@ -12,6 +12,7 @@ ghost use Rattle.beep_show.specs.Show.{Shown, Refused, IsPlain, NoFault, run_of,
 ghost use Rattle.beep_cmd.specs.Replay.{Replayed, IsLawful};
 ghost use Rattle.beep_cmd.specs.Pair.{Paired, IsRunnable};
 ghost use Rattle.beep_cmd.specs.Ends.{AcceptsAtMost, AreShut, DialsOnce, GivesAtMost, Listened, ReadsWithin, Sent, WritesLawfully};
+ghost use Rattle.beep_cmd.specs.Complete.{ListenGoesWell, SendGoesWell};
 ghost use Rattle.beep_cmd.specs.Listening.{WritesLines};
 ghost use Rattle.beep_cmd.specs.Recording.{ListenRecorded};
 
@@ -71,6 +72,15 @@ pub fn beep_run<I: Source, O: Sink, W: Wires>(
         (settings : end_settings) → IsListen settings (map string_bytes words.now)
         → settings.recording ≡ false → WritesLines settings (seen wires.old) (seen wires.new)
         result (O.state output.old) (O.state output.new) }
+    ensures send_complete { let run = run_by I.state O.state input.old output.old input.new output.new in
+        let seen = seen_by W.state W.counts W.asked W.lent in
+        (settings : end_settings) → IsSend settings (map string_bytes words.now)
+        → SendGoesWell settings (seen wires.old) (seen wires.new) run
+        → (result ≡ 0) ⊎ (result ≡ 7) }
+    ensures listen_complete { let seen = seen_by W.state W.counts W.asked W.lent in
+        (settings : end_settings) → IsListen settings (map string_bytes words.now)
+        → ListenGoesWell settings (seen wires.old) (seen wires.new) (O.state output.old)
+        (O.state output.new) → (result ≡ 0) ⊎ (result ≡ 7) }
     ensures paired { let run = run_by I.state O.state input.old output.old input.new output.new in
         (settings : pair_settings) → IsPair settings (map string_bytes words.now)
         → Paired settings result run }

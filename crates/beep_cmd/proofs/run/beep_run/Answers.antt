@@ -1,4 +1,4 @@
-use Rattle.std.proofs.Common.{◌≡◌, ◌⊎◌, true, false, Some, None, map, refl, ap, sym, ◌∙◌, subst, arith}
+use Rattle.std.proofs.Common.{◌≡◌, ◌⊎◌, inr, true, false, Some, None, map, refl, ap, sym, ◌∙◌, subst, arith}
 use Rattle.std.specs.String.{string_bytes}
 use Rattle.std.proofs.KnownBytes.{Appends-nil}
 use Rattle.beep_show.specs.beep_words.specs.declared.command.ShowSettings.{ShowSettings as Settings}
@@ -22,6 +22,7 @@ use Rattle.beep_show.specs.Show.{Run, run_of}
 use Rattle.beep_cmd.proofs.CommandLemmas.{listens, no_command, none_listen, none_pair, none_replay, none_send, none_show, not_listen, not_pair, not_replay, not_send, not_show, not_unlinked, other_replay, other_show, same_listen, same_pair, same_send, same_show, sends, some_command}
 use Rattle.beep_cmd.proofs.CompleteLemmas.{complete, shown_as}
 use Rattle.beep_cmd.proofs.EndsLemmas.{starved_at_once}
+use Rattle.beep_cmd.proofs.GoesWellLemmas.{listen_well, send_well}
 use Rattle.beep_cmd.proofs.JudgeLemmas.{lawful}
 use Rattle.beep_cmd.proofs.ListenLemmas.{none_written}
 use Rattle.beep_cmd.proofs.PairLemmas.{runnable_complete, usable_limits}
@@ -76,6 +77,8 @@ returns-in-Ok-Some-Show g c =
       listened = λ settings w. absurd (other_listen settings w);
       listen_recorded = λ settings w recording. absurd (other_listen settings w);
       listen_lines = λ settings w recording. absurd (other_listen settings w);
+      send_complete = λ settings w goes_well. absurd (other_send settings w);
+      listen_complete = λ settings w goes_well. absurd (other_listen settings w);
       paired = λ settings w. absurd (other_pair settings w);
       pair_complete = λ settings w is_runnable no_fault. absurd (other_pair settings w);
       usage = λ one. absurd (shown_not a.settings c.show.result _ c.show.ensures.shown one);
@@ -122,6 +125,8 @@ returns-in-Ok-Some-Replay g c =
       listened = λ settings w. absurd (other_listen settings w);
       listen_recorded = λ settings w recording. absurd (other_listen settings w);
       listen_lines = λ settings w recording. absurd (other_listen settings w);
+      send_complete = λ settings w goes_well. absurd (other_send settings w);
+      listen_complete = λ settings w goes_well. absurd (other_listen settings w);
       paired = λ settings w. absurd (other_pair settings w);
       pair_complete = λ settings w is_runnable no_fault. absurd (other_pair settings w);
       usage = λ one. absurd (replayed_not c.replay.result _ c.replay.ensures.replayed one);
@@ -169,6 +174,8 @@ returns-in-Ok-Some-Send g c =
       listened = λ settings w. absurd (other settings w);
       listen_recorded = λ settings w recording. absurd (other settings w);
       listen_lines = λ settings w recording. absurd (other settings w);
+      send_complete = λ settings w goes_well. send_well settings before after run goes_well c.send.result (subst (λ (s : EndSettings). Sent s before after c.send.result run) (same settings is w) c.send.ensures.sent);
+      listen_complete = λ settings w goes_well. absurd (other settings w);
       paired = λ settings w. absurd (of.not_pair settings w);
       pair_complete = λ settings w is_runnable no_fault. absurd (of.not_pair settings w);
       usage = λ one. absurd (sent_not a.settings before after c.send.result run c.send.ensures.sent one);
@@ -218,6 +225,8 @@ returns-in-Ok-Some-Listen g c =
           (c.listen.ensures.recorded (subst (λ (s : EndSettings). s.recording ≡ true) (sym (same settings is w)) recording));
       listen_lines = λ settings w recording. subst (λ (s : EndSettings). WritesLines s before after c.listen.result run.sink run.sink_after) (same settings is w)
           (c.listen.ensures.lines (subst (λ (s : EndSettings). s.recording ≡ false) (sym (same settings is w)) recording));
+      send_complete = λ settings w goes_well. absurd (other settings w);
+      listen_complete = λ settings w goes_well. listen_well settings before after run c.listen.result goes_well (subst (λ (s : EndSettings). Listened s before after c.listen.result run) (same settings is w) (c.listen.ensures.listened (g.I.Source.state c.args.input.now)));
       paired = λ settings w. absurd (of.not_pair settings w);
       pair_complete = λ settings w is_runnable no_fault. absurd (of.not_pair settings w);
       usage = λ one. absurd (listened_not a.settings before after c.listen.result run (c.listen.ensures.listened (g.I.Source.state c.args.input.now)) one);
@@ -267,6 +276,8 @@ returns-in-Ok-Some-Pair g c =
       listened = λ settings w. absurd (listen settings w);
       listen_recorded = λ settings w recording. absurd (listen settings w);
       listen_lines = λ settings w recording. absurd (listen settings w);
+      send_complete = λ settings w goes_well. absurd (send settings w);
+      listen_complete = λ settings w goes_well. absurd (listen settings w);
       paired = by;
       pair_complete = λ settings w is_runnable no_fault. runnable_complete settings run c.pair.result is_runnable no_fault (by settings w);
       usage = λ one. absurd (paired_not a.settings c.pair.result run c.pair.ensures.paired one);
@@ -314,6 +325,8 @@ returns-in-Ok-None g c =
       listened = λ settings w. absurd (listen settings w);
       listen_recorded = λ settings w recording. absurd (listen settings w);
       listen_lines = λ settings w recording. absurd (listen settings w);
+      send_complete = λ settings w goes_well. absurd (send settings w);
+      listen_complete = λ settings w goes_well. absurd (listen settings w);
       paired = λ settings w. absurd (pair settings w);
       pair_complete = λ settings w is_runnable no_fault. absurd (pair settings w);
       usage = λ one command w. none command w;
@@ -355,6 +368,8 @@ returns-in-Err g c =
       listened = λ settings w. listen_starved refl;
       listen_recorded = λ settings w recording. record_starved Ended.NoMemory (session tt (λ e. absurd cc), unlinked_keeps settings Ended.NoMemory seen seen refl) refl (Appends-nil (g.O.Sink.state c.args.output.now).written);
       listen_lines = λ settings w recording. none_written settings seen (g.O.Sink.state c.args.output.now);
+      send_complete = λ settings w goes_well. inr refl;
+      listen_complete = λ settings w goes_well. inr refl;
       paired = λ settings w. absurd (of.not_pair settings w);
       pair_complete = λ settings w is_runnable no_fault. absurd (of.not_pair settings w);
       usage = λ one. absurd (omega (arith, one));
