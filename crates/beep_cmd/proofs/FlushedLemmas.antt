@@ -81,7 +81,7 @@ module _ (plan : PlainPlan) where
   some-text Ended.NoMemory log (inr stops) text are =
       let b = before-read log stops in
       (b.0, b.1, inr b.2)
-  some-text (Ended.Refused code) log s text are = before-read log s.0
+  some-text (Ended.Refused code) log s text are = (text, are, tt)
   some-text (Ended.Cut left) log s text are = (text, are, tt)
   some-text (Ended.Idle count) log s text are = (text, are, tt)
   some-text (Ended.Spent count) log s text are = (text, are, tt)

@@ -1,5 +1,5 @@
 //! The whole work of running a schedule, over values.
-ghost use Rattle.std.specs.Prelude.{◌≤◌, [], length, IfOk, OnOk};
+ghost use Rattle.std.specs.Prelude.{◌<◌, [], length, IfOk, OnOk};
 ghost use Rattle.beep_two_sessions.specs.beep_session.specs.Session.{AreLimits};
 ghost use Rattle.beep_two_sessions.specs.beep_octets.specs.Numbers.{numbers_32};
 ghost use Rattle.beep_schedule.specs.Events.{AreEvents};
