@@ -1,5 +1,9 @@
--- How many numbers words of 31, 32, 64 and 128 bits have: what wraps is kept modulo one of these.
+-- How many numbers words of 8, 31, 32, 64 and 128 bits have: what wraps is kept modulo one of these.
 use Rattle.std.specs.Prelude.{ℕ, ◌^◌}
+
+-- the octets that there are
+abbrev pub numbers_8 : ℕ
+numbers_8 = 2 ^ 8
 
 -- the numbers of channels and messages, which have 31 bits (RFC 3080, section 2.2.1)
 abbrev pub numbers_31 : ℕ

@@ -3,6 +3,7 @@
 -- Each speaks of every journal for which the session stood: none is kept.
 use Rattle.std.specs.Prelude.{◌≡◌, ℕ, ◌+◌, ◌%◌, ◌<◌, ◌≤◌, nat_lt, min, map, if◌then◌else◌, Bool, true, false, List, [], ◌∷◌, ◌++◌, length, take, drop, Option, None, Some}
 use Rattle.std.specs.List.{range_with_len}
+use Rattle.beep_two_sessions.specs.beep_octets.specs.Numbers.{numbers_8}
 use Rattle.beep_two_sessions.specs.beep_frame.specs.declared.kind.Kind.{Kind}
 use Rattle.beep_two_sessions.specs.beep_frame.specs.declared.rule.Rule.{Rule}
 use Rattle.beep_two_sessions.specs.beep_frame.specs.declared.head.Head.{Head}
@@ -62,9 +63,10 @@ pub record AreReady (both : Sessions) : Type 0 where
 
 -- ---- acts
 
--- the octets of a message: `fill`, and each other one more than the one before, modulo 256
+-- the octets of a message: `fill`, and each other one more than the one before, and 0 after the
+-- greatest
 abbrev pub octet_from : ℕ → ℕ → ℕ
-octet_from fill i = (fill + i) % 256
+octet_from fill i = (fill + i) % numbers_8
 
 abbrev pub message_from : ℕ → ℕ → List ℕ
 message_from fill len = map (octet_from fill) (range_with_len 0 len)

@@ -5,6 +5,7 @@ use Rattle.std.specs.List.{flat_map, range_with_len}
 use Rattle.std.proofs.lemmas.List.FromFn.{map-range_with_len_more}
 use Rattle.std.proofs.lemmas.Grind.{flat_map-append}
 use Rattle.std.proofs.lemmas.Bool.Decides.{nat_tests}
+use Rattle.beep_octets.specs.Numbers.{numbers_8}
 use Rattle.beep_schedule.specs.declared.event.End.{End}
 use Rattle.beep_schedule.specs.declared.event.Act.{Act}
 use Rattle.beep_schedule.specs.declared.event.PairEvent.{PairEvent}
@@ -73,7 +74,7 @@ is_close : (i : ℕ) → IsTrue (is_event (bare_of Act.Close i))
 is_close i = all_true (is_above (channel_of i)) true (is_channel i) refl
 
 is_fill : (i : ℕ) → nat_le (fill_of i) MAX_FILL ≡ true
-is_fill i = let low : i % 256 < 256 = omega arith in grind (arith, nat_tests)
+is_fill i = let low : i % numbers_8 < numbers_8 = omega arith in grind (arith, nat_tests)
 
 within : (least most n : ℕ) → least ≤ n → n ≤ most → is_from_to least most n ≡ true
 within least most n a b = grind (arith, nat_tests)

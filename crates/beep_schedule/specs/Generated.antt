@@ -4,6 +4,7 @@
 -- The code makes it by loops.
 use Rattle.std.specs.Prelude.{ℕ, ◌+◌, ◌*◌, ◌%◌, List, [], ◌∷◌, ◌++◌, map, flat_map}
 use Rattle.std.specs.List.{range_with_len}
+use Rattle.beep_octets.specs.Numbers.{numbers_8}
 use Rattle.beep_schedule.specs.declared.event.End.{End}
 use Rattle.beep_schedule.specs.declared.event.Act.{Act}
 use Rattle.beep_schedule.specs.declared.event.PairEvent.{PairEvent}
@@ -18,8 +19,9 @@ channel_of i = 2 * (i % CHANNELS) + 1
 abbrev pub len_of : ℕ → ℕ → ℕ
 len_of seed i = 3 * ((seed + LENGTH_STEP * i) % LENGTHS)
 
+-- the first octet of the message of request i
 abbrev pub fill_of : ℕ → ℕ
-fill_of i = i % 256
+fill_of i = i % numbers_8
 
 -- one drain
 abbrev pub drain : PairEvent

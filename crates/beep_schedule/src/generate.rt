@@ -6,12 +6,12 @@ ghost use Rattle.beep_schedule.specs.declared.limits.TheConstants.{REQUESTS, CHA
 ghost use Rattle.beep_schedule.specs.declared.event.End.{End as EndValue};
 ghost use Rattle.beep_schedule.specs.declared.event.PairEvent.{PairEvent as EventValue};
 ghost use Rattle.beep_schedule.specs.Events.{AreEvents};
-ghost use Rattle.beep_schedule.specs.Generated.{generated_events, request_events, reply_to as reply_event, bare_of, channel_of as channel_number, drain as drain_event};
+ghost use Rattle.beep_schedule.specs.Generated.{generated_events, request_events, reply_to as reply_event, bare_of, channel_of as channel_number, drain as drain_event, fill_of as fill_number};
 
 use crate::event::{Act, End, PairEvent};
 use crate::limits::{
-    A_PIECE, A_STEP, B_PIECE, B_STEP, CHANNELS, LENGTH_STEP, LENGTHS, MAX_COUNT, REPLY_LEN,
-    REQUESTS,
+    A_PIECE, A_STEP, B_PIECE, B_STEP, CHANNELS, LENGTH_STEP, LENGTHS, MAX_COUNT, MAX_FILL,
+    REPLY_LEN, REQUESTS,
 };
 use crate::schedule::Schedule;
 use beep_octets::NoMemory;
@@ -94,7 +94,7 @@ fn push_request(schedule: &mut Schedule, seed: u32, i: u32) -> Result<(), NoMemo
         act: Act::Ask,
         channel,
         len: 3 * spread(seed, LENGTH_STEP, i, LENGTHS),
-        fill: (i % 256) as u8,
+        fill: fill_of(i),
     })?;
     push_sent(schedule)?;
     push_gets(schedule, seed, i)?;
@@ -153,6 +153,13 @@ fn channel_of(i: u32) -> u32
     2 * (i % CHANNELS) + 1
 }
 
+/// The first octet of the message of request i.
+fn fill_of(i: u32) -> u8
+    ensures { result ≡ fill_number i }
+{
+    (i % (MAX_FILL + 1)) as u8
+}
+
 fn reply_to(i: u32) -> PairEvent
     ensures { result ≡ reply_event i }
 {
@@ -161,7 +168,7 @@ fn reply_to(i: u32) -> PairEvent
         act: Act::Reply,
         channel: channel_of(i),
         len: REPLY_LEN,
-        fill: (i % 256) as u8,
+        fill: fill_of(i),
     }
 }
 

@@ -1,6 +1,6 @@
 //! What one octet does to a character, and the classes of characters (RFC 3080, section 6.4).
-ghost use Rattle.std.specs.Prelude.{◌≡◌, ◌+◌, ◌*◌, ◌≤◌};
-ghost use Rattle.beep_octets.specs.Numbers.{numbers_32};
+ghost use Rattle.std.specs.Prelude.{◌≡◌, ◌+◌, ◌*◌, ◌<◌, ◌≤◌};
+ghost use Rattle.beep_octets.specs.Numbers.{numbers_8, numbers_32};
 ghost use Rattle.beep_chars.specs.Characters.{is_space, is_allowed, is_name_start, is_name_char, is_digit};
 ghost use Rattle.beep_text.specs.Elements.{is_hex_digit, digit_of};
 ghost use Rattle.beep_text.specs.Machine.{letter_after, letters_taken, is_no_letter, allowed_taken, first_taken, named_taken, digit_taken, is_digit_in, taken_after, char_taken, is_fresh, is_tail, grown, base_of, is_ref, in_ref};
@@ -288,7 +288,7 @@ fn is_digit_in(hex: bool, octet: u8) -> bool
 
 fn digit_of(octet: u8) -> u64
     ensures value { result ≡ digit_of octet }
-    ensures within { result ≤ 256 }
+    ensures within { result < numbers_8 }
 {
     if octet <= b'9' {
         return octet.saturating_sub(b'0') as u64;

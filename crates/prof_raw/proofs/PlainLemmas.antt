@@ -20,6 +20,11 @@ none-found test octets from count nowhere k below =
     not-so (test (get_or (drop from octets) k 0))
     (subst (λ (hay : List ℕ). Nowhere (Passes test hay) 0 count) (take_rest octets from) nowhere k (omega arith) below)
 
+-- what it found is
+pub found-there : (test : ℕ → Bool) (octets : List ℕ) (from at : ℕ) → Passes test (take (length octets - from) (drop from octets)) at
+    → test (get_or (drop from octets) at 0) ≡ true
+found-there test octets from at passes = subst (λ (hay : List ℕ). Passes test hay at) (take_rest octets from) passes
+
 -- ---- octets that are written as they are
 
 plain-octet : (x : ℕ) (a b c : Bool) → (x == 10) ≡ a → (x == 13) ≡ b → (x == 92) ≡ c → (a || b || c) ≡ false → octet_written x ≡ x ∷ []

@@ -1,7 +1,8 @@
 -- The line that a listener writes of an entry (docs/DECISIONS.md, "The line of an entry").
 -- The code writes octet by octet, in room that is there.
-use Rattle.std.specs.Prelude.{ℕ, ◌+◌, ◌*◌, min, nat_lt, ◌==◌, List, [], ◌∷◌, ◌++◌, length, take, flat_map, codes, if◌then◌else◌}
+use Rattle.std.specs.Prelude.{◌≡◌, ℕ, ◌+◌, ◌*◌, ◌<◌, ◌≤◌, min, nat_lt, ◌==◌, List, [], ◌∷◌, ◌++◌, length, take, flat_map, codes, if◌then◌else◌}
 use Rattle.prof_raw.specs.declared.line.TheConstants.{ENTRY_MAX}
+use Rattle.prof_raw.specs.Entries.{line_end}
 
 -- an octet as it is written: LF, CR and `\` by two octets, every other one as it is
 abbrev pub octet_written : ℕ → List ℕ
@@ -28,6 +29,19 @@ more_mark entry = if nat_lt ENTRY_MAX (length entry) then codes "\\+" else []
 abbrev pub line_of : List ℕ → List ℕ
 line_of entry =
     bang_mark entry ++ octets_written (take ENTRY_MAX entry) ++ more_mark entry ++ 10 ∷ []
+
+-- an entry whose line is the entry itself: it isn't cut, wants no mark, and each octet is written as
+-- it is
+pub record IsPlain (entry : List ℕ) : Type 0 where
+  pub some : 0 < length entry
+  pub short : length entry ≤ ENTRY_MAX
+  pub unmarked : bang_mark entry ≡ []
+  pub as_it_is : octets_written entry ≡ entry
+
+-- a body of one such entry, ended by its line end
+pub record IsPlainBody (entry body : List ℕ) : Type 0 where
+  pub plain : IsPlain entry
+  pub ended : body ≡ entry ++ line_end
 
 -- the lines of entries
 abbrev pub lines_of : List (List ℕ) → List ℕ

@@ -1,5 +1,5 @@
 //! The line that a listener writes of an entry.
-ghost use Rattle.std.specs.Prelude.{◌≡◌, ℕ, ◌+◌, ◌-◌, ◌*◌, ◌<◌, ◌≤◌, ◌++◌, false, drop, get_or, length};
+ghost use Rattle.std.specs.Prelude.{◌≡◌, ℕ, ◌+◌, ◌-◌, ◌*◌, ◌<◌, ◌≤◌, ◌++◌, true, false, drop, get_or, length};
 ghost use Rattle.memchr.specs.Find.{is_byte3};
 ghost use Rattle.std.specs.List.{slice_range};
 ghost use Rattle.prof_raw.specs.Line.{line_of, line_room, bang_mark, more_mark, octet_written, octets_written};
@@ -73,6 +73,8 @@ pub(crate) fn plain_end(octets: &[u8], from: usize) -> usize
     ensures none { (k : ℕ) → k < result - from
         → is_byte3 10 13 92 (get_or (drop from octets.now) k 0) ≡ false }
     ensures place { (from ≤ result) × (result ≤ length octets.now) }
+    ensures stops { result < length octets.now
+        → is_byte3 10 13 92 (get_or (drop from octets.now) (result - from) 0) ≡ true }
     ensures plain { octets_written (slice_range octets.now from result)
         ≡ slice_range octets.now from result }
 {

@@ -1,7 +1,7 @@
 //! The body of an entry alone, whose line is the entry itself: most bodies are such.
-ghost use Rattle.std.specs.Prelude.{◌≡◌, ◌<◌, ◌++◌, ◌∷◌, [], length, IfSome};
+ghost use Rattle.std.specs.Prelude.{◌≡◌, ◌<◌, ◌++◌, ◌∷◌, [], ℕ, List, length, IfNone, IfSome};
 ghost use Rattle.prof_raw.specs.Entries.{entries_of};
-ghost use Rattle.prof_raw.specs.Line.{lines_of};
+ghost use Rattle.prof_raw.specs.Line.{lines_of, IsPlainBody};
 
 use crate::line::{ENTRY_MAX, plain_end};
 use crate::read::is_line_end;
@@ -9,6 +9,8 @@ use crate::read::is_line_end;
 /// The one entry of a body that ends with its line end, where its line is the entry and an LF. The
 /// body is gone over once.
 pub fn plain_entry(body: &[u8]) -> Option<&[u8]>
+    ensures plain { IfSome result (λ entry. IsPlainBody entry.now body.now) }
+    ensures none { IfNone result ((entry : List ℕ) → IsPlainBody entry body.now → ⊥) }
     ensures line { IfSome result (λ entry.
         lines_of (entries_of body.now) ≡ entry.now ++ 10 ∷ []) }
     ensures within { IfSome result (λ entry. length entry.now < length body.now) }
