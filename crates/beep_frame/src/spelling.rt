@@ -39,10 +39,22 @@ pub fn spell(head: &Head, payload: &[u8], out: &mut Octets)
     ensures within { length (spelling (framed head.now payload.now))
         ≤ length payload.now + SPELL_ROOM }
 {
-    spell_header_line(head, out);
-    out.push_few(b"\r\n");
+    spell_header(head, out);
     out.extend_spare(payload);
     out.push_few(b"END\r\n");
+}
+
+/// Appends a header's text with its CRLF, at once. It takes no memory.
+fn spell_header(head: &Head, out: &mut Octets)
+    requires room { MAX_HEADER ≤ out.old.spare }
+    ensures appended { out.new.octets ≡ out.old.octets ++ header head.now }
+    ensures room { GrowsBy out.old out.new (length (header head.now)) }
+    ensures within { length (header head.now) ≤ MAX_HEADER }
+{
+    let mut line = Front::new();
+    line.put_few(b"\r\n");
+    put_header_line(&mut line, head);
+    out.extend_spare(line.as_slice());
 }
 
 /// Appends the spelling of a SEQ. It takes no memory.
@@ -68,11 +80,11 @@ pub fn spell_header_line(head: &Head, out: &mut Octets)
     out.extend_spare(line.as_slice());
 }
 
-/// Puts a header's text without CRLF before nothing.
+/// Puts a header's text without CRLF before its CRLF or nothing.
 #[tactic(auto, unfolding(crate::specs::Spelling::header_line))]
 fn put_header_line(line: &mut Front, head: &Head)
-    requires { line.old ≡ [] }
-    ensures put { line.new ≡ header_line head.now }
+    requires { length line.old ≤ 2 }
+    ensures put { line.new ≡ header_line head.now ++ line.old }
     ensures within { length (header_line head.now) ≤ MAX_HEADER_LINE }
 {
     put_answer(line, head.kind, head.ansno);
