@@ -18,7 +18,7 @@ use Rattle.beep_frame.specs.Reading.{At}
 use Rattle.beep_frame.specs.Finding.{Finds, EndsFrame, EndsInLine, EndsInTrailer}
 use Rattle.beep_frame.specs.Modulo.{modulo_2_64}
 use Rattle.beep_frame.specs.Tracks.{TrackerState, IsWithinSize, Tracks, HasStopped}
-use Rattle.beep_frame.specs.Decodes.{Answers, GivesMore, GivesHead, GivesFrame, GivesSeq, Breaks}
+use Rattle.beep_frame.specs.Decodes.{Answers, GivesMore, GivesHead, GivesFrame, PassesFrame, GivesSeq, Breaks}
 use Rattle.beep_frame.specs.Answering.{moved, after_header, last_number, broken_by, renewed, step_of, after_found}
 use Rattle.beep_frame.proofs.AliveLemmas.{dies_in_line, dies_in_trailer, not_in_trailer, unfinished_line, unfinished_trailer, unfinished_header}
 use Rattle.beep_frame.proofs.LawLemmas.{head_at, no_head, not_whole}
@@ -67,6 +67,13 @@ module _ (d : TrackerState) (place : Place) (line : Line) (n : ℕ) (octets fed 
   gives_frame f =
       let small : IsWithinSize d.max (Some f.head) = subst (IsWithinSize d.max) f.known_is s.known_within in
       record { head = f.head; payload = f.payload; known_is = f.known_is; is_frame = f.is_frame; whole = f.whole; stands = with_frame (framed f.head f.payload) f.is_frame small f.whole }
+
+  -- the frame of this payload
+  pub passes_frame : (head : Head) (payload : List ℕ) → known ≡ Some head → IsFrame (framed head payload) → rest ++ take n octets ≡ spelling (framed head payload)
+      → PassesFrame payload (Tracks (renewed (moved d place line n))) (fed_of fed frames rest known) (take n octets)
+  passes_frame head payload is is_frame whole =
+      let small : IsWithinSize d.max (Some head) = subst (IsWithinSize d.max) is s.known_within in
+      record { head = head; known_is = is; is_frame = is_frame; whole = whole; stands = with_frame (framed head payload) is_frame small whole }
 
   gives_seq : (seq : Seq) → (known ≡ None) × IsSeq seq × (rest ++ take n octets ≡ spelling (seq_frame seq)) → GivesSeq seq (Tracks (renewed (moved d place line n))) (fed_of fed frames rest known) (take n octets)
   gives_seq seq f = record { none = f.0; is_seq = f.1; whole = f.2; stands = with_frame (seq_frame seq) f.1 tt f.2 }

@@ -13,4 +13,5 @@ pub mod DecodeLemmas
 pub mod LawLemmas
 pub mod OutlineLemmas
 pub mod PayloadLemmas
+pub mod TakeLemmas
 pub mod SpellingLemmas

@@ -89,12 +89,6 @@ size_left (Place.Payload left) line rest known head is at =
 size_left (Place.Trailer count) line rest known head is at =
     omega (arith, length-take head.size (drop (length (header head)) rest))
 
--- between two frames no payload is still to come
-none_wanted : (place : Place) (line : Line) (rest : List ℕ) (known : Option Head) → known ≡ None → At place line rest known → wanted_at place ≡ 0
-none_wanted Place.Line line rest known is at = refl
-none_wanted (Place.Payload left) line rest known is at = let two : None ≡ Some at.0 = sym is ∙ at.2.known_is in absurd (cc)
-none_wanted (Place.Trailer count) line rest known is at = refl
-
 -- ---- each step
 
 module _ (old new : DecoderState) (t : TrackerState) (fed : List ℕ) (frames : List Frame) (rest : List ℕ) (known : Option Head) (s : WasFed old (fed_of fed frames rest known)) (octets : List ℕ) (n m : ℕ) (within : n ≤ length octets) (m_is : m ≡ min n (wanted_at old.tracker.place)) where
@@ -120,15 +114,10 @@ module _ (old new : DecoderState) (t : TrackerState) (fed : List ℕ) (frames : 
       (same ∙ kept.0, added.adds (fits head is) ∙ ap (λ x. x ++ take m octets) kept.1 ∙ ap (λ x. payload_in head rest ++ x) taken_of ∙ sym (taking place old.tracker.line rest known head is s.tracks.at (take n octets)))
 
   -- octets that lead to no frame
-  keeps_on : (held : Option Head) → known ≡ held → (whole : List ℕ) → whole ≡ take n octets → new.head ≡ old.head
+  keeps_on : (held : Option Head) → known ≡ held → (whole : List ℕ) → whole ≡ take n octets → new.whole ≡ false → new.head ≡ old.head
       → Added old.payload.octets new.payload.octets (take m octets) old.payload.spare → Keeps new frames (rest ++ whole) held
-  keeps_on None is whole all same added =
-      let kept : Keeps old frames rest None = subst (Keeps old frames rest) is s.keeps in
-      let none : m ≡ 0 = omega (arith, m_is, none_wanted place old.tracker.line rest known is s.tracks.at) in
-      let nothing : take m octets ≡ [] = ap (λ k. take k octets) none in
-      let stays : new.payload.octets ≡ old.payload.octets = added.adds (omega (arith, ap length nothing)) ∙ ap (λ x. old.payload.octets ++ x) nothing ∙ append-nil old.payload.octets in
-      λ before head payload e. (same ∙ (kept before head payload e).0, stays ∙ (kept before head payload e).1)
-  keeps_on (Some head) is whole all same added =
+  keeps_on None is whole all going same added = λ ends before head payload e. absurd (cc (sym going ∙ ends))
+  keeps_on (Some head) is whole all going same added =
       let now = grown head is same added in
       (now.0, now.1 ∙ ap (λ x. payload_in head (rest ++ x)) (sym all))
 
@@ -138,7 +127,7 @@ module _ (old new : DecoderState) (t : TrackerState) (fed : List ℕ) (frames : 
   keeps_frame head payload is is_frame whole same added =
       let now = grown head is same added in
       let all : new.payload.octets ≡ payload = now.1 ∙ beyond head (rest ++ take n octets) (payload ++ trailer) (whole ∙ append_assoc (header head) payload trailer) ∙ is_whole head.size payload trailer is_frame.1 in
-      λ before h p e.
+      λ ends before h p e.
       let last : framed head payload ≡ framed h p = last_same frames before (framed head payload) (framed h p) e in
       let heads_same : head ≡ h = cc in
       let payloads_same : payload ≡ p = cc in
@@ -146,7 +135,7 @@ module _ (old new : DecoderState) (t : TrackerState) (fed : List ℕ) (frames : 
 
   -- a frame more, which is a SEQ
   keeps_seq : (seq : Seq) → Keeps new (frames ++ seq_frame seq ∷ []) [] None
-  keeps_seq seq before h p e = let last : seq_frame seq ≡ framed h p = last_same frames before (seq_frame seq) (framed h p) e in cc
+  keeps_seq seq ends before h p e = let last : seq_frame seq ≡ framed h p = last_same frames before (seq_frame seq) (framed h p) e in cc
 
   -- a header that is whole
   keeps_head : (head : Head) → rest ++ take n octets ≡ header head → new.head ≡ head → new.payload.octets ≡ [] → Keeps new frames (rest ++ take n octets) (Some head)
@@ -165,7 +154,7 @@ module _ (old new : DecoderState) (t : TrackerState) (fed : List ℕ) (frames : 
     pub decodes : (step : Step) → Keeping step (record old { tracker = t }) new (take m octets) → Answers step t (fed_of fed frames rest known) octets n → Decodes step new (fed_of fed frames rest known) octets n
     decodes Step.More k g =
         let all : octets ≡ take n octets = sym (take_all n octets (omega (arith, g.all))) in
-        record { all = g.all; stands = stands (fed ++ octets) frames (rest ++ octets) known k.tracker k.room g.stands (keeps_on known refl octets all k.kept.0 k.kept.1) }
+        record { all = g.all; stands = stands (fed ++ octets) frames (rest ++ octets) known k.tracker k.room g.stands (keeps_on known refl octets all k.whole k.kept.0 k.kept.1) }
     decodes (Step.Head head) k g =
         record { first = g.first; is_head = g.is_head; within = omega (arith, g.within, ap (λ (x : TrackerState). x.max) k.tracker); whole = g.whole; stands = stands (fed ++ take n octets) frames (rest ++ take n octets) (Some head) k.tracker k.room g.stands (keeps_head head g.whole k.kept.0 k.kept.1) }
     decodes Step.Frame k g =

@@ -1,11 +1,12 @@
 -- What a tracker answers to what was found, and what it is then: for its proofs.
-use Rattle.std.specs.Prelude.{ℕ, ◌+◌, ◌-◌, ◌==◌, nat_lt, if◌then◌else◌, Some}
+use Rattle.std.specs.Prelude.{◌≡◌, ℕ, ◌+◌, ◌-◌, ◌==◌, nat_lt, if◌then◌else◌, Some, List, ◌++◌, length}
 use Rattle.beep_octets.specs.Numbers.{numbers_64}
 use Rattle.beep_frame.specs.declared.rule.Rule.{Rule}
 use Rattle.beep_frame.specs.declared.line.Line.{Line}
 use Rattle.beep_frame.specs.declared.step.Step.{Step}
 use Rattle.beep_frame.specs.declared.finder.Found.{Found}
 use Rattle.beep_frame.specs.declared.finder.Place.{Place}
+use Rattle.beep_frame.specs.Spelling.{trailer}
 use Rattle.beep_frame.specs.Line.{line_start}
 use Rattle.beep_frame.specs.Modulo.{modulo_2_64}
 use Rattle.beep_frame.specs.Tracks.{TrackerState}
@@ -34,6 +35,16 @@ broken_by d rule = record d { broken = Some (rule, last_number d.used) }
 -- the tracker between two frames
 abbrev pub renewed : TrackerState → TrackerState
 renewed d = record d { place = Place.Line; line = line_start; left = 0 }
+
+-- the octets hold a whole payload of this size and its trailer, and none of the payload came before
+pub record TakesWhole (old new : TrackerState) (size : ℕ) (octets : List ℕ) (count : ℕ)
+    (payload : List ℕ) : Type 0 where
+  pub at : old.place ≡ Place.Payload size
+  pub sized : length payload ≡ size
+  pub rest : List ℕ
+  pub octets_are : octets ≡ payload ++ trailer ++ rest
+  pub count_is : count ≡ size + 5
+  pub new_is : new ≡ renewed (moved old Place.Line line_start count)
 
 -- the answer
 abbrev pub step_of : TrackerState → Found → Step

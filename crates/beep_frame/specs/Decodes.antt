@@ -33,6 +33,15 @@ pub record GivesHead (head : Head) (Stand : Word) (max : ℕ) (fed : Fed) (taken
   pub whole : fed.rest ++ taken ≡ header head
   pub stands : Stand (fed_head fed taken head)
 
+-- the last octet used ends the data frame of the header that was answered, and this is its payload
+pub record PassesFrame (payload : List ℕ) (Stand : Word) (fed : Fed) (taken : List ℕ)
+    : Type 0 where
+  pub head : Head
+  pub known_is : fed.head ≡ Some head
+  pub is_frame : IsFrame (framed head payload)
+  pub whole : fed.rest ++ taken ≡ spelling (framed head payload)
+  pub stands : Stand (fed_frame fed taken (framed head payload))
+
 -- the last octet used ends the data frame of the header that was answered
 pub record GivesFrame (Stand : Word) (fed : Fed) (taken : List ℕ) : Type 0 where
   pub head : Head

@@ -2,7 +2,7 @@
 -- payload of the last header's frame.
 -- The code keeps one payload and no frame. A caller uses Decoding as a word, and opens it by the
 -- laws alone.
-use Rattle.std.specs.Prelude.{◌≡◌, ℕ, ◌+◌, ◌≤◌, Bool, false, Option, Some, None, List, [], ◌∷◌, ◌++◌, length, take, drop}
+use Rattle.std.specs.Prelude.{◌≡◌, ℕ, ◌+◌, ◌≤◌, Bool, true, false, Option, Some, None, List, [], ◌∷◌, ◌++◌, length, take, drop}
 use Rattle.beep_frame.specs.declared.head.Head.{Head}
 use Rattle.beep_frame.specs.declared.rule.Rule.{Rule}
 use Rattle.beep_octets.specs.Held.{Held}
@@ -23,11 +23,12 @@ abbrev pub payload_in : Head → List ℕ → List ℕ
 payload_in head rest = take head.size (drop (length (header head)) rest)
 
 -- it keeps the header of the rest and the payload so far; between headers those of the last frame,
--- where that is a data frame
+-- where the last step answered a data frame
 abbrev pub Keeps : DecoderState → List Frame → List ℕ → Option Head → Type 0
 Keeps decoder frames rest None =
-    (before : List Frame) (head : Head) (payload : List ℕ) → frames ≡ before ++ framed head payload
-    ∷ [] → (decoder.head ≡ head) × (decoder.payload.octets ≡ payload)
+    decoder.whole ≡ true → (before : List Frame) (head : Head) (payload : List ℕ)
+    → frames ≡ before ++ framed head payload ∷ []
+    → (decoder.head ≡ head) × (decoder.payload.octets ≡ payload)
 Keeps decoder frames rest (Some head) =
     (decoder.head ≡ head) × (decoder.payload.octets ≡ payload_in head rest)
 

@@ -1,12 +1,13 @@
 //! A decoder that finds the frames of a stream and keeps the payload of one, however the stream is
 //! cut into reads (RFC 3080, section 2.2.1; RFC 3081, section 3.1).
-ghost use Rattle.std.specs.Prelude.{◌≡◌, ◌⊎◌, ℕ, ◌<◌, ◌≤◌, None, List, [], ◌∷◌, ◌++◌, length, true, IfOk, IsTrue};
+ghost use Rattle.std.specs.Prelude.{◌≡◌, ◌⊎◌, ℕ, ◌<◌, ◌≤◌, None, List, [], ◌∷◌, ◌++◌, length, true, IfOk, IfSome, IsTrue, take};
 ghost use Rattle.beep_frame.specs.Frame.{Frame, framed};
 ghost use Rattle.beep_frame.specs.declared.head.Head.{Head as header_type};
 ghost use Rattle.beep_frame.specs.declared.rule.Rule.{Rule as rule_type};
 
 use crate::head::Head;
 use crate::kind::Kind;
+use crate::line::Line;
 use crate::step::Step;
 use crate::tracker::Tracker;
 use beep_octets::{NoMemory, Octets};
@@ -22,7 +23,7 @@ pub struct FrameRef<'b> {
     pub payload: &'b [u8],
 }
 
-/// Finds frames in a stream that comes in pieces, and keeps the payload of the last data frame.
+/// Finds frames in a stream that comes in pieces, and keeps the payload of the last that was fed.
 #[derive(Debug, Drop)]
 pub struct Decoder {
     tracker: Tracker,
@@ -30,7 +31,7 @@ pub struct Decoder {
     head: Head,
     /// The payload that came after that header, in room for the largest.
     payload: Octets,
-    /// Whether the last step was a whole data frame.
+    /// Whether the last step was a whole data frame, whose payload is kept.
     whole: bool,
 }
 
@@ -52,7 +53,7 @@ impl Decoder {
     ghost use Rattle.beep_frame.specs.Modulo.{modulo_2_64};
     ghost use Rattle.beep_frame.specs.Fed.{Fed, fed_of, nothing_fed};
     ghost use Rattle.beep_frame.specs.Decoding.{WasFed, IsBroken};
-    ghost use Rattle.beep_frame.specs.Decodes.{Decodes, is_broken};
+    ghost use Rattle.beep_frame.specs.Decodes.{Decodes, PassesFrame, is_broken};
     ghost use Rattle.beep_frame.specs.Keeping.{Keeping};
 
     /// A decoder of a stream of which no octet has come, that takes payloads of at most `max`
@@ -64,15 +65,7 @@ impl Decoder {
         let mut payload = Octets::new(alloc);
         payload.reserve(max as usize)?;
         let tracker = Tracker::new(max);
-        let head = Head {
-            kind: Kind::Msg,
-            channel: 0,
-            msgno: 0,
-            more: false,
-            seqno: 0,
-            size: 0,
-            ansno: 0,
-        };
+        let head = Line::start().head(Kind::Msg);
         Ok(Decoder {
             tracker,
             head,
@@ -96,6 +89,23 @@ impl Decoder {
         let (count, step) = self.tracker.feed(bytes);
         self.keep(step, &bytes[..count.min(wanted)]);
         (count, step)
+    }
+
+    /// Takes the rest of the data frame under way, where all of its payload and its trailer stand
+    /// at the front of these octets: answers how many those are, and the payload, which isn't kept.
+    pub fn take_whole<'b>(&mut self, bytes: &'b [u8]) -> Option<(usize, &'b [u8])>
+        ensures within { IfSome result (λ it. it.0 ≤ length bytes.now) }
+        ensures progress { IfSome result (λ it. 0 < it.0) }
+        ensures frame { IfSome result (λ it. (fed : Fed) → WasFed self.old fed
+            → PassesFrame it.1.now (WasFed self.new) fed (take it.0 bytes.now)) }
+        ensures none { result ≡ None → self.new ≡ self.old }
+        ensures broken { (rule : rule_type) (place left : ℕ) → IsBroken self.old rule place left
+            → result ≡ None }
+        ensures kept { self.new.tracker.max ≡ self.old.tracker.max }
+    {
+        let (count, payload) = self.tracker.take_whole(self.head.size, bytes)?;
+        self.whole = false;
+        Some((count, payload))
     }
 
     /// Keeps what a step brought: a header, or octets of a payload.

@@ -66,8 +66,5 @@ impl Head {
 fn max_ansno(kind: Kind) -> u32
     ensures { result ≡ max_ansno_of kind }
 {
-    match kind {
-        Kind::Ans => MAX_NUMBER,
-        Kind::Msg | Kind::Rpy | Kind::Err | Kind::Nul => 0,
-    }
+    if kind.is_ans() { MAX_NUMBER } else { 0 }
 }

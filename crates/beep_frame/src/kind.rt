@@ -23,30 +23,21 @@ impl Kind {
     pub fn is_msg(self) -> bool
         ensures { result ≡ is_msg self }
     {
-        match self {
-            Kind::Msg => true,
-            Kind::Rpy | Kind::Err | Kind::Ans | Kind::Nul => false,
-        }
+        matches!(self, Kind::Msg)
     }
 
     /// Whether it is one answer of a reply in many messages.
     pub fn is_ans(self) -> bool
         ensures { result ≡ is_ans self }
     {
-        match self {
-            Kind::Ans => true,
-            Kind::Msg | Kind::Rpy | Kind::Err | Kind::Nul => false,
-        }
+        matches!(self, Kind::Ans)
     }
 
     /// Whether it ends a reply in many messages.
     pub fn is_nul(self) -> bool
         ensures { result ≡ is_nul self }
     {
-        match self {
-            Kind::Nul => true,
-            Kind::Msg | Kind::Rpy | Kind::Err | Kind::Ans => false,
-        }
+        matches!(self, Kind::Nul)
     }
 
     /// Whether it belongs to a reply.

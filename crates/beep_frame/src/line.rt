@@ -46,24 +46,6 @@ pub(crate) enum PartTurn {
 /// The most parts that a line has.
 const MAX_PARTS: usize = 12;
 
-// The places of the numbers among the parts of a line: four octets come before them, and the flag
-// of a data frame has a space after it.
-const CHANNEL: usize = 4;
-
-const MSGNO: usize = 5;
-
-const MORE: usize = 6;
-
-const SEQNO: usize = 8;
-
-const SIZE: usize = 9;
-
-const ANSNO: usize = 10;
-
-const ACKNO: usize = 5;
-
-const WINDOW: usize = 6;
-
 /// A line that is being read.
 #[derive(Clone, Copy, Debug)]
 pub(crate) struct Line {
@@ -272,21 +254,19 @@ impl Line {
         }
     }
 
-    fn head(&self, kind: Kind) -> Head
+    /// Its header, where it is one of this kind and whole.
+    pub(crate) fn head(&self, kind: Kind) -> Head
         ensures { result ≡ head_of_line kind self.now.values }
     {
-        let ansno = if kind == Kind::Ans {
-            self.values[ANSNO]
-        } else {
-            0
-        };
+        let [_, _, _, _, channel, msgno, more, _, seqno, size, last, _] = self.values;
+        let ansno = if kind.is_ans() { last } else { 0 };
         Head {
             kind,
-            channel: self.values[CHANNEL],
-            msgno: self.values[MSGNO],
-            more: self.values[MORE] == u32::from(b'*'),
-            seqno: self.values[SEQNO],
-            size: self.values[SIZE],
+            channel,
+            msgno,
+            more: more == u32::from(b'*'),
+            seqno,
+            size,
             ansno,
         }
     }
@@ -294,10 +274,11 @@ impl Line {
     fn seq(&self) -> Seq
         ensures { result ≡ seq_of_line self.now.values }
     {
+        let [_, _, _, _, channel, ackno, window, ..] = self.values;
         Seq {
-            channel: self.values[CHANNEL],
-            ackno: self.values[ACKNO],
-            window: self.values[WINDOW],
+            channel,
+            ackno,
+            window,
         }
     }
 }

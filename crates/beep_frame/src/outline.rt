@@ -113,7 +113,8 @@ impl Reading {
         let Some(Begun { head, body }) = self.begun else {
             return Ok(());
         };
-        let payload = part(alloc, read, body, head.size as usize)?;
+        let mut payload = Octets::new(alloc);
+        payload.extend(&read[body..body + head.size as usize])?;
         self.add(PlainFrame::Data(head, payload))
     }
 
@@ -125,14 +126,4 @@ impl Reading {
         self.begun = None;
         Ok(())
     }
-}
-
-/// A copy of `size` octets from `from` on.
-fn part(alloc: Global, octets: &[u8], from: usize, size: usize) -> Result<Octets, NoMemory>
-    requires { from + size ≤ length octets.now }
-    ensures { IfOk result (λ part. part.octets ≡ take size (drop from octets.now)) }
-{
-    let mut part = Octets::new(alloc);
-    part.extend(&octets[from..from + size])?;
-    Ok(part)
 }

@@ -17,6 +17,7 @@ use crate::head::Head;
 use crate::line::Line;
 use crate::rule::Rule;
 use crate::step::Step;
+use crate::whole::whole_payload;
 use std::marker::Model;
 
 /// Finds frames in a stream that comes in pieces. It keeps no octet of them.
@@ -54,12 +55,12 @@ impl Model for Tracker {
 }
 
 impl Tracker {
-    ghost use Rattle.std.specs.Prelude.{Some};
+    ghost use Rattle.std.specs.Prelude.{Some, None, IsSome, IfSome};
     ghost use Rattle.beep_frame.specs.Modulo.{modulo_2_64};
     ghost use Rattle.beep_frame.specs.Fed.{Fed, nothing_fed};
     ghost use Rattle.beep_frame.specs.Tracks.{Tracks, HasStopped, wanted_at};
     ghost use Rattle.beep_frame.specs.Decodes.{Answers, is_broken};
-    ghost use Rattle.beep_frame.specs.Answering.{step_of, after_found, renewed, broken_by, last_number, after_header};
+    ghost use Rattle.beep_frame.specs.Answering.{step_of, after_found, renewed, broken_by, last_number, after_header, TakesWhole};
 
     /// A tracker of a stream of which no octet has come, that takes payloads of at most `max`
     /// octets.
@@ -94,6 +95,24 @@ impl Tracker {
         self.left = self.left.wrapping_add(count as u64);
         self.used = self.used.wrapping_add(count as u64);
         (count, self.answer(found))
+    }
+
+    /// Takes a payload of this size and its trailer, where both stand whole at the front and no
+    /// octet of the payload came before: answers how many octets those are, and the payload.
+    pub(crate) fn take_whole<'b>(&mut self, size: u32, bytes: &'b [u8]) -> Option<(usize, &'b [u8])>
+        ensures some { IfSome result
+            (λ it. TakesWhole self.old self.new size bytes.now it.0 it.1.now) }
+        ensures none { result ≡ None → self.new ≡ self.old }
+        ensures broken { IsSome self.old.broken → result ≡ None }
+    {
+        if self.broken.is_some() || self.place != Place::Payload(size) {
+            return None;
+        }
+        let (payload, rest) = whole_payload(size, bytes)?;
+        let count = bytes.len() - rest.len();
+        self.used = self.used.wrapping_add(count as u64);
+        self.renew();
+        Some((count, payload))
     }
 
     fn answer(&mut self, found: Found) -> Step

@@ -1,8 +1,9 @@
-//! A header that stands whole at the front of octets, read at once (RFC 3080, section 2.2.1.1).
+//! A header, or a payload, that stands whole at the front of octets, read at once (RFC 3080,
+//! section 2.2.1).
 ghost use Rattle.std.specs.Prelude.{◌≡◌, ◌<◌, ◌≤◌, ◌++◌, ◌∷◌, length, slice_index, IfSome};
 ghost use Rattle.std.specs.Fmt.{decimal};
 ghost use Rattle.beep_frame.specs.Frame.{IsHead, max_ansno_of};
-ghost use Rattle.beep_frame.specs.Spelling.{answer_field, continuation, header, keyword as letters, line_end};
+ghost use Rattle.beep_frame.specs.Spelling.{answer_field, continuation, header, keyword as letters, line_end, trailer};
 
 use crate::head::{Head, MAX_NUMBER};
 use crate::kind::Kind;
@@ -104,6 +105,18 @@ fn sizes(kind: Kind, bytes: &[u8]) -> Option<(u32, u32, &[u8])>
             let (size, rest) = number(bytes, MAX_NUMBER, b'\r')?;
             Some((size, 0, after(rest, b'\n')?))
         }
+    }
+}
+
+/// A payload of this size, and what follows its trailer, where both stand whole at the front.
+pub(crate) fn whole_payload(size: u32, bytes: &[u8]) -> Option<(&[u8], &[u8])>
+    ensures { IfSome result (λ found. (length found.0.now ≡ size)
+        × (bytes.now ≡ found.0.now ++ trailer ++ found.1.now)) }
+{
+    let (payload, after) = bytes.split_at_checked(size as usize)?;
+    match after {
+        [b'E', b'N', b'D', b'\r', b'\n', rest @ ..] => Some((payload, rest)),
+        _ => None,
     }
 }
 

@@ -9,7 +9,7 @@ use Rattle.beep_standing.specs.beep_frame.specs.declared.seq.Seq.{Seq}
 use Rattle.beep_standing.specs.beep_frame.specs.declared.step.Step.{Step}
 use Rattle.beep_standing.specs.beep_frame.specs.Modulo.{modulo_2_64}
 use Rattle.beep_standing.specs.beep_frame.specs.Decoding.{DecoderState, WasFed}
-use Rattle.beep_standing.specs.beep_frame.specs.Decodes.{GivesHead, GivesFrame, GivesSeq, is_broken}
+use Rattle.beep_standing.specs.beep_frame.specs.Decodes.{GivesHead, GivesFrame, PassesFrame, GivesSeq, is_broken}
 use Rattle.beep_standing.specs.beep_frame.specs.Fed.{fed_of}
 use Rattle.beep_standing.specs.beep_history.specs.declared.journal.Side.{Side}
 use Rattle.beep_standing.specs.beep_history.specs.Journal.{Item, began, passed, told}
@@ -46,10 +46,26 @@ has-room ear channels head may same = of (live_at head.channel channels) refl
         subst (λ (o : Option Live). IfSome o (λ channel. 0 < channel.runs)) (sym at)
         (∥∥₁_elim may (hlevel props) (λ m. subst (λ (o : Option Live). IfSome o (λ channel. 0 < channel.runs)) at (subst (λ (h : Head). HasRoom h.channel channels) (sym (same m)) m.room)))
 
+apart : (n : ℕ) (b : Bool) → (n == 0) ≡ b → (n ≡ 0 → ⊥) → (n == 0) ≡ false
+apart n true e other = absurd (other (eqb-true n 0 e))
+apart n false e other = e
+
 -- octets were used, since no rule was broken
 pub some_used : (step : Step) (count : ℕ) → (0 < count) ⊎ IsTrue (is_broken step) → is_broken step ≡ false → 0 < count
 some_used step count (inl some) not_broken = some
 some_used step count (inr broken) not_broken = absurd (cc (sym broken ∙ not_broken))
+
+-- the header of the frame that is under way
+module _ (size : ℕ) (fed rest : List ℕ) (journal : List Item) (given taken : Marks) (old : Ear) (channels : List Live) (s : IsEar size fed rest journal given taken old channels) (head other : Head) (is : old.under ≡ Some head) where
+  pub same_head : under_way Side.Received journal ≡ Some other → other ≡ head
+  same_head known = let both : Some head ≡ Some other = sym is ∙ s.hears.under ∙ known in cc
+
+  pub under_begun : receiving_of (live_at head.channel channels) ≡ Some other → other ≡ head
+  under_begun = of (live_at head.channel channels) refl
+    where
+      of : (o : Option Live) → live_at head.channel channels ≡ o → receiving_of o ≡ Some other → other ≡ head
+      of None at has = absurd (cc has)
+      of (Some c) at has = same_head (is-each size journal journal given taken channels s.live head.channel c other at has)
 
 module _ (size : ℕ) (fed rest : List ℕ) (journal : List Item) (given taken : Marks) (old : Ear) (channels : List Live) (s : IsEar size fed rest journal given taken old channels)
     (decoder : DecoderState) (used : ℕ) (octets : List ℕ) (used_is : used ≡ modulo_2_64 (old.used + length octets)) (max : decoder.tracker.max ≡ old.decoder.tracker.max) where
@@ -114,17 +130,10 @@ module _ (size : ℕ) (fed rest : List ℕ) (journal : List Item) (given taken :
     head = gives.head;
     payload = gives.payload;
     is_whole = frame-whole gives whole;
-    begun = λ other has. same-under other has;
+    begun = λ other has. under_begun size fed rest journal given taken old channels s gives.head other (s.hears.under ∙ gives.known_is) has;
     room = room-of gives.head (s.hears.under ∙ gives.known_is) room;
     zero = sym (s.live.there 0);
   }
-    where
-      same-at : (o : Option Live) (other : Head) → live_at gives.head.channel channels ≡ o → receiving_of o ≡ Some other → other ≡ gives.head
-      same-at None other at has = absurd (cc has)
-      same-at (Some c) other at has = cc (sym (is-each size journal journal given taken channels s.live gives.head.channel c other at has) ∙ gives.known_is)
-
-      same-under : (other : Head) → receiving_of (live_at gives.head.channel channels) ≡ Some other → other ≡ gives.head
-      same-under other has = same-at (live_at gives.head.channel channels) other refl has
 
   pub frame_answers : (gives : GivesFrame (WasFed decoder) (fed_of fed s.hears.is_fed.frames rest (under_way Side.Received journal)) octets) → decoder.whole ≡ true → IfUnder old channels
       → (heard : Heard) (new : Ear) (later : List Live)
@@ -158,3 +167,22 @@ module _ (size : ℕ) (fed rest : List ℕ) (journal : List Item) (given taken :
           (subst₂ (λ (h : Heard) (n : Ear). Answers h size octets fed journal given taken n channels) (sym is.0) (sym is.1)
           (goes_zero size fed rest journal given taken old channels s decoder used octets used_is max gives.head gives.payload gives refl refl new.text e f whole zero_room
           (is.2 (gathered Side.Received (zero_history journal)) s.hears.text)))
+
+  -- a frame above channel zero that the decoder has passed
+  module _ (head : Head) (payload : List ℕ) (is : old.under ≡ Some head) (passes : PassesFrame payload (WasFed decoder) (fed_of fed s.hears.is_fed.frames rest (under_way Side.Received journal)) octets) where
+    head_is : passes.head ≡ head
+    head_is = same_head size fed rest journal given taken old channels s head passes.head is passes.known_is
+
+    pub passes_sized : length payload ≡ head.size
+    passes_sized = passes.is_frame.1 ∙ ap (λ (h : Head). h.size) head_is
+
+    pub passes_answers : (later : List Live) → (head.channel ≡ 0 → ⊥)
+        → ((size : ℕ) (journal : List Item) (given taken : Marks) → AreLiveBy size journal given taken channels → under_way Side.Received journal ≡ Some head
+        → (head.channel == 0) ≡ false → AreLiveBy size (passed Side.Received head payload ∷ journal) given taken later)
+        → Answers (Heard.Arrived head.channel) size octets fed journal given taken (record now { under = None; heard = true }) later
+    passes_answers later other live =
+        let above : (head.channel == 0) ≡ false = apart head.channel _ refl other in
+        let gives : GivesFrame (WasFed decoder) (fed_of fed s.hears.is_fed.frames rest (under_way Side.Received journal)) octets =
+        record { head = passes.head; payload = payload; known_is = passes.known_is; is_frame = passes.is_frame; whole = passes.whole; stands = passes.stands } in
+        goes_above size fed rest journal given taken old channels s decoder used octets used_is max head payload gives head_is refl head.channel later refl above
+        (live size journal given taken s.live (sym s.hears.under ∙ is) above)

@@ -290,8 +290,35 @@ impl Ear {
         Heard::More
     }
 
-    /// Takes octets up to the next step, and answers how many, and what came of it.
-    fn hear(&mut self, lives: &mut Lives, bytes: &[u8]) -> (usize, Heard)
+    /// The frame under way passes, where it is above channel zero and the octets hold its payload
+    /// and its trailer. The decoder doesn't keep the payload.
+    fn pass_whole(&mut self, lives: &mut Lives, bytes: &[u8]) -> Option<(usize, Heard)>
+        requires held { IsHeld self.old lives.old }
+        requires room { IfUnder self.old lives.old }
+        ensures within { IfSome result (λ it. it.0 ≤ length bytes.now) }
+        ensures progress { IfSome result (λ it. 0 < it.0) }
+        ensures answers { IfSome result (λ it. (size : ℕ) (fed rest : List ℕ)
+            (journal : List Item) (given taken : Marks)
+            → IsEar size fed rest journal given taken self.old lives.old
+            → Answers it.1 size (take it.0 bytes.now) fed journal given taken
+            self.new lives.new) }
+        ensures none { result ≡ None → (self.new ≡ self.old) × (lives.new ≡ lives.old) }
+        ensures room { KeepsZeroRoom lives.old lives.new }
+    {
+        let head = self.under?;
+        if head.channel == 0 {
+            return None;
+        }
+        let (count, payload) = self.decoder.take_whole(bytes)?;
+        self.used = self.used.wrapping_add(count as u64);
+        hear_frame(lives, &head, payload);
+        self.under = None;
+        self.heard = true;
+        Some((count, Heard::Arrived(head.channel)))
+    }
+
+    /// Takes octets up to the decoder's next step, and answers how many, and what came of it.
+    fn follow(&mut self, lives: &mut Lives, bytes: &[u8]) -> (usize, Heard)
         requires held { IsHeld self.old lives.old }
         requires room { IfUnder self.old lives.old }
         requires some { 0 < length bytes.now }
@@ -315,6 +342,26 @@ impl Ear {
             Step::Seq(seq) => (count, self.tell(lives, &seq, left)),
             Step::Broken(rule, place) => (count, self.stop(rule, place, left)),
         }
+    }
+
+    /// The same, but a frame that stands whole passes at once.
+    fn hear(&mut self, lives: &mut Lives, bytes: &[u8]) -> (usize, Heard)
+        requires held { IsHeld self.old lives.old }
+        requires room { IfUnder self.old lives.old }
+        requires some { 0 < length bytes.now }
+        ensures within { result.0 ≤ length bytes.now }
+        ensures progress { is_going result.1 ≡ true → 0 < result.0 }
+        ensures answers { (size : ℕ) (fed rest : List ℕ) (journal : List Item)
+            (given taken : Marks)
+            → IsEar size fed rest journal given taken self.old lives.old
+            → Answers result.1 size (take result.0 bytes.now) fed journal given taken
+            self.new lives.new }
+        ensures room { KeepsZeroRoom lives.old lives.new }
+    {
+        if let Some(passed) = self.pass_whole(lives, bytes) {
+            return passed;
+        }
+        self.follow(lives, bytes)
     }
 
     // ---- feeds

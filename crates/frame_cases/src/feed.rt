@@ -11,7 +11,19 @@ use std::alloc::Global;
 pub(crate) fn feed(alloc: Global, fields: &mut Fields<'_>, out: &mut Octets) -> Result<(), Bad> {
     let mut decoder = Decoder::new(alloc, MAX_PAYLOAD)?;
     for piece in fields.next()?.split(',') {
-        feed_all(&mut decoder, octets_of(alloc, piece)?.as_slice(), out)?;
+        let piece = octets_of(alloc, piece)?;
+        feed_all(&mut decoder, false, piece.as_slice(), out)?;
+    }
+    put_count("left", decoder.left(), out)
+}
+
+/// Pieces of a stream, in which payloads that stand whole after their header are taken so: the
+/// same.
+pub(crate) fn whole(alloc: Global, fields: &mut Fields<'_>, out: &mut Octets) -> Result<(), Bad> {
+    let mut decoder = Decoder::new(alloc, MAX_PAYLOAD)?;
+    for piece in fields.next()?.split(',') {
+        let piece = octets_of(alloc, piece)?;
+        feed_all(&mut decoder, true, piece.as_slice(), out)?;
     }
     put_count("left", decoder.left(), out)
 }
@@ -21,16 +33,17 @@ pub(crate) fn octets(alloc: Global, fields: &mut Fields<'_>, out: &mut Octets) -
     let mut decoder = Decoder::new(alloc, MAX_PAYLOAD)?;
     let stream = octets_of(alloc, fields.next()?)?;
     for octet in stream.as_slice() {
-        feed_all(&mut decoder, &[*octet], out)?;
+        feed_all(&mut decoder, false, &[*octet], out)?;
     }
     put_count("left", decoder.left(), out)
 }
 
-/// Feeds a piece up to its end or to a broken rule.
-fn feed_all(decoder: &mut Decoder, piece: &[u8], out: &mut Octets) -> Result<(), Bad> {
+/// Feeds a piece up to its end or to a broken rule. With `whole` payloads that stand whole are taken
+/// so.
+fn feed_all(decoder: &mut Decoder, whole: bool, piece: &[u8], out: &mut Octets) -> Result<(), Bad> {
     let mut rest = piece;
     for _ in 0..=piece.len() {
-        let (count, more) = feed_once(decoder, rest, out)?;
+        let (count, more) = feed_once(decoder, whole, rest, out)?;
         rest = &rest[count..];
         if !more {
             break;
@@ -41,9 +54,20 @@ fn feed_all(decoder: &mut Decoder, piece: &[u8], out: &mut Octets) -> Result<(),
 
 /// Feeds octets up to a step, and writes it: how many were used, and whether another step may come
 /// of the others.
-fn feed_once(decoder: &mut Decoder, bytes: &[u8], out: &mut Octets) -> Result<(usize, bool), Bad>
+fn feed_once(
+    decoder: &mut Decoder,
+    whole: bool,
+    bytes: &[u8],
+    out: &mut Octets,
+) -> Result<(usize, bool), Bad>
     ensures { IfOk result (λ answer. answer.0 ≤ length bytes.now) }
 {
+    if whole {
+        if let Some((count, payload)) = decoder.take_whole(bytes) {
+            put_payload(payload, out)?;
+            return Ok((count, true));
+        }
+    }
     let (count, step) = decoder.feed(bytes);
     match step {
         Step::More => return Ok((count, false)),

@@ -22,6 +22,7 @@ impl Answers for Cases {
     fn answer(alloc: Global, fields: &mut Fields<'_>, out: &mut Octets) -> Result<(), Bad> {
         match fields.next()? {
             "feed" => feed::feed(alloc, fields, out),
+            "whole" => feed::whole(alloc, fields, out),
             "octets" => feed::octets(alloc, fields, out),
             "outline" => outline::outline(alloc, fields, out),
             "spell" => spell::frame(alloc, fields, out),
