@@ -1,5 +1,4 @@
-//! Writing frames (RFC 3080, section 2.2.1; RFC 3081, section 3.1): each octet goes into room that
-//! was taken before, once.
+//! Writing frames (RFC 3080, section 2.2.1; RFC 3081, section 3.1) in room that was taken before.
 ghost use Rattle.std.specs.Prelude.{◌≡◌, ◌+◌, ◌≤◌, ◌++◌, [], ◌∷◌, length};
 ghost use Rattle.beep_octets.specs.Held.{GrowsBy};
 ghost use Rattle.beep_octets.specs.declared.front.TheConstants.{FRONT_MAX};
@@ -39,22 +38,12 @@ pub fn spell(head: &Head, payload: &[u8], out: &mut Octets)
     ensures within { length (spelling (framed head.now payload.now))
         ≤ length payload.now + SPELL_ROOM }
 {
-    spell_header(head, out);
-    out.extend_spare(payload);
-    out.push_few(b"END\r\n");
-}
-
-/// Appends a header's text with its CRLF, at once. It takes no memory.
-fn spell_header(head: &Head, out: &mut Octets)
-    requires room { MAX_HEADER ≤ out.old.spare }
-    ensures appended { out.new.octets ≡ out.old.octets ++ header head.now }
-    ensures room { GrowsBy out.old out.new (length (header head.now)) }
-    ensures within { length (header head.now) ≤ MAX_HEADER }
-{
     let mut line = Front::new();
     line.put_few(b"\r\n");
     put_header_line(&mut line, head);
     out.extend_spare(line.as_slice());
+    out.extend_spare(payload);
+    out.push_few(b"END\r\n");
 }
 
 /// Appends the spelling of a SEQ. It takes no memory.

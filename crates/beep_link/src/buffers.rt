@@ -4,8 +4,9 @@ ghost use Rattle.std.specs.Prelude.{◌≡◌, ◌≤◌, [], length, IfOk, vec_
 use beep_octets::{NoMemory, Octets};
 use std::alloc::Global;
 
-/// How many octets are gathered before they are written.
-pub const BUFFER: usize = 65536;
+/// How many octets are gathered before they are written: a quarter of the greatest window, so that
+/// a peer hears the first of them while the next are spelled.
+pub const BUFFER: usize = 16384;
 
 /// How many octets are read at once at most: a quarter of the greatest window, so that a peer whose
 /// window was full has a SEQ, and sends, while the rest of what it sent is still to be heard.
