@@ -11,7 +11,7 @@
 #include <unistd.h>
 
 #define BUFFER 65536
-#define READ 16384
+#define READ 32768
 #define MIME "Content-Type: application/beep+xml\r\n\r\n"
 #define PROFILE "<profile uri='http://xml.resource.org/profiles/syslog/RAW' />"
 

@@ -8,9 +8,9 @@ use std::alloc::Global;
 /// a peer hears the first of them while the next are spelled.
 pub const BUFFER: usize = 16384;
 
-/// How many octets are read at once at most: a quarter of the greatest window, so that a peer whose
+/// How many octets are read at once at most: half of the greatest window, so that a peer whose
 /// window was full has a SEQ, and sends, while the rest of what it sent is still to be heard.
-pub const READ: usize = 16384;
+pub const READ: usize = 32768;
 
 /// What a read gives, and what is gathered to be written.
 #[derive(Drop)]
