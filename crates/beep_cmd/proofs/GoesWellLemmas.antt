@@ -12,7 +12,7 @@ use Rattle.beep_runs.specs.beep_wires.specs.States.{SourceState}
 use Rattle.beep_runs.specs.beep_link.specs.Causes.{HasRead, IsQuiet, octets_read, quiet_reads, Seen, WhereKnown}
 use Rattle.beep_runs.specs.beep_link.specs.declared.ended.Ended.{Ended}
 use Rattle.beep_runs.specs.beep_settings.specs.declared.settings.Settings.{Settings}
-use Rattle.beep_runs.specs.beep_steps.specs.Logs.{moments, Shows, terms_by}
+use Rattle.beep_runs.specs.beep_steps.specs.Logs.{moments, Shows, ShowsGoing, terms_by}
 use Rattle.beep_show.specs.beep_input.specs.Lines as inputs
 use Rattle.beep_show.specs.beep_input.specs.Lines.{AreLines, IsBad, lines_of}
 use Rattle.beep_show.specs.Show.{Run}
@@ -48,15 +48,23 @@ module _ (role : Role) (settings : Settings) (link : Link) (well : LinkGoesWell 
       let two : true ≡ false = sym (well.uncut e.0.cut) ∙ ap (λ (p : Past). is_released p.journal) (sym same) ∙ cut.unreleased in
       absurd (cc)
 
+  -- a log that shows a session which isn't released shows the one at hand
+  not_released : (cause : ShowsGoing (terms_by role settings) (moments well.log)) → is_released well.past.journal ≡ false
+  not_released cause =
+      let same : cause.sound.past ≡ well.past = one-shown none_tunes (moments well.log) cause.sound.past well.past cause.sound.shows well.shows in
+      ap (λ (p : Past). is_released p.journal) (sym same) ∙ cause.unreleased
+
   not_idle : (reads : ℕ) → EndsIn role settings (Ended.Idle reads) link → ⊥
   not_idle reads e =
+      let few : quiet_reads well.log < settings.idle = well.heard (not_released (shown (Ended.Idle reads) e)) in
       let many : settings.idle ≤ quiet_reads well.log = subst (IsQuiet settings.idle) well.tells e.0.because.1 in
-      omega (arith, many, well.heard)
+      omega (arith, many, few)
 
   not_spent : (octets : ℕ) → EndsIn role settings (Ended.Spent octets) link → ⊥
   not_spent octets e =
+      let few : octets_read well.log < settings.octets = well.fewer (not_released (shown (Ended.Spent octets) e)) in
       let all : octets_read well.log ≡ settings.octets = subst (HasRead settings.octets) well.tells e.0.because.1 in
-      omega (arith, all, well.fewer)
+      omega (arith, all, few)
 
 -- ---- a run
 

@@ -1,5 +1,5 @@
--- A run of `send` or `listen` that ended with 0 goes well, where its links tell their logs and might
--- have been read further: so the premises of `send_complete` and `listen_complete` are met.
+-- A run of `send` or `listen` that ended with 0 goes well, where its links tell their logs: so the
+-- premises of `send_complete` and `listen_complete` are met.
 use Rattle.std.proofs.Common.{◌≡◌, ℕ, ◌+◌, ◌<◌, ◌≤◌, ◌⊎◌, inl, inr, nat_le, Bool, true, false, if◌then◌else◌, List, [], ◌∷◌, ◌++◌, Some, None, refl, ap, sym, ◌∙◌, arith, subst, append-nil}
 use Rattle.std.proofs.lemmas.Bool.Decides.{nat_tests}
 use Rattle.std.specs.Io.KnownBytes.{Consumes}
@@ -8,10 +8,9 @@ use Rattle.beep_runs.specs.beep_wires.specs.Counts.{Rose}
 use Rattle.beep_runs.specs.beep_wires.specs.Links.{Link}
 use Rattle.beep_runs.specs.beep_wires.specs.Log.{Entry}
 use Rattle.beep_runs.specs.beep_wires.specs.States.{SinkState}
-use Rattle.beep_runs.specs.beep_link.specs.Causes.{MayRead, Seen, WhereKnown}
+use Rattle.beep_runs.specs.beep_link.specs.Causes.{Seen, WhereKnown}
 use Rattle.beep_runs.specs.beep_link.specs.declared.ended.Ended.{Ended}
 use Rattle.beep_runs.specs.beep_settings.specs.declared.settings.Settings.{Settings}
-use Rattle.beep_runs.specs.beep_steps.specs.Ends.{reads_of}
 use Rattle.beep_runs.specs.beep_steps.specs.Logs.{Shows, terms_by}
 use Rattle.beep_runs.specs.beep_steps.specs.Refusing.{GoesUnrefused}
 use Rattle.beep_show.specs.beep_input.specs.Lines.{AreLines}
@@ -24,25 +23,25 @@ use Rattle.beep_cmd.proofs.CompleteLemmas.{read_first, at_end}
 
 -- ---- one link
 
--- the link tells its log, and by that might be read further
-abbrev pub HasLeft : Settings → Link → Type 0
-HasLeft settings link = (log : List Entry) × (link.log ≡ Some log) × MayRead (reads_of settings) log
+-- the link tells its log
+abbrev pub IsTold : Link → Type 0
+IsTold link = (log : List Entry) × (link.log ≡ Some log)
 
 -- all went well where its session is released
-released_well : (role : Role) (settings : Settings) (link : Link) → HasLeft settings link → EndsIn role settings Ended.Released link → WhereKnown (GoesUnrefused (terms_by role settings) Ended.Released) link.log → LinkGoesWell role settings link
-released_well role settings link left e unrefused =
-    let shows = subst (WhereKnown (Shows (terms_by role settings) Ended.Released)) left.1 e.1 in
+released_well : (role : Role) (settings : Settings) (link : Link) → IsTold link → EndsIn role settings Ended.Released link → WhereKnown (GoesUnrefused (terms_by role settings) Ended.Released) link.log → LinkGoesWell role settings link
+released_well role settings link told e unrefused =
+    let shows = subst (WhereKnown (Shows (terms_by role settings) Ended.Released)) told.1 e.1 in
     record {
-      log = left.0;
-      tells = left.1;
+      log = told.0;
+      tells = told.1;
       unfailed = e.0.unfailed (λ f. cc);
       past = shows.sound.past;
       shows = shows.sound.shows;
       unbroken = λ fault is. let two : None ≡ Some fault = sym shows.sound.going ∙ is in absurd (cc);
-      unrefused = (subst (WhereKnown (GoesUnrefused (terms_by role settings) Ended.Released)) left.1 unrefused) shows.sound.past shows.sound.shows;
+      unrefused = (subst (WhereKnown (GoesUnrefused (terms_by role settings) Ended.Released)) told.1 unrefused) shows.sound.past shows.sound.shows;
       uncut = λ ended. let two : true ≡ false = sym ended ∙ e.0.cut in absurd (cc);
-      heard = left.2.quiets;
-      fewer = left.2.octets;
+      heard = λ unreleased. let two : true ≡ false = sym shows.released ∙ unreleased in absurd (cc);
+      fewer = λ unreleased. let two : true ≡ false = sym shows.released ∙ unreleased in absurd (cc);
     }
 
 -- 0 is the status of a release alone
@@ -59,7 +58,7 @@ released_is (Ended.Spent octets) e = absurd (omega (arith, e))
 
 -- ---- `send`
 
-module _ (settings : Settings) (before after : Seen) (run : Run) (octets : List ℕ) (tells : run.source.left ≡ Some octets) (no_fault : NoFault run) (no_dial : Rose before.counts.dials after.counts.dials → ⊥) (left : EachOf before after (HasLeft settings)) where
+module _ (settings : Settings) (before after : Seen) (run : Run) (octets : List ℕ) (tells : run.source.left ≡ Some octets) (no_fault : NoFault run) (no_dial : Rose before.counts.dials after.counts.dials → ⊥) (told : EachOf before after IsTold) where
   sends_well : (lines : List (List ℕ)) → AreLines lines octets → SendCause Ended.Released settings before after → EachOf before after (λ link. WhereKnown (GoesUnrefused (terms_by Role.Initiator settings) Ended.Released) link.log) → SendGoesWell settings before after run
   sends_well lines are (asking is failed) unrefused = absurd (no_dial failed.0)
   sends_well lines are (session c all) unrefused = record {
@@ -68,7 +67,7 @@ module _ (settings : Settings) (before after : Seen) (run : Run) (octets : List 
     are_lines = subst (λ (ls : List (List ℕ)). AreLines ls octets) are.lines_are are;
     no_fault = no_fault;
     no_dial = no_dial;
-    links = λ link least less. released_well Role.Initiator settings (after.state link) (left link least less) (c link least less) (unrefused link least less);
+    links = λ link least less. released_well Role.Initiator settings (after.state link) (told link least less) (c link least less) (unrefused link least less);
   }
 
   report_met : (read text : List ℕ) (status : ℕ) → status ≡ 0 → Consumes run.source.left run.source_after.left read → IsSendReport settings run.source run.source_after before after read text status → SendGoesWell settings before after run
@@ -110,11 +109,11 @@ split : (G : Type 0) (first link : ℕ) (b : Bool) → nat_le first link ≡ b �
 split G first link true e later sooner = later (grind (arith, nat_tests, e))
 split G first link false e later sooner = sooner (grind (arith, nat_tests, e))
 
-module _ (settings : Settings) (before after : Seen) (left : EachOf before after (HasLeft settings)) where
+module _ (settings : Settings) (before after : Seen) (told : EachOf before after IsTold) where
   module _ (link : ℕ) (least : before.counts.given ≤ link) (less : link < after.counts.given) where
     session_met : (one : Session) → one.cause ≡ Ended.Released → WhereKnown (WritesOf settings one) (after.state link).log → HasCause settings one.cause (after.state link) → LinkGoesWell Role.Listener settings (after.state link)
     session_met one is writes because =
-        let has = left link least less in
+        let has = told link least less in
         let w : WritesOf settings one has.0 = subst (WhereKnown (WritesOf settings one)) has.1 writes in
         let known : (P : List Entry → Type 0) → P has.0 → WhereKnown P (after.state link).log = λ P p. subst (WhereKnown P) (sym has.1) p in
         released_well Role.Listener settings (after.state link) has (
@@ -160,7 +159,7 @@ module _ (settings : Settings) (before after : Seen) (left : EachOf before after
     listens_well (session c all) unrefused = record {
       no_write = no_write;
       no_accept = no_accept;
-      links = λ link least less. released_well Role.Listener settings (after.state link) (left link least less) (c link least less) (unrefused link least less);
+      links = λ link least less. released_well Role.Listener settings (after.state link) (told link least less) (c link least less) (unrefused link least less);
     }
 
     -- so does one that is recorded

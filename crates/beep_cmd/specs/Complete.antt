@@ -1,7 +1,7 @@
 -- A run of `send` or `listen` in which all goes well (RFC 3080, section 2.3.1; RFC 3195, section 3).
 -- The code knows of no such run; here it is read off the input, the counts of faults and the log of
 -- each link, after the run.
-use Rattle.std.specs.Prelude.{◌≡◌, ◌≢◌, ℕ, ◌<◌, true, None, Some, List}
+use Rattle.std.specs.Prelude.{◌≡◌, ◌≢◌, ℕ, ◌<◌, true, false, None, Some, List}
 use Rattle.beep_runs.specs.beep_history.specs.declared.journal.Side.{Side}
 use Rattle.beep_runs.specs.beep_journal.specs.declared.role.Role.{Role}
 use Rattle.beep_runs.specs.beep_journal.specs.Broken.{none_tunes}
@@ -21,8 +21,8 @@ use Rattle.beep_cmd.specs.Ends.{EachOf}
 
 -- all went well on a link of an end of this role, which tells its log: no read and no write of it
 -- failed; in the session that the log shows the peer broke no rule and refused nothing; the link
--- ended only where that session is released; of the latest reads fewer than the setting `idle` were
--- quiet, one after another; and fewer octets were read than the setting `octets`
+-- ended only where that session is released; and where it isn't, of the latest reads fewer than the
+-- setting `idle` were quiet, one after another, and fewer octets were read than the setting `octets`
 pub record LinkGoesWell (role : Role) (settings : Settings) (link : Link) : Type 0 where
   pub log : List Entry
   pub tells : link.log ≡ Some log
@@ -32,8 +32,8 @@ pub record LinkGoesWell (role : Role) (settings : Settings) (link : Link) : Type
   pub unbroken : (fault : Fault) → past.fault ≡ Some fault → fault.side ≢ Side.Received
   pub unrefused : refusal (command_of role) past.journal ≡ None
   pub uncut : link.has_ended ≡ true → is_released past.journal ≡ true
-  pub heard : quiet_reads log < settings.idle
-  pub fewer : octets_read log < settings.octets
+  pub heard : is_released past.journal ≡ false → quiet_reads log < settings.idle
+  pub fewer : is_released past.journal ≡ false → octets_read log < settings.octets
 
 -- the source of `send` tells its octets, and they are lines within the limits; no count of faults
 -- rose, that of dials among them; and all went well on each link that was given in the run
