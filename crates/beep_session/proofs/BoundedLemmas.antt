@@ -131,7 +131,7 @@ last-of P (y ∷ xs) x all = last-of P xs x all.1
 pub waits-short : (size : ℕ) (fed : List ℕ) (journal : List Item) (given taken : Marks) (head : Head) (payload : List ℕ) (ear : Ear) (channels : List Live)
     → Waits size fed journal given taken head payload ear channels → frame_held ear ≤ MAX_PAYLOAD
 waits-short size fed journal given taken head payload ear channels w =
-    let keeps = w.was_fed.keeps w.frames head payload refl in
+    let keeps = w.was_fed.keeps w.whole w.frames head payload refl in
     let within : head.size ≤ ear.decoder.tracker.max = last-of (IsWithin ear.decoder.tracker.max) w.frames (framed head payload) w.was_fed.tracks.within in
     subst (λ (o : Option Head). option_map_or (λ head. length ear.decoder.payload.octets) o 0 ≤ MAX_PAYLOAD) (sym w.under)
     (omega (arith, ap length keeps.1, w.is_frame.1, within, w.max))
