@@ -1,4 +1,5 @@
--- A run of `send` or `listen` in which all goes well (RFC 3080, section 2.3.1; RFC 3195, section 3).
+-- A run of `send` or `listen` in which all goes well (RFC 3080, section 2.3.1; RFC 3195, section
+-- 3).
 -- The code knows of no such run; here it is read off the input, the counts of faults and the log of
 -- each link, after the run.
 use Rattle.std.specs.Prelude.{◌≡◌, ◌≢◌, ℕ, ◌<◌, true, false, None, Some, List}
@@ -22,7 +23,8 @@ use Rattle.beep_cmd.specs.Ends.{EachOf}
 -- all went well on a link of an end of this role, which tells its log: no read and no write of it
 -- failed; in the session that the log shows the peer broke no rule and refused nothing; the link
 -- ended only where that session is released; and where it isn't, of the latest reads fewer than the
--- setting `idle` were quiet, one after another, and fewer octets were read than the setting `octets`
+-- setting `idle` were quiet, one after another, and fewer octets were read than the setting
+-- `octets`
 pub record LinkGoesWell (role : Role) (settings : Settings) (link : Link) : Type 0 where
   pub log : List Entry
   pub tells : link.log ≡ Some log

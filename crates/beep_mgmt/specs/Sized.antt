@@ -3,12 +3,12 @@
 -- Only reading back what was written asks it.
 use Rattle.std.specs.Prelude.{ℕ, Bool, true, ◌&&◌, nat_lt}
 use Rattle.std.specs.List.{list_all}
-use Rattle.beep_octets.specs.Numbers.{numbers_32}
+use Rattle.beep_octets.specs.Numbers.{numbers_8, numbers_32}
 use Rattle.beep_mgmt.specs.Form.{PlainProfile, Form, greeting, start, chosen, close, okay, fault}
 
 -- the number is an octet
 abbrev pub is_octet : ℕ → Bool
-is_octet c = nat_lt c 256
+is_octet c = nat_lt c numbers_8
 
 -- the content of a profile is octets
 abbrev pub has_octets : PlainProfile → Bool

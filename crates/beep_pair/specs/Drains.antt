@@ -1,8 +1,9 @@
 -- What a drain does, and when it ends (docs/FORMATS.md, "Schedules").
 -- The code goes round and round; here is what was done in all, and what holds then.
-use Rattle.std.specs.Prelude.{◌≡◌, ◌⊎◌, ℕ, ◌+◌, ◌≤◌, ◌==◌, true, false, Bool, ◌&&◌, List, [], ◌++◌, map, Some}
+use Rattle.std.specs.Prelude.{◌≡◌, ◌⊎◌, ℕ, ◌+◌, ◌-◌, ◌≤◌, ◌==◌, true, false, Bool, ◌&&◌, List, [], ◌++◌, map, Some}
 use Rattle.beep_two_sessions.specs.beep_speaking.specs.declared.emit.Emit.{Emit}
 use Rattle.beep_two_sessions.specs.beep_inbox.specs.declared.part.Part.{Part}
+use Rattle.beep_two_sessions.specs.beep_octets.specs.Numbers.{numbers_64}
 use Rattle.beep_two_sessions.specs.beep_peer.specs.Peering.{is_over}
 use Rattle.beep_two_sessions.specs.beep_history.specs.declared.journal.Side.{Side}
 use Rattle.beep_two_sessions.specs.beep_history.specs.Marks.{marks, mark_modulo_2_64}
@@ -81,7 +82,7 @@ pub data Rounds (max piece : ℕ) (first : World) : ℕ → List ℕ → World �
 
 -- the greatest number of rounds
 abbrev pub MOST_ROUNDS : ℕ
-MOST_ROUNDS = 18446744073709551615
+MOST_ROUNDS = numbers_64 - 1
 
 -- rounds, the last of them the first in which both sends were nothing; or as many as there may be
 pub record Drains (max piece : ℕ) (old : World) (text : List ℕ) (new : World) : Type 0 where

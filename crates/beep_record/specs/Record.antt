@@ -9,6 +9,7 @@ use Rattle.beep_history.specs.declared.journal.Side.{Side}
 use Rattle.beep_journal.specs.declared.role.Role.{Role}
 use Rattle.beep_journal.specs.Log.{Entry, read, wrote, quiet, ended}
 use Rattle.beep_record.specs.declared.limits.TheConstants.{MAX_ENTRY, MAX_STATUS}
+use Rattle.beep_octets.specs.Numbers.{numbers_8}
 
 -- ---- an octet
 
@@ -84,7 +85,7 @@ has_ended (ended ∷ log) = true
 
 -- these numbers are octets
 abbrev pub are_octets : List ℕ → Bool
-are_octets octets = list_all (λ octet. nat_lt octet 256) octets
+are_octets octets = list_all (λ octet. nat_lt octet numbers_8) octets
 
 -- a line has room for these octets, and needs them
 pub record IsPiece (octets : List ℕ) : Type 0 where

@@ -38,8 +38,8 @@ pub(crate) fn octets(alloc: Global, fields: &mut Fields<'_>, out: &mut Octets) -
     put_count("left", decoder.left(), out)
 }
 
-/// Feeds a piece up to its end or to a broken rule. With `whole` payloads that stand whole are taken
-/// so.
+/// Feeds a piece up to its end or to a broken rule. With `whole` payloads that stand whole are
+/// taken so.
 fn feed_all(decoder: &mut Decoder, whole: bool, piece: &[u8], out: &mut Octets) -> Result<(), Bad> {
     let mut rest = piece;
     for _ in 0..=piece.len() {

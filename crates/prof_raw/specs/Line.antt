@@ -30,8 +30,8 @@ abbrev pub line_of : List ℕ → List ℕ
 line_of entry =
     bang_mark entry ++ octets_written (take ENTRY_MAX entry) ++ more_mark entry ++ 10 ∷ []
 
--- an entry whose line is the entry itself: it isn't cut, wants no mark, and each octet is written as
--- it is
+-- an entry whose line is the entry itself: it isn't cut, wants no mark, and each octet is written
+-- as it is
 pub record IsPlain (entry : List ℕ) : Type 0 where
   pub some : 0 < length entry
   pub short : length entry ≤ ENTRY_MAX
