@@ -66,6 +66,7 @@ impl Exchange {
     }
 
     /// The first rule on requests and replies that a received header breaks.
+    #[inline(always)]
     pub fn judge_in(&self, head: &Head) -> Option<Rule>
         ensures value { result ≡ judged self.now.received self.now.sent head.now }
         ensures stands { (past : List Item) → IsExchange self.now past
@@ -162,6 +163,7 @@ impl Exchange {
     }
 
     /// Notes that the received frame that was begun has arrived.
+    #[inline(always)]
     pub fn note_whole(&mut self)
         requires begun { IsSome self.old.received.under_way }
         ensures stands { (past : List Item) (head : HeadValue) (payload : List ℕ)
@@ -193,6 +195,7 @@ impl Exchange {
     }
 
     /// Notes that the frame that goes out is wholly written.
+    #[inline(always)]
     pub fn note_sent(&mut self)
         requires begun { IsSome self.old.sent.under_way }
         ensures stands { (past : List Item) (head : HeadValue) (payload : List ℕ)

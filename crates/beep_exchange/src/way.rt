@@ -296,6 +296,7 @@ impl Way {
     }
 
     /// Notes a frame of the reply to the oldest request that waits.
+    #[inline(always)]
     pub fn reply(&mut self, head: &Head)
         ensures { self.new ≡ replied_kept self.old head.now }
     {

@@ -4,8 +4,7 @@ ghost use Rattle.beep_frame.specs.Frame.{IsHead, max_ansno_of};
 
 use crate::kind::Kind;
 
-/// The greatest channel, message number, size, answer number and window (RFC 3080, section
-/// 2.2.1.1).
+/// The greatest channel, message number, size, answer number and window (RFC 3080, 2.2.1.1).
 pub const MAX_NUMBER: u32 = 2147483647;
 
 /// What a header says. Numbers stand as they are on the wire: `seqno` counts octets modulo 2^32.

@@ -77,11 +77,12 @@ const LAST: Part = Part::Number {
 
 const GAP: Part = Part::Octet(SPACE);
 
-/// The parts of a line that begins with these letters, and has these between its first number and
-/// its last one.
+const LF: Part = Part::Octet(b'\n');
+
+/// The parts of a line: these letters, and these parts between its first and its last number.
 macro_rules! line_parts {
     ($a:literal, $b:literal, $c:literal, $($part:expr),*) => {
-        [Part::Octet($a), Part::Octet($b), Part::Octet($c), GAP, NUMBER, $($part,)* LAST, Part::Octet(b'\n')]
+        [Part::Octet($a), Part::Octet($b), Part::Octet($c), GAP, NUMBER, $($part,)* LAST, LF]
     };
 }
 

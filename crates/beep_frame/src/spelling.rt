@@ -13,8 +13,7 @@ use beep_octets::{FRONT_MAX, Front, Octets};
 /// The octets of a space and a number of 32 bits, at most.
 const MAX_FIELD: usize = 11;
 
-/// The octets of a header without CRLF, at most: a keyword, five fields, the continuation and a
-/// space.
+/// The octets of a header without CRLF, at most: keyword, five fields, continuation and space.
 pub const MAX_HEADER_LINE: usize = 60;
 
 /// The octets of a header with CRLF, at most.
@@ -71,6 +70,7 @@ pub fn spell_header_line(head: &Head, out: &mut Octets)
 
 /// Puts a header's text without CRLF before its CRLF or nothing.
 #[tactic(auto, unfolding(crate::specs::Spelling::header_line))]
+#[inline(always)]
 fn put_header_line(line: &mut Front, head: &Head)
     requires { length line.old ≤ 2 }
     ensures put { line.new ≡ header_line head.now ++ line.old }

@@ -1,5 +1,4 @@
-//! What a decoder answers of a stream, step by step (RFC 3080, section 2.2.1; RFC 3081, section
-//! 3.1).
+//! What a decoder answers of a stream (RFC 3080, section 2.2.1; RFC 3081, section 3.1).
 
 use crate::head::Head;
 use crate::rule::Rule;

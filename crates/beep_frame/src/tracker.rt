@@ -62,8 +62,7 @@ impl Tracker {
     ghost use Rattle.beep_frame.specs.Decodes.{Answers, is_broken};
     ghost use Rattle.beep_frame.specs.Answering.{step_of, after_found, renewed, broken_by, last_number, after_header, TakesWhole};
 
-    /// A tracker of a stream of which no octet has come, that takes payloads of at most `max`
-    /// octets.
+    /// A tracker of a stream of which no octet has come. Payloads have at most `max` octets.
     pub(crate) fn new(max: u32) -> Tracker
         ensures stands { Tracks result nothing_fed }
         ensures max { result.max ≡ max }

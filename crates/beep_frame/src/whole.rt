@@ -1,5 +1,4 @@
-//! A header, or a payload, that stands whole at the front of octets, read at once (RFC 3080,
-//! section 2.2.1).
+//! A header or a payload that stands whole at the front of octets (RFC 3080, section 2.2.1).
 ghost use Rattle.std.specs.Prelude.{◌≡◌, ◌<◌, ◌≤◌, ◌++◌, ◌∷◌, length, slice_index, IfSome};
 ghost use Rattle.std.specs.Fmt.{decimal};
 ghost use Rattle.beep_frame.specs.Frame.{IsHead, max_ansno_of};
@@ -46,6 +45,7 @@ fn keyword(bytes: &[u8]) -> Option<(Kind, &[u8])>
 }
 
 /// A number of at most `max`, and the octet that ends it.
+#[inline(always)]
 fn number(bytes: &[u8], max: u32, end: u8) -> Option<(u32, &[u8])>
     ensures { IfSome result (λ found. (found.0 ≤ max)
         × (bytes.now ≡ decimal found.0 ++ end ∷ found.1.now)) }
@@ -60,6 +60,7 @@ fn number(bytes: &[u8], max: u32, end: u8) -> Option<(u32, &[u8])>
 }
 
 /// The same where the first octet is a digit above zero. Most octets of a header are digits.
+#[inline(always)]
 fn positive(bytes: &[u8], max: u32, end: u8) -> Option<(u32, &[u8])>
     requires some { 0 < length bytes.now }
     requires first { (49 ≤ slice_index bytes.now 0) × (slice_index bytes.now 0 ≤ 57) }
@@ -91,6 +92,7 @@ fn flag(bytes: &[u8]) -> Option<(bool, &[u8])>
 }
 
 /// The size, the answer number where the kind has one, and the end of the line.
+#[inline(always)]
 fn sizes(kind: Kind, bytes: &[u8]) -> Option<(u32, u32, &[u8])>
     ensures { IfSome result (λ found. (found.0 ≤ MAX_NUMBER) × (found.1 ≤ max_ansno_of kind)
         × (bytes.now ≡ decimal found.0 ++ answer_field kind found.1 ++ line_end ++ found.2.now)) }

@@ -32,6 +32,7 @@ impl Lines {
 
     /// Adds the line of each entry of a message, after its MIME header. Where they find no room,
     /// those before are written.
+    #[inline(always)]
     pub fn put<O: Sink>(&mut self, message: &[u8], output: &mut O) -> Result<(), Stop>
         ensures ok { OnOk result (GathersAll (O.state output.old).written
             (O.state output.new).written self.old.octets.octets
@@ -59,6 +60,7 @@ impl Lines {
 
     /// Adds an entry and the LF that ends its line. Where they find no room, the lines before are
     /// written.
+    #[inline(always)]
     fn put_plain<O: Sink>(&mut self, entry: &[u8], output: &mut O) -> Result<(), Stop>
         ensures ok { OnOk result (GathersAll (O.state output.old).written
             (O.state output.new).written self.old.octets.octets

@@ -277,6 +277,7 @@ impl Lives {
 
     /// Cuts the frame that goes out next: of the lowest channel that is ready, of at most `max`
     /// octets, which are appended to `out`. It takes no memory. The frame has then passed.
+    #[inline(always)]
     pub fn cut(&mut self, max: u32, out: &mut Octets) -> Option<Head>
         requires most { 0 < max }
         requires room { max ≤ out.old.spare }
@@ -356,6 +357,7 @@ impl Lives {
 
     /// Gives a message of the reply to the oldest request that a channel owes: a RPY or an ERR, one
     /// of many ANS, or the NUL that ends them.
+    #[inline(always)]
     pub fn give_reply(&mut self, number: u32, kind: Kind, octets: &[u8]) -> Result<(), GiveError>
         requires live { IsSome (live_at number self.old) }
         requires may { IfSome (live_at number self.old) (λ channel.

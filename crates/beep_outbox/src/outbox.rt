@@ -77,6 +77,7 @@ impl Outbox {
     }
 
     /// Gives a message, to be cut after the others. It takes memory only where there is no room.
+    #[inline(always)]
     pub fn give(&mut self, tag: Tag, octets: &[u8]) -> Result<(), GiveError>
         requires fits { self.old.limit ≡ None → length octets.now ≤ MAX_UNLIMITED }
         ensures ok { OnOk result (self.new.messages

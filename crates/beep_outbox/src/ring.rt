@@ -12,6 +12,7 @@ const MAX_ROOM: usize = 4294967295;
 
 /// Makes room for `n` more octets, at least twice what there was. `NoMemory` comes also where the
 /// ring would have more than 4294967295.
+#[inline(always)]
 pub(crate) fn make_room(ring: &mut HeapCircularBuffer<u8>, n: usize) -> Result<(), NoMemory>
     requires { ring.old.capacity < numbers_32 }
     ensures ok { OnOk result (length ring.new.items + n ≤ ring.new.capacity) }

@@ -145,6 +145,7 @@ pub fn hear_next(session: &mut Session, bytes: &[u8]) -> Result<(usize, Came), S
 }
 
 /// Takes what has arrived on a channel, as much as `buf` holds.
+#[inline(always)]
 pub fn take_part(session: &mut Session, number: u32, buf: &mut [u8]) -> Option<Part>
     requires some { 0 < length buf.old }
     requires fits { length buf.old < numbers_32 }

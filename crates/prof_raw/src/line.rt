@@ -68,6 +68,7 @@ fn put_octets(octets: &[u8], out: &mut Octets)
 }
 
 /// The place from which on the first octet isn't written as it is, or the end.
+#[inline(always)]
 pub(crate) fn plain_end(octets: &[u8], from: usize) -> usize
     requires { from ≤ length octets.now }
     ensures none { (k : ℕ) → k < result - from

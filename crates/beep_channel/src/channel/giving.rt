@@ -106,6 +106,7 @@ impl Channel {
 
     /// Gives a message of the reply to the oldest owed request: a RPY or an ERR, one of many ANS,
     /// or the NUL that ends them.
+    #[inline(always)]
     pub fn give_reply(&mut self, kind: Kind, octets: &[u8]) -> Result<(), GiveError>
         requires may { IsReply self.old.held kind octets.now }
         requires fits { self.old.held.number ≡ 0 → length octets.now ≤ MAX_UNLIMITED }

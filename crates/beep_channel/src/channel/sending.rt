@@ -72,6 +72,7 @@ impl Channel {
 
     /// Appends the octets of the next frame to `out`, at most `max`, and answers its header. It
     /// takes no memory. The frame has then passed.
+    #[inline(always)]
     pub fn cut(&mut self, max: u32, out: &mut Octets) -> Head
         requires ready { is_held_ready self.old.held ≡ true }
         requires most { 0 < max }

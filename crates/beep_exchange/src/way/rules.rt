@@ -11,6 +11,7 @@ impl Way {
     /// The first rule that a header of this direction breaks, where `theirs` is the other one. Its
     /// cost is constant for the first frame of a reply to the oldest request that waits, and else
     /// bounded by what is kept.
+    #[inline(always)]
     pub fn judge(&self, theirs: &Way, head: &Head) -> Option<Rule>
         ensures { result ≡ judged self.now theirs.now head.now }
     {
