@@ -1,4 +1,4 @@
--- Where all goes well a release or want of memory ends a run of `send` or `listen`, and nothing else.
+-- Where all goes well a release or running out of memory ends a run of `send` or `listen`, and nothing else.
 use Rattle.std.proofs.Common.{◌≡◌, ◌≢◌, ℕ, ◌<◌, ◌≤◌, ◌⊎◌, true, false, List, [], ◌++◌, length, Some, None, inl, inr, refl, ap, sym, ◌∙◌, arith, subst, append-nil, length-append}
 use Rattle.std.specs.Io.KnownBytes.{Consumes}
 use Rattle.beep_runs.specs.beep_frame.specs.declared.rule.Rule.{Rule}

@@ -69,7 +69,7 @@ runnable_complete settings run status w n (reported sees) =
 runnable_complete settings run status w n (cut_short s rose sees) = absurd (n.write rose)
 runnable_complete settings run status w n (starved s sees) = inr s
 
--- ---- what is told
+-- ---- what is said
 
 pub made_tells : (settings : PairSettings) (seed : ℕ) (text : List ℕ) (state : SourceState) → settings.seed ≡ Some seed → Sums (limits_of settings) seed text → TellsPair settings 0 text state state
 made_tells settings seed text state e s = record { octets = []; consumed = Consumes-nil state.left; report = made seed e refl refl s }

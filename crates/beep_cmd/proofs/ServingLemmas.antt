@@ -243,7 +243,7 @@ module _ (P : Ask → Type 0) where
   gave_once ask is link (Some a) None p = absurd p
   gave_once ask is link (Some a) (Some b) p = (asked_by ask (Ok link), p, omega arith, ((is, (link, refl)), tt))
 
--- ---- which end is told
+-- ---- which end is answered
 
 pub first_goes : (first ended : Ended) → ends_run first ≡ false → ends_run ended ≡ false → ends_run (first_of first ended) ≡ false
 first_goes Ended.Released ended p q = q

@@ -18,7 +18,7 @@ one-more line lines short others false place other at = others place other at
 one-more line lines short others true zero other at = let same : line ≡ other = let g : Some line ≡ Some other = at in cc in subst (λ (l : List ℕ). length l ≤ ENTRY_MAX) same short
 one-more line lines short others true (suc place) other at = others place other at
 
--- a number that is told where a line is long
+-- a number that is answered where a line is long
 long-none : (long : Bool) (n : ℕ) (rest : Option ℕ) → (if long then Some n else rest) ≡ None → (long ≡ false) × (rest ≡ None)
 long-none true n rest none = absurd (let g : Some n ≡ None = none in cc)
 long-none false n rest none = (refl, none)

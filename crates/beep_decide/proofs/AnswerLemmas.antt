@@ -113,7 +113,7 @@ rows-chosen place false false true d last e = absurd cc
 rows-chosen place false false false true last e = absurd cc
 rows-chosen place false false false false last e = e
 
--- an offer that is chosen isn't tuning, and stands at the place that is told
+-- an offer that is chosen isn't tuning, and stands at the place that is answered
 offer-chosen : (place : ℕ) (offer : Placed) (a b c : Bool) (content : List ℕ)
     → first_row ((a, refuse 504) ∷ (b, refuse 501) ∷ (not offer.tuning, choose offer.place) ∷ (c, refuse 550) ∷ []) (tune offer.place content) ≡ choose place
     → (offer.tuning ≡ false) × (offer.place ≡ place)

@@ -64,7 +64,7 @@ below number least (c ∷ cs) less up =
     is-apart : least ≤ c.held.number → (c.held.number == number) ≡ false
     is-apart above = grind (arith, nat_tests)
 
--- ---- ascending channels are told by their numbers
+-- ---- ascending channels are known by their numbers
 
 first-is : (c : Live) (cs : List Live) → live_at c.held.number (c ∷ cs) ≡ Some c
 first-is c cs = ap (λ (b : Bool). if b then Some c else live_at c.held.number cs) (same-number c.held.number)

@@ -54,7 +54,7 @@ held-now size peer held =
     {B = (size : ℕ) × (journal : List Item) × (given : Marks) × (taken : Marks) × Holds size journal given taken peer.lives peer.management}
     held (λ s. (size, s.2, s.3, s.4, s.5.holds))
 
--- what is over, and what waits, is told by what was heard and by the release
+-- what is over, and what waits, is known by what was heard and by the release
 pub same-over : (old new : Peer) → new.ear ≡ old.ear → new.released ≡ old.released → is_over new ≡ is_over old
 same-over old new ear released = rw (ear, released) refl
 

@@ -1,4 +1,4 @@
--- The marks of a side are told by its items alone, so that those which arrived are the first of those which were sent.
+-- The marks of a side are known by its items alone, so that those which arrived are the first of those which were sent.
 use Rattle.std.proofs.Common.{◌≡◌, ℕ, ◌-◌, ◌==◌, Bool, true, false, not, ◌&&◌, if◌then◌else◌, List, [], ◌∷◌, ◌++◌, length, Some, refl, sym, ap, ◌∙◌, append_assoc}
 use Rattle.beep_frame.specs.declared.head.Head.{Head}
 use Rattle.beep_frame.specs.Frame.{is_msg}
