@@ -72,8 +72,8 @@ pub fn beep_run<I: Source, O: Sink, W: Wires>(
         (settings : end_settings) → IsListen settings (map string_bytes words.now)
         → settings.recording ≡ false → WritesLines settings (seen wires.old) (seen wires.new)
         result (O.state output.old) (O.state output.new) }
-    ensures send_complete { let run = run_by I.state O.state input.old output.old input.new output.new in
-        let seen = seen_by W.state W.counts W.asked W.lent in
+    ensures send_complete { let seen = seen_by W.state W.counts W.asked W.lent in
+        let run = run_by I.state O.state input.old output.old input.new output.new in
         (settings : end_settings) → IsSend settings (map string_bytes words.now)
         → SendGoesWell settings (seen wires.old) (seen wires.new) run
         → (result ≡ 0) ⊎ (result ≡ 7) }
