@@ -1,4 +1,4 @@
--- How many numbers words of 8, 31, 32, 64 and 128 bits have: what wraps is kept modulo one of these.
+-- How many numbers there are of 8, 31, 32, 64 and 128 bits: what wraps is modulo one of these.
 use Rattle.std.specs.Prelude.{ℕ, ◌^◌}
 
 -- the octets that there are
