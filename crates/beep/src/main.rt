@@ -60,12 +60,14 @@ fn meaning_of(status: u8) -> &'static str {
               --record yes|no",
         2 => "the input is no record or schedule, or what was written breaks a rule, or a line of \
               it is too long, at the place in the last line",
-        3 => "what was read breaks a rule of BEEP, at the octet that the last line names",
+        3 =>
+            "what was read breaks a rule of BEEP, at the octet that the last line names, or the last \
+              line of the record's replay",
         4 => "the input couldn't be read",
         5 => "the output couldn't be written",
         6 => "the link failed, or none was given",
         7 => "out of memory",
-        8 => "the peer refused, with the code in the last line",
+        8 => "the peer refused, with the code in the last line, unless a record was written",
         9 => "what was read ended within a frame, or before the session was released",
         10 => "the peer was silent for as many reads as --idle says",
         11 => "as many octets were read as --octets says, and one more read was needed",
