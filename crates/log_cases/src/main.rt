@@ -4,12 +4,14 @@
 
 mod frames;
 mod logs;
+mod messages;
 mod plans;
 
 use beep_octets::Octets;
 use beep_script::lines;
 use beep_shown::{Shown, is_idle, is_prompt};
-use case_lines::{Answers, Bad, Fields, put_yes};
+use case_lines::{Answers, Bad, Fields, number_of, put_yes};
+use messages::put_script;
 use std::alloc::Global;
 use std::io;
 
@@ -28,6 +30,9 @@ impl Answers for Cases {
         let question = fields.next()?;
         let plan = plans::plan_of(alloc, fields.next()?)?;
         let log = logs::log_of(alloc, fields.next()?)?;
+        if let Some(channel) = question.strip_prefix("script.") {
+            return put_script(alloc, &plan, &log, number_of(channel)?, out);
+        }
         match question {
             "idle" => put_yes(is_idle(alloc, &plan, &log)?, out)?,
             "prompt" => put_yes(is_prompt(alloc, &plan, &log)?, out)?,
