@@ -305,16 +305,19 @@ impl Ear {
         ensures none { result ≡ None → (self.new ≡ self.old) × (lives.new ≡ lives.old) }
         ensures room { KeepsZeroRoom lives.old lives.new }
     {
-        let head = self.under?;
-        if head.channel == 0 {
+        let Some(head) = &self.under else {
+            return None;
+        };
+        let channel = head.channel;
+        if channel == 0 {
             return None;
         }
         let (count, payload) = self.decoder.take_whole(bytes)?;
         self.used = self.used.wrapping_add(count as u64);
-        hear_frame(lives, &head, payload);
+        hear_frame(lives, head, payload);
         self.under = None;
         self.heard = true;
-        Some((count, Heard::Arrived(head.channel)))
+        Some((count, Heard::Arrived(channel)))
     }
 
     /// Takes octets up to the decoder's next step, and answers how many, and what came of it.
