@@ -2,20 +2,17 @@
 //! status, and says on standard error what a status but 0 means.
 #![tactic(auto)]
 
-use beep_cmd::beep_run;
+use beep_cmd::{beep_run, status};
 use beep_std::{StdSink, StdSource, StdWires};
 use std::alloc::Global;
 use std::env::{self, Env};
 use std::io::{self, ErrorKind};
 use std::process::ExitCode;
 
-/// The status where memory runs out before a command is known.
-const NO_MEMORY: u8 = 7;
-
 fn main(rt: HostRuntime) -> ExitCode {
     let words = match words_of(&rt) {
         Ok(words) => words,
-        Err(e) if e.kind() == ErrorKind::OutOfMemory => return ended(&rt, NO_MEMORY),
+        Err(e) if e.kind() == ErrorKind::OutOfMemory => return ended(&rt, status::NO_MEMORY),
         // A word that is no text is no command, as no word at all.
         Err(_) => Vec::new(rt.alloc()),
     };
@@ -43,7 +40,7 @@ fn words_of<R: Env + Alloc<A = Global>>(rt: &R) -> io::Result<Vec<String>> {
 
 /// Says what the status means, unless it is 0. Where that write fails nothing is left to be said.
 fn ended(rt: &HostRuntime, status: u8) -> ExitCode {
-    if status != 0 {
+    if status != status::FINE {
         let meaning = meaning_of(status);
         let _ = eprintln!(rt; "beep: {meaning}");
     }
@@ -53,24 +50,27 @@ fn ended(rt: &HostRuntime, status: u8) -> ExitCode {
 /// What a status but 0 means (docs/COMMANDS.md).
 fn meaning_of(status: u8) -> &'static str {
     match status {
-        1 => "the words are no command; there are: show [--elements yes|no] [--octets N]; replay; \
+        status::USAGE =>
+            "the words are no command; there are: show [--elements yes|no] [--octets N]; replay; \
               pair [--window N] [--piece N] [--seed N]; send [--host HOST] [--profile raw] \
               [OPTIONS]; listen [--offer raw] [--sessions N] [OPTIONS]; where OPTIONS are \
               --port N, --raw-uri URI, --window N, --piece N, --idle N, --octets N and \
               --record yes|no",
-        2 => "the input is no record or schedule, or what was written breaks a rule, or a line of \
+        status::BAD =>
+            "the input is no record or schedule, or what was written breaks a rule, or a line of \
               it is too long, at the place in the last line",
-        3 =>
+        status::BROKEN =>
             "what was read breaks a rule of BEEP, at the octet that the last line names, or the last \
               line of the record's replay",
-        4 => "the input couldn't be read",
-        5 => "the output couldn't be written",
-        6 => "the link failed, or none was given",
-        7 => "out of memory",
-        8 => "the peer refused, with the code in the last line, unless a record was written",
-        9 => "what was read ended within a frame, or before the session was released",
-        10 => "the peer was silent for as many reads as --idle says",
-        11 => "as many octets were read as --octets says, and one more read was needed",
+        status::READ_FAULT => "the input couldn't be read",
+        status::WRITE_FAULT => "the output couldn't be written",
+        status::WIRE_FAULT => "the link failed, or none was given",
+        status::NO_MEMORY => "out of memory",
+        status::REFUSED =>
+            "the peer refused, with the code in the last line, unless a record was written",
+        status::CUT => "what was read ended within a frame, or before the session was released",
+        status::IDLE => "the peer was silent for as many reads as --idle says",
+        status::SPENT => "as many octets were read as --octets says, and one more read was needed",
         _ => "the run failed",
     }
 }

@@ -7,7 +7,7 @@ use beep_runs::beep_listener::Ended;
 use beep_runs::beep_octets::Octets;
 use beep_runs::beep_wires::{Failed, Sink, write_all};
 use beep_show::beep_input::Unlisted;
-use beep_show::{LAST_ROOM, append_broken, append_idle, append_numbered, append_refused};
+use beep_show::{LAST_ROOM, append_broken, append_idle, append_numbered, append_refused, status};
 
 /// Writes the last line of what ended a session, in room that was taken before, and answers the
 /// status.
@@ -46,7 +46,7 @@ pub(crate) fn tell<O: Sink>(last: &Octets, status: u8, output: &mut O) -> u8
 {
     match write_all(output, last.as_slice()) {
         Ok(()) => status,
-        Err(Failed) => 5,
+        Err(Failed) => status::WRITE_FAULT,
     }
 }
 
@@ -60,13 +60,13 @@ fn append_unlisted(out: &mut Octets, why: Unlisted) -> u8
     match why {
         Unlisted::Bad(line) => {
             append_numbered(out, b"! bad ", line);
-            2
+            status::BAD
         }
         Unlisted::Fault => {
             out.extend_within(b"! read fault\n");
-            4
+            status::READ_FAULT
         }
-        Unlisted::NoMemory => 7,
+        Unlisted::NoMemory => status::NO_MEMORY,
     }
 }
 
@@ -77,32 +77,32 @@ fn append_ended(out: &mut Octets, ended: Ended) -> u8
         → out.new.octets ≡ out.old.octets ++ ended_line ended }
 {
     match ended {
-        Ended::Released => 0,
+        Ended::Released => status::FINE,
         Ended::Broken(rule, place) => {
             append_broken(out, rule, place);
-            3
+            status::BROKEN
         }
-        Ended::WriteFault => 5,
+        Ended::WriteFault => status::WRITE_FAULT,
         Ended::WireFault => {
             out.extend_within(b"! wire fault\n");
-            6
+            status::WIRE_FAULT
         }
-        Ended::NoMemory => 7,
+        Ended::NoMemory => status::NO_MEMORY,
         Ended::Refused(code) => {
             append_refused(out, code);
-            8
+            status::REFUSED
         }
         Ended::Cut(left) => {
             append_numbered(out, b"! cut ", left);
-            9
+            status::CUT
         }
         Ended::Idle(reads) => {
             append_idle(out, reads);
-            10
+            status::IDLE
         }
         Ended::Spent(octets) => {
             append_numbered(out, b"! spent ", octets);
-            11
+            status::SPENT
         }
     }
 }

@@ -13,4 +13,4 @@ pub use run::beep_run;
 
 // Crates below, which are named through this one.
 pub use beep_runs::{beep_memory, beep_octets, beep_wires};
-pub use beep_show::beep_input;
+pub use beep_show::{beep_input, status};

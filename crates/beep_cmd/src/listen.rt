@@ -17,7 +17,7 @@ use beep_runs::beep_listener::{Ended, listen_end};
 use beep_runs::beep_octets::Octets;
 use beep_runs::beep_settings::Settings;
 use beep_runs::beep_wires::{Sink, WireError, Wires};
-use beep_show::LAST_ROOM;
+use beep_show::{LAST_ROOM, status};
 use std::alloc::Global;
 
 /// Runs `listen`: it accepts links one after another, as many as the settings say.
@@ -51,7 +51,7 @@ pub(crate) fn listen<O: Sink, W: Wires>(
 {
     let mut last = Octets::new(alloc);
     let Ok(()) = last.reserve(LAST_ROOM) else {
-        return 7;
+        return status::NO_MEMORY;
     };
     if settings.recording {
         return record_listen(alloc, settings, &mut last, output, wires);

@@ -16,7 +16,7 @@ use beep_runs::beep_wires::{Failed, Sink, Source, write_all};
 use beep_schedule::laws::a_schedule_has_no_bad_line;
 use beep_show::beep_input::{MAX_INPUT, Unread, line_past, read_input};
 use beep_show::beep_words::PairSettings;
-use beep_show::{LAST_ROOM, append_numbered};
+use beep_show::{LAST_ROOM, append_numbered, status};
 use std::alloc::Global;
 
 /// Runs `pair`. It writes nothing before the whole report is made.
@@ -37,7 +37,7 @@ pub(crate) fn pair<I: Source, O: Sink>(
     let mut out = Octets::new(alloc);
     match tell_pair(alloc, settings, input, &mut out) {
         Ok(status) => write_report(&out, status, output),
-        Err(NoMemory) => 7,
+        Err(NoMemory) => status::NO_MEMORY,
     }
 }
 
@@ -52,7 +52,7 @@ fn write_report<O: Sink>(out: &Octets, status: u8, output: &mut O) -> u8
 {
     match write_all(output, out.as_slice()) {
         Ok(()) => status,
-        Err(Failed) => 5,
+        Err(Failed) => status::WRITE_FAULT,
     }
 }
 
@@ -85,7 +85,7 @@ fn tell_pair<I: Source>(
     match settings.seed {
         Some(seed) => {
             tell_made(alloc, settings, seed, out)?;
-            Ok(0)
+            Ok(status::FINE)
         }
         None => tell_input(alloc, settings, input, out),
     }
@@ -125,12 +125,12 @@ fn tell_input<I: Source>(
     match read_input(alloc, input) {
         Ok(octets) if octets.len() > MAX_INPUT => {
             append_numbered(out, b"! bad ", line_past(octets.as_slice()));
-            Ok(2)
+            Ok(status::BAD)
         }
         Ok(octets) => tell_schedule(alloc, settings, octets.as_slice(), out),
         Err(Unread::Fault) => {
             out.extend_within(b"! read fault\n");
-            Ok(4)
+            Ok(status::READ_FAULT)
         }
         Err(Unread::NoMemory) => Err(NoMemory),
     }
@@ -153,11 +153,11 @@ fn tell_schedule(
     match report(alloc, limits_in(settings), octets)? {
         Outcome::Report(report) => {
             *out = report;
-            Ok(0)
+            Ok(status::FINE)
         }
         Outcome::Bad(number) => {
             append_numbered(out, b"! bad ", u64::from(number));
-            Ok(2)
+            Ok(status::BAD)
         }
     }
 }

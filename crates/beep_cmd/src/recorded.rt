@@ -18,7 +18,7 @@ use beep_runs::beep_settings::Settings;
 use beep_runs::beep_wires::{Sink, Wires};
 use beep_runs::prof_raw::Entries;
 use beep_runs::{listen_recorded, send_recorded};
-use beep_show::{LAST_ROOM, append_numbered};
+use beep_show::{LAST_ROOM, append_numbered, status};
 use std::alloc::Global;
 
 /// Dials, sends lines over a link that is recorded, and writes its record.
@@ -95,7 +95,7 @@ fn tell_record<O: Sink>(out: &mut Octets, ended: Ended, output: &mut O) -> u8
         → TellsRecord role link ended result (O.state output.old) (O.state output.new) }
 {
     match ended {
-        Ended::NoMemory => 7,
+        Ended::NoMemory => status::NO_MEMORY,
         Ended::Released
         | Ended::Broken(..)
         | Ended::WriteFault
@@ -107,14 +107,15 @@ fn tell_record<O: Sink>(out: &mut Octets, ended: Ended, output: &mut O) -> u8
     }
 }
 
-/// Writes a record with a status, and answers it, or 5, or 7 where the status finds no room.
+/// Writes a record with a status, and answers it, or `WRITE_FAULT`, or `NO_MEMORY` where the status
+/// finds no room.
 fn tell_whole<O: Sink>(out: &mut Octets, status: u8, output: &mut O) -> u8
     ensures { (role : RoleValue) (link : Link) → status ≤ MAX_STATUS
         → RecordsLink link role [] out.old.octets
         → TellsWhole role link status result (O.state output.old) (O.state output.new) }
 {
     let Ok(()) = out.reserve(LAST_ROOM) else {
-        return 7;
+        return status::NO_MEMORY;
     };
     append_numbered(out, b"S ", u64::from(status));
     tell(out, status, output)
@@ -125,14 +126,14 @@ fn status_of(ended: Ended) -> u8
     ensures { result ≡ ended_status ended }
 {
     match ended {
-        Ended::Released => 0,
-        Ended::Broken(_, _) => 3,
-        Ended::WriteFault => 5,
-        Ended::WireFault => 6,
-        Ended::NoMemory => 7,
-        Ended::Refused(_) => 8,
-        Ended::Cut(_) => 9,
-        Ended::Idle(_) => 10,
-        Ended::Spent(_) => 11,
+        Ended::Released => status::FINE,
+        Ended::Broken(_, _) => status::BROKEN,
+        Ended::WriteFault => status::WRITE_FAULT,
+        Ended::WireFault => status::WIRE_FAULT,
+        Ended::NoMemory => status::NO_MEMORY,
+        Ended::Refused(_) => status::REFUSED,
+        Ended::Cut(_) => status::CUT,
+        Ended::Idle(_) => status::IDLE,
+        Ended::Spent(_) => status::SPENT,
     }
 }

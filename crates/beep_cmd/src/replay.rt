@@ -11,7 +11,7 @@ use beep_runs::beep_octets::{NoMemory, Octets};
 use beep_runs::beep_record::{RecordError, Verdict, replay_text};
 use beep_runs::beep_wires::{Failed, Sink, Source, write_all};
 use beep_show::beep_input::{MAX_INPUT, Unread, read_input};
-use beep_show::{LAST_ROOM, append_broken, append_numbered, append_written};
+use beep_show::{LAST_ROOM, append_broken, append_numbered, append_written, status};
 use std::alloc::Global;
 
 /// Runs `replay`. It writes nothing before the whole input is judged.
@@ -25,7 +25,7 @@ pub(crate) fn replay<I: Source, O: Sink>(alloc: Global, input: &mut I, output: &
     let mut out = Octets::new(alloc);
     match tell_input(alloc, input, &mut out) {
         Ok(status) => write_report(&out, status, output),
-        Err(NoMemory) => 7,
+        Err(NoMemory) => status::NO_MEMORY,
     }
 }
 
@@ -38,7 +38,7 @@ fn write_report<O: Sink>(out: &Octets, status: u8, output: &mut O) -> u8
 {
     match write_all(output, out.as_slice()) {
         Ok(()) => status,
-        Err(Failed) => 5,
+        Err(Failed) => status::WRITE_FAULT,
     }
 }
 
@@ -55,12 +55,12 @@ fn tell_input<I: Source>(alloc: Global, input: &mut I, out: &mut Octets) -> Resu
     match read_input(alloc, input) {
         Ok(octets) if octets.len() > MAX_INPUT => {
             append_numbered(out, b"! bad ", MAX_INPUT as u64);
-            Ok(2)
+            Ok(status::BAD)
         }
         Ok(octets) => tell_record(octets, out),
         Err(Unread::Fault) => {
             out.extend_within(b"! read fault\n");
-            Ok(4)
+            Ok(status::READ_FAULT)
         }
         Err(Unread::NoMemory) => Err(NoMemory),
     }
@@ -82,7 +82,7 @@ fn tell_record(octets: Vec<u8>, out: &mut Octets) -> Result<u8, NoMemory>
         }
         Err(RecordError::BadRecord(place)) => {
             append_numbered(out, b"! bad ", place);
-            Ok(2)
+            Ok(status::BAD)
         }
         Err(RecordError::NoMemory) => Err(NoMemory),
     }
@@ -104,14 +104,14 @@ fn append_verdict(out: &mut Octets, verdict: Verdict) -> u8
         → out.new.octets ≡ out.old.octets ++ verdict_line verdict }
 {
     match verdict {
-        Verdict::Fine => 0,
+        Verdict::Fine => status::FINE,
         Verdict::Broken(rule, place) => {
             append_broken(out, rule, place);
-            3
+            status::BROKEN
         }
         Verdict::Written(rule, place) => {
             append_written(out, rule, place);
-            2
+            status::BAD
         }
     }
 }

@@ -23,7 +23,7 @@ use crate::send::send;
 use beep_runs::beep_octets::NoMemory;
 use beep_runs::beep_wires::{Failed, Sink, Source, Wires, write_all};
 use beep_show::beep_words::{Command, command_of};
-use beep_show::show;
+use beep_show::{show, status};
 use std::alloc::Global;
 
 /// Runs the command that `words` name, the words after the program's name, and answers the exit
@@ -159,7 +159,7 @@ pub fn beep_run<I: Source, O: Sink, W: Wires>(
         Ok(Some(Command::Listen(settings))) => listen(alloc, &settings, output, wires),
         Ok(Some(Command::Pair(settings))) => pair(alloc, settings, input, output),
         Ok(None) => refuse(output),
-        Err(NoMemory) => 7,
+        Err(NoMemory) => status::NO_MEMORY,
     }
 }
 
@@ -169,7 +169,7 @@ fn refuse<O: Sink>(output: &mut O) -> u8
         → Refused result (run_of source source (O.state output.old) (O.state output.new)) }
 {
     match write_all(output, b"! usage\n") {
-        Ok(()) => 1,
-        Err(Failed) => 5,
+        Ok(()) => status::USAGE,
+        Err(Failed) => status::WRITE_FAULT,
     }
 }

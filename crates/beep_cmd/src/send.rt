@@ -16,8 +16,8 @@ use beep_runs::beep_sender::{Ended, send_end};
 use beep_runs::beep_settings::Settings;
 use beep_runs::beep_wires::{Sink, Source, WireError, Wires};
 use beep_runs::prof_raw::Entries;
-use beep_show::LAST_ROOM;
 use beep_show::beep_input::read_lines;
+use beep_show::{LAST_ROOM, status};
 use std::alloc::Global;
 
 /// Runs `send`. It reads the whole input before it dials.
@@ -47,7 +47,7 @@ pub(crate) fn send<I: Source, O: Sink, W: Wires>(
 {
     let mut last = Octets::new(alloc);
     let Ok(()) = last.reserve(LAST_ROOM) else {
-        return 7;
+        return status::NO_MEMORY;
     };
     match read_lines(alloc, input) {
         Ok(lines) => {

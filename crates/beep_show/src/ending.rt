@@ -2,6 +2,7 @@
 ghost use Rattle.std.specs.Prelude.{◌≡◌, ◌≤◌, ◌++◌};
 ghost use Rattle.beep_show.specs.LastLine.{status_of, last_line};
 
+use crate::status;
 use crate::text::{LAST_ROOM, append_broken, append_numbered, append_totals};
 use beep_frame::Rule;
 use beep_octets::Octets;
@@ -32,25 +33,25 @@ pub(crate) fn append_last(out: &mut Octets, ending: Ending, frames: u64, left: u
     match ending {
         Ending::Ended(octets) if left == 0 => {
             append_totals(out, frames, octets);
-            0
+            status::FINE
         }
         Ending::Ended(_) => {
             append_numbered(out, b"! cut ", left);
-            9
+            status::CUT
         }
         Ending::Spent(octets) => {
             append_numbered(out, b"! spent ", u64::from(octets));
-            11
+            status::SPENT
         }
         Ending::ReadFault => {
             out.extend_within(b"! read fault\n");
-            4
+            status::READ_FAULT
         }
-        Ending::WriteFault => 5,
-        Ending::NoMemory => 7,
+        Ending::WriteFault => status::WRITE_FAULT,
+        Ending::NoMemory => status::NO_MEMORY,
         Ending::Broken(rule, place) => {
             append_broken(out, rule, place);
-            3
+            status::BROKEN
         }
     }
 }

@@ -5,6 +5,7 @@
 mod ending;
 mod listing;
 mod showing;
+pub mod status;
 mod text;
 mod zero;
 

@@ -10,6 +10,7 @@ ghost use Rattle.beep_words.specs.declared.options.TheConstants.{MAX_SETTING};
 
 use crate::ending::{Ending, append_last};
 use crate::listing::{Listed, Lister, PIECE};
+use crate::status;
 use beep_octets::NoMemory;
 use beep_wires::{Failed, Sink, Source, write_all};
 use beep_words::ShowSettings;
@@ -34,7 +35,7 @@ pub fn show<I: Source, O: Sink>(
             let ending = list_input(&mut lister, settings.octets, input, output);
             finish(&mut lister, ending, output)
         }
-        Err(NoMemory) => 7,
+        Err(NoMemory) => status::NO_MEMORY,
     }
 }
 
@@ -47,16 +48,16 @@ fn finish<O: Sink>(lister: &mut Lister, ending: Ending, output: &mut O) -> u8
     ensures answers { result ≡ 7 → ending ≡ Ending.NoMemory }
 {
     if let Ending::WriteFault = ending {
-        return 5;
+        return status::WRITE_FAULT;
     }
     if let Ending::NoMemory = ending {
-        return 7;
+        return status::NO_MEMORY;
     }
     let left = lister.decoder.left();
     let status = append_last(&mut lister.out, ending, lister.frames, left);
     match write_all(output, lister.out.as_slice()) {
         Ok(()) => status,
-        Err(Failed) => 5,
+        Err(Failed) => status::WRITE_FAULT,
     }
 }
 
