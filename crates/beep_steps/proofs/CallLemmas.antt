@@ -141,7 +141,7 @@ Fed (Event.Arrived number) terms new log = StandsOn new log
 Fed Event.Zero terms new log = WaitsOn new log
 Fed Event.Released terms new log = ⊥
 Fed (Event.Broken rule place) terms new log = ShowsFault terms rule place log
-Fed Event.NoMemory terms new log = Unit {0}
+Fed Event.NoMemory terms new log = StandsOn new log
 
 module _ (octets : List ℕ) (old new : Held) (log : List Moment) (same : IsOfPeer old new) (s : StandsOn old log) (going : old.peer.released ≡ false) where
   pub unreleased : is_released s.journal ≡ false
@@ -191,7 +191,7 @@ module _ (octets : List ℕ) (old new : Held) (log : List Moment) (same : IsOfPe
   fed-on Event.Zero kept f g = waits-on kept g
   fed-on Event.Released kept f g = absurd f
   fed-on (Event.Broken rule place) kept f g = breaks-on rule place f
-  fed-on Event.NoMemory kept f g = tt
+  fed-on Event.NoMemory kept f g = gained-on g
 
 -- ---- a message that waits
 

@@ -156,7 +156,7 @@ Heard (Event.Arrived number) terms new count bytes log = StandsOn new (got_all (
 Heard Event.Zero terms new count bytes log = WaitsOn new (got_all (take count bytes) log)
 Heard Event.Released terms new count bytes log = ShowsRelease terms (got_all bytes log)
 Heard (Event.Broken rule place) terms new count bytes log = ShowsFault terms rule place (got_all bytes log)
-Heard Event.NoMemory terms new count bytes log = Unit {0}
+Heard Event.NoMemory terms new count bytes log = StandsOn new (got_all (take count bytes) log)
 
 module _ (count : ℕ) (bytes : List ℕ) (old new : Held) (log : List Moment) where
   heard-by : (event : Event) → Fed event (terms_of old) new (got_all (take count bytes) log) → Heard event (terms_of old) new count bytes log
@@ -166,7 +166,7 @@ module _ (count : ℕ) (bytes : List ℕ) (old new : Held) (log : List Moment) w
   heard-by Event.Released f = absurd f
   heard-by (Event.Broken rule place) f =
       subst (ShowsFault (terms_of old) rule place) (got-rest count bytes log) (fault-goes-on (terms_of old) rule place (drop count bytes) (got_all (take count bytes) log) f)
-  heard-by Event.NoMemory f = tt
+  heard-by Event.NoMemory f = f
 
   pub hears-on : (event : Event) (released : Bool) → old.peer.released ≡ released → IsOfPeer old new → new.peer.released ≡ old.peer.released
       → ((fed rest : List ℕ) (journal : List Item) (given taken : Marks) → old.peer.released ≡ false → IsPeer old.limits.window fed rest journal given taken old.peer

@@ -22,7 +22,7 @@ use Rattle.beep_session.specs.Channels.{Takes}
 use Rattle.beep_session.specs.Looks.{IsTakenAt}
 use Rattle.beep_session.specs.Session.{Held}
 use Rattle.beep_steps.specs.Logs.{StandsOn}
-use Rattle.beep_steps.specs.Steps.{IsUntaken, TookPart}
+use Rattle.beep_steps.specs.Steps.{IsUntaken, TookMost, TookPart}
 use Rattle.beep_steps.proofs.ArrivedLemmas.{turn}
 use Rattle.beep_steps.proofs.TakenLemmas.{taken-at}
 
@@ -130,6 +130,17 @@ some-part number at (Some one) before octets old mid new log s above same number
     (subst (λ n. Takes n one octets old new) number_is (subst (λ (x : Held). Takes at one octets x new) same takes))
     (subst (λ n. IsTaken one (inbox_of (live_at n old.peer.lives)) (inbox_of (live_at n new.peer.lives)) before octets) number_is
     (subst (λ (x : Held). IsTaken one (inbox_of (live_at at x.peer.lives)) (inbox_of (live_at at new.peer.lives)) before octets) same part)) some left u
+
+-- a take takes what finds room
+pub most-taken : (result : Option Part) (number at : ℕ) (before octets : List ℕ) (old mid new : Held) → at ≡ number → mid ≡ old
+    → IfSome result (λ part. IsTaken part (inbox_of (live_at at mid.peer.lives)) (inbox_of (live_at at new.peer.lives)) before octets)
+    → IfSome result (λ part. TookMost number part before octets old new)
+most-taken None number at before octets old mid new number_is same part = tt
+most-taken (Some one) number at before octets old mid new number_is same part =
+    record {
+      is_taken = subst (λ n. IsTaken one (inbox_of (live_at n old.peer.lives)) (inbox_of (live_at n new.peer.lives)) before octets) number_is
+          (subst (λ (x : Held). IsTaken one (inbox_of (live_at at x.peer.lives)) (inbox_of (live_at at new.peer.lives)) before octets) same part);
+    }
 
 -- while a session stands for a log no message of channel zero waits
 pub none-waits : (session : Held) (log : List Moment) → StandsOn session log → zero_waits session.peer ≡ false

@@ -1,8 +1,9 @@
 -- What each step of a session over a link adds to the journal that the log shows, and what it
 -- leaves untaken above channel zero (RFC 3080, section 2.2.1).
 -- The code keeps no journal and no marks.
-use Rattle.std.specs.Prelude.{◌≡◌, ℕ, ◌==◌, Bool, false, ◌&&◌, if◌then◌else◌, List, [], ◌∷◌, ◌++◌, length, map, ◌≤◌, ◌<◌, Some}
+use Rattle.std.specs.Prelude.{◌≡◌, ℕ, ◌==◌, Bool, true, false, ◌&&◌, if◌then◌else◌, List, [], ◌∷◌, ◌++◌, length, map, take, ◌≤◌, ◌<◌, Some, Option}
 use Rattle.std.specs.List.{list_any}
+use Rattle.beep_session.specs.beep_frame.specs.Frame.{is_msg}
 use Rattle.beep_session.specs.beep_frame.specs.declared.head.Head.{Head}
 use Rattle.beep_session.specs.beep_frame.specs.declared.head.TheConstants.{MAX_NUMBER}
 use Rattle.beep_session.specs.beep_history.specs.declared.journal.Side.{Side}
@@ -11,10 +12,20 @@ use Rattle.beep_session.specs.beep_history.specs.Marks.{Mark, frame_marks, mark_
 use Rattle.beep_session.specs.beep_journal.specs.Broken.{none_tunes}
 use Rattle.beep_session.specs.beep_journal.specs.Journal.{Past, Shows}
 use Rattle.beep_session.specs.beep_journal.specs.Life.{history, is_there, life_now, life_under_way}
-use Rattle.beep_session.specs.beep_journal.specs.Log.{Moment}
+use Rattle.beep_session.specs.beep_journal.specs.Log.{Moment, got_all}
+use Rattle.beep_session.specs.beep_journal.specs.Zero.{gathered, zero_history}
+use Rattle.beep_session.specs.beep_mgmt.specs.Form.{Form}
+use Rattle.beep_session.specs.beep_mgmt.specs.Message.{message_said}
+use Rattle.beep_session.specs.beep_decide.specs.Decide.{decide as decided}
+use Rattle.beep_session.specs.beep_asked.specs.Kept.{Kept, oldest}
+use Rattle.beep_session.specs.beep_answering.specs.Decided.{IsSettledAs, IsSettledBy}
+use Rattle.beep_session.specs.beep_answering.specs.declared.settled.Settled.{Settled}
+use Rattle.beep_session.specs.beep_peer.specs.Standing.{standing_of}
 use Rattle.beep_session.specs.beep_inbox.specs.declared.part.Part.{Part}
 use Rattle.beep_session.specs.beep_inbox.specs.Laws.{part_marks}
 use Rattle.beep_session.specs.beep_inbox.specs.Runs.{marks_of as untaken_marks}
+use Rattle.beep_session.specs.beep_inbox.specs.Untaken.{IsTaken}
+use Rattle.beep_session.specs.beep_giving.specs.Looks.{inbox_of}
 use Rattle.beep_session.specs.beep_channel.specs.Held.{Live}
 use Rattle.beep_session.specs.beep_lives.specs.Lives.{live_at}
 use Rattle.beep_session.specs.beep_hearing.specs.Hears.{ends_zero, is_above}
@@ -83,6 +94,11 @@ pub record CameMore (old new : Held) (journal : List Item) (after : List Moment)
   pub came : Came gained journal on.journal
   pub taken : AreTaken old → AreTaken new
 
+-- so many of these octets were used, and no rule was broken by them
+pub record StillStands (session : Held) (octets : List ℕ) (log : List Moment) : Type 0 where
+  pub count : ℕ
+  pub on : StandsOn session (got_all (take count octets) log)
+
 -- one of this channel did, last
 pub record CameFrame (number : ℕ) (old new : Held) (journal : List Item) (after : List Moment)
     : Type 0 where
@@ -112,12 +128,28 @@ ComesSo CameValue.More old new journal after = CameMore old new journal after
 ComesSo (CameValue.Arrived number) old new journal after = CameFrame number old new journal after
 ComesSo CameValue.Zero old new journal after = CameZero old new journal after
 
+-- what a message of channel zero says, whose last frame carries this
+abbrev pub said_by : List ℕ → List Item → Option Form
+said_by payload journal =
+    message_said (gathered Side.Received (zero_history journal) ++ payload)
+
 -- a message of channel zero was settled
 pub record SettledOn (old new : Held) (head : Head) (payload : List ℕ) (journal : List Item)
     (log : List Moment) : Type 0 where
   pub on : StandsOn new log
   pub journal_is : on.journal ≡ passed Side.Received head payload ∷ journal
   pub taken : AreTaken old → AreTaken new
+
+-- what is answered as a message of channel zero is settled: a request as it is decided, and a reply
+-- by the request that it answers (RFC 3080, section 2.3.1)
+pub record SettlesBy (old : Held) (head : Head) (payload : List ℕ) (journal : List Item)
+    (settled : Settled) : Type 0 where
+  pub asked : is_msg head.kind ≡ true → IsSettledBy
+      (decided (standing_of old.role old.offers old.peer) (said_by payload journal))
+      (said_by payload journal) settled
+  pub answered : is_msg head.kind ≡ false → (one : Kept)
+      → oldest old.peer.management.mine.requests ≡ Some one
+      → IsSettledAs one (said_by payload journal) settled
 
 -- ---- a part that is taken
 
@@ -129,6 +161,13 @@ pub record TookPart (number : ℕ) (part : Part) (octets : List ℕ) (left : Lis
   pub left_is : left ≡ part_marks part octets ++ rest
   pub some : 0 < length (part_marks part octets)
   pub untaken : IsUntaken number rest new
+
+-- of the first untaken run of a number as many octets as find room were taken, and its end where
+-- that follows
+pub record TookMost (number : ℕ) (part : Part) (before after : List ℕ) (old new : Held)
+    : Type 0 where
+  pub is_taken : IsTaken part (inbox_of (live_at number old.peer.lives))
+      (inbox_of (live_at number new.peer.lives)) before after
 
 -- no mark of a number was untaken, and nothing changed
 pub record TookNone (number : ℕ) (old new : Held) : Type 0 where

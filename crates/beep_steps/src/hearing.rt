@@ -9,7 +9,9 @@ ghost use Rattle.beep_session.specs.Channels.{IsOpen};
 ghost use Rattle.beep_session.specs.Lawfully.{terms_of};
 ghost use Rattle.beep_link.specs.declared.end.TheConstants.{FRAME_ROOM};
 ghost use Rattle.beep_link.specs.declared.ended.Stop.{Stop as StopValue};
-ghost use Rattle.beep_steps.specs.Steps.{ComesSo, EndsSo, IsUntaken, SettledOn, Spoke, TookNone, TookPart};
+ghost use Rattle.beep_steps.specs.Steps.{ComesSo, EndsSo, IsUntaken, SettledOn, SettlesBy, Spoke, StillStands, TookMost, TookNone, TookPart};
+ghost use Rattle.beep_steps.specs.declared.hearing.Came.{Came as CameValue};
+ghost use Rattle.beep_session.specs.beep_speaking.specs.declared.emit.Emit.{Emit as EmitValue};
 ghost use Rattle.beep_steps.specs.Logs.{command_of, AreTaken, ComesOn, StandsOn, StaysOn, StopsOn, WaitsOn};
 ghost use Rattle.beep_steps.specs.Scripting.{ComesScripting, KeepsScripting, ScriptedOn, ScriptedWaiting};
 ghost use Rattle.beep_steps.specs.Sending.{went_by, ComesSending, KeepsSending, Progress, SendsOn, SendsWaiting, StopsSending};
@@ -74,6 +76,8 @@ pub fn say_next(session: &mut Session, out: &mut Octets) -> Emit
         → EndsLinesSo plan p result s.sends.on.journal }
     ensures spoke { (log : List Moment) (s : StandsOn session.old (put_all out.old.octets log))
         → Spoke result session.old session.new s.journal (put_all out.new.octets log) }
+    ensures waiting { zero_waits session.old.peer ≡ true → (result ≡ EmitValue.Nothing)
+        × (session.new ≡ session.old) × (out.new ≡ out.old) }
     ensures unrefused { (command : Command) (closing : Bool) (log : List Moment)
         → StandsOn session.old (put_all out.old.octets log)
         → IsUnrefused command closing (put_all out.old.octets log)
@@ -129,6 +133,12 @@ pub fn hear_next(session: &mut Session, bytes: &[u8]) -> Result<(usize, Came), S
         → IsUnrefused (command_of session.old.role) closing log → IfErr result (λ stop.
         RefusesOn (terms_of session.old) stop (got_all bytes.now log)) }
     ensures going { IfOk result (λ heard. session.new.peer.released ≡ false) }
+    ensures all { IfOk result (λ heard. heard.1 ≡ CameValue.More
+        → heard.0 ≡ length bytes.now) }
+    ensures memory { IfErr result (λ stop. stop ≡ StopValue.NoMemory
+        → session.new.peer.released ≡ false) }
+    ensures still { (log : List Moment) → StandsOn session.old log → IfErr result (λ stop.
+        stop ≡ StopValue.NoMemory → StillStands session.new bytes.now log) }
     ensures failed { IfErr result (λ stop. stop ≡ StopValue.WriteFault → ⊥) }
     ensures terms { terms_of session.new ≡ terms_of session.old }
     ensures offers { session.new.offers ≡ session.old.offers }
@@ -166,6 +176,8 @@ pub fn take_part(session: &mut Session, number: u32, buf: &mut [u8]) -> Option<P
     ensures part { (log : List Moment) (left : List Mark) → StandsOn session.old log
         → (number == 0) ≡ false → IsUntaken number left session.old
         → IfSome result (λ part. TookPart number part buf.new left session.new) }
+    ensures most { IfSome result (λ part.
+        TookMost number part buf.old buf.new session.old session.new) }
     ensures none { (log : List Moment) → StandsOn session.old log
         → session.old.peer.released ≡ false → (number == 0) ≡ false
         → IfNone result (TookNone number session.old session.new) }
@@ -209,6 +221,8 @@ pub fn settle_message(session: &mut Session) -> Result<Settled, Stop>
     ensures asks { (plan : PlainPlan) (p : Progress) (log : List Moment)
         (w : SendsWaiting plan p session.old log) → IfOk result (λ settled.
         AsksSo p.asked settled (passed Side.Received w.on.head w.on.payload) w.on.journal) }
+    ensures settles { (log : List Moment) (w : WaitsOn session.old log)
+        → IfOk result (SettlesBy session.old w.head w.payload w.journal) }
     ensures stopped { (log : List Moment) (octets : List ℕ) → WaitsOn session.old log
         → IfErr result (λ stop. StopsOn (terms_of session.old) stop (got_all octets log)) }
     ensures done { (log : List Moment) (w : WaitsOn session.old log) → OnOk result

@@ -279,3 +279,19 @@ returns-in-Zero-clause-desk c plan log d =
     subst (λ (e : Event). HeardDesk plan e f.new.self (got_all octets log)) c.in-Zero.is
     (hears-desk plan octets old f.new.self log f.ensures.same d f.ensures.kept.1 f.ensures.stuck f.result.1 old.peer.released refl f.ensures.kept.0 f.ensures.lawful
     (λ over. (f.ensures.released over).1) came)
+
+pub returns-in-NoMemory-clause-memory : goal.returns-in-NoMemory-clause-memory
+returns-in-NoMemory-clause-memory c is =
+    let old = c.args.session.now in
+    let f = c.feed-count in
+    still-going old f.new.self f.result.1 Event.NoMemory c.in-NoMemory.is (λ h. let k : Event.NoMemory ≡ Event.Released = h in cc) old.peer.released refl f.ensures.kept.0 (λ e. (f.ensures.released e).1)
+
+pub returns-in-NoMemory-clause-still : goal.returns-in-NoMemory-clause-still
+returns-in-NoMemory-clause-still c log s is =
+    let old = c.args.session.now in
+    let f = c.feed-count in
+    record {
+      count = f.result.0;
+      on = subst (λ (e : Event). Heard e (terms_of old) f.new.self f.result.0 c.args.bytes.now log) c.in-NoMemory.is
+          (hears-on f.result.0 c.args.bytes.now old f.new.self log f.result.1 old.peer.released refl f.ensures.same f.ensures.kept.0 f.ensures.answers f.ensures.lawful f.ensures.released s);
+    }

@@ -140,3 +140,11 @@ returns-in-Ok-clause-asks c plan p log w =
     (λ reply. e.fits o.fed o.journal o.given o.taken o.head o.payload o.waits reply refl)
     (λ is one at. e.replied o.fed o.journal o.given o.taken o.head o.payload one o.waits is at)
     (λ is. oldest-waits c.args.session.now log o is (e.fits o.fed o.journal o.given o.taken o.head o.payload o.waits is refl))
+
+pub returns-in-Ok-clause-settles : goal.returns-in-Ok-clause-settles
+returns-in-Ok-clause-settles c log w =
+    let e = c.in-Ok.ensures in
+    record {
+      asked = λ is. e.decided w.fed w.journal w.given w.taken w.head w.payload w.waits is;
+      answered = λ is one at. e.replied w.fed w.journal w.given w.taken w.head w.payload one w.waits is at;
+    }

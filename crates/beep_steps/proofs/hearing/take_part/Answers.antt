@@ -3,8 +3,8 @@ use Rattle.std.proofs.Common.{◌≡◌, ◌∙◌, true, false, [], sym, subst,
 use Rattle.std.specs.Prelude.{IfSome}
 use Rattle.beep_session.specs.Session.{Held}
 use Rattle.beep_steps.specs.Logs.{StaysOn}
-use Rattle.beep_steps.specs.Steps.{TookPart}
-use Rattle.beep_steps.proofs.PartLemmas.{none-waits, some-part}
+use Rattle.beep_steps.specs.Steps.{TookMost, TookPart}
+use Rattle.beep_steps.proofs.PartLemmas.{most-taken, none-waits, some-part}
 use Rattle.beep_steps.specs.Sending.{KeepsSending}
 use Rattle.beep_steps.proofs.CallLemmas.{took-stays}
 use Rattle.beep_steps.specs.Scripting.{KeepsScripting}
@@ -208,3 +208,22 @@ returns-clause-asking c plan p log s d =
     let one : c.open_channel.follows.lender-at-none ≡ c.args.session.now = search (rules, c.open_channel.follows.holds-at-none) in
     let two : c.closing_channel.follows.lender-at-none ≡ c.open_channel.follows.lender-at-none = search (rules, c.closing_channel.follows.holds-at-none) in
     subst (λ (y : Held). DesksWithin plan y log) (sym (two ∙ one)) d
+
+pub returns-in-Some-clause-most : goal.returns-in-Some-clause-most
+returns-in-Some-clause-most c =
+    let k = c.in-Some in
+    let t = c.take in
+    let f : (x : Held) → x ≡ t.new.self.session.now → IfSome t.result (λ part. TookMost c.args.number part c.args.buf.now t.new.buf c.args.session.now x) =
+    λ x e. subst (λ (y : Held). IfSome t.result (λ part. TookMost c.args.number part c.args.buf.now t.new.buf c.args.session.now y)) (sym e)
+    (most-taken t.result c.args.number k.channel.at c.args.buf.now t.new.buf c.args.session.now k.channel.session.now t.new.self.session.now k.ensures.same.1 k.ensures.same.0 t.ensures.part) in
+    f _ (search rules)
+
+pub returns-in-Some-closing_channel-clause-most : goal.returns-in-Some-closing_channel-clause-most
+returns-in-Some-closing_channel-clause-most c =
+    let k = c.in-Some-closing_channel in
+    let t = c.take-in-Some-closing_channel in
+    let none : c.open_channel.follows.lender-at-none ≡ c.args.session.now = search (rules, c.open_channel.follows.holds-at-none) in
+    let f : (x : Held) → x ≡ t.new.self.session.now → IfSome t.result (λ part. TookMost c.args.number part c.args.buf.now t.new.buf c.args.session.now x) =
+    λ x e. subst (λ (y : Held). IfSome t.result (λ part. TookMost c.args.number part c.args.buf.now t.new.buf c.args.session.now y)) (sym e)
+    (most-taken t.result c.args.number k.channel.at c.args.buf.now t.new.buf c.args.session.now k.channel.session.now t.new.self.session.now k.ensures.same.1 (k.ensures.same.0 ∙ none) t.ensures.part) in
+    f _ (search rules)
