@@ -8,7 +8,7 @@ use Rattle.beep_runs.specs.beep_wires.specs.declared.count.TheConstants.{COUNT_M
 use Rattle.beep_runs.specs.beep_wires.specs.declared.links.WireError.{WireError}
 use Rattle.beep_runs.specs.beep_wires.specs.Counts.{Rose}
 use Rattle.beep_runs.specs.beep_wires.specs.Links.{Link, Ask, Asked, IsFresh, Asks, asked_by}
-use Rattle.beep_runs.specs.beep_link.specs.declared.buffers.TheConstants.{READ}
+use Rattle.beep_runs.specs.beep_link.specs.declared.buffers.TheConstants.{BUFFER}
 use Rattle.beep_runs.specs.beep_link.specs.declared.ended.Ended.{Ended}
 use Rattle.beep_runs.specs.beep_link.specs.Causes.{IsCaused, IsUnused, LinkShows, ReadsGive, RoseBy, Seen, WhereKnown}
 use Rattle.beep_runs.specs.beep_journal.specs.declared.role.Role.{Role}
@@ -35,7 +35,7 @@ faulted a b e = elim [ inl w ↦ omega (arith, e, w) | inr w ↦ omega (arith, w
 from-none : (most old new : ℕ) → old ≡ 0 → new < COUNT_MAX → RoseBy most old new → most ≤ new
 from-none most old new none exact = elim [ inl w ↦ omega (arith, none, w) | inr w ↦ absurd (omega (arith, exact, w)) ]
 
-given-by : (octets old new : ℕ) → old ≡ 0 → new < COUNT_MAX → ReadsGive octets old new → octets ≤ READ * new
+given-by : (octets old new : ℕ) → old ≡ 0 → new < COUNT_MAX → ReadsGive octets old new → octets ≤ BUFFER * new
 given-by octets old new none exact = elim [ inl w ↦ omega (arith, none, w) | inr w ↦ absurd (omega (arith, exact, w)) ]
 
 -- what ended a session shows in its link when it is shut

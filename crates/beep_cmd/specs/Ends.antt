@@ -8,7 +8,7 @@ use Rattle.beep_runs.specs.beep_wires.specs.Transfer.{AppendsPrefix}
 use Rattle.std.specs.Io.KnownBytes.{Appends}
 use Rattle.beep_runs.specs.beep_wires.specs.Links.{Link, Ask, accept, dial, Asked}
 use Rattle.beep_runs.specs.beep_link.specs.declared.ended.Ended.{Ended}
-use Rattle.beep_runs.specs.beep_link.specs.declared.buffers.TheConstants.{READ}
+use Rattle.beep_runs.specs.beep_link.specs.declared.buffers.TheConstants.{BUFFER}
 use Rattle.beep_runs.specs.beep_link.specs.Causes.{HasRead, is_cut, IsBounded, IsQuiet, RoseBy, Seen, WhereKnown}
 use Rattle.beep_runs.specs.beep_journal.specs.declared.role.Role.{Role}
 use Rattle.beep_runs.specs.beep_steps.specs.EachEnd.{EachEndOn}
@@ -64,7 +64,7 @@ EachOf before after P = (link : ℕ) → before.counts.given ≤ link → link <
     → P (after.state link)
 
 -- what else a link shows of what ended its session: a fault, so many quiet reads at its end and
--- reads in all, or so many octets and as many reads as these need, of which each gives `READ` at
+-- reads in all, or so many octets and as many reads as these need, of which each gives `BUFFER` at
 -- most
 abbrev pub LinkTells : Settings → Ended → Link → Type 0
 LinkTells settings Ended.Released link = Unit {0}
@@ -77,7 +77,7 @@ LinkTells settings (Ended.Cut left) link = Unit {0}
 LinkTells settings (Ended.Idle reads) link = (reads ≡ settings.idle)
     × IsQuiet settings.idle link.log × (settings.idle ≤ link.reads)
 LinkTells settings (Ended.Spent octets) link = (octets ≡ settings.octets)
-    × HasRead settings.octets link.log × (settings.octets ≤ READ * link.reads)
+    × HasRead settings.octets link.log × (settings.octets ≤ BUFFER * link.reads)
 
 -- what ended a session shows in its link, whose log needn't be known: the link has ended where that
 -- cut the session, and only there; a call failed only where that ended the session; and what else

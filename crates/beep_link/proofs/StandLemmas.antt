@@ -93,6 +93,24 @@ text-none now P p = ([], Appends-nil now, p)
 pub text-more : (before mid now : Option (List ℕ)) (P Q : List ℕ → Type 0) → ((text : List ℕ) → P text → WithText mid now (λ more. Q (text ++ more))) → WithText before mid P → WithText before now Q
 text-more before mid now P Q f (text, grew, p) = let next = f text p in (text ++ next.0, Appends-trans before mid now text next.0 grew next.1, next.2)
 
+-- what holds of a text holds of it where nothing more was written
+pub text-still : (now : Option (List ℕ)) (text : List ℕ) (P : List ℕ → Type 0) → P text → WithText now now (λ more. P (text ++ more))
+text-still now text P p = ([], Appends-nil now, subst P (sym (append-nil text)) p)
+
+-- one entry more is on the log, and as it came the output grew
+pub text-entered : (P : List Entry → Type 0) (Q : List ℕ → List Entry → Type 0) (entry : Entry) (before now : Option (List ℕ)) → Grows before now
+    → ((log : List Entry) → P log → WithText before now (λ more. Q more (entry ∷ log))) → (old new : Option (List Entry)) → Logs old new (entry ∷ [])
+    → WhereKnown P old → WithText before now (λ more. WhereKnown (Q more) new)
+text-entered P Q entry before now (text, grew) f None None l s = (text, grew, tt)
+text-entered P Q entry before now grows f None (Some new) l s = absurd l
+text-entered P Q entry before now grows f (Some old) None l s = absurd l
+text-entered P Q entry before now grows f (Some old) (Some new) l s = let (more, grew, q) = f old s in (more, grew, subst (Q more) (sym l) q)
+
+-- the text of a log that is known
+pub known-text : (before now : Option (List ℕ)) (P : List Entry → List ℕ → Type 0) (log : Option (List Entry)) → WithText before now (λ text. WhereKnown (λ known. P known text) log) → WhereKnown (λ known. WithText before now (P known)) log
+known-text before now P None s = tt
+known-text before now P (Some log) s = s
+
 -- where nothing more is read the settings end the turns
 pub spent-is : (ended : Ended) (reads : Reads) (left : Left) → IsSpent ended reads left → IsOfReads ended
 spent-is Ended.Released reads left s = absurd s

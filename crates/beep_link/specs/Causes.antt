@@ -13,7 +13,7 @@ use Rattle.beep_link.specs.declared.ended.Stop.{Stop}
 use Rattle.beep_link.specs.declared.ended.Ended.{Ended}
 use Rattle.beep_link.specs.declared.left.Reads.{Reads}
 use Rattle.beep_link.specs.declared.left.Left.{Left}
-use Rattle.beep_link.specs.declared.buffers.TheConstants.{READ}
+use Rattle.beep_link.specs.declared.buffers.TheConstants.{BUFFER}
 
 -- what ends where an end is stopped by this
 abbrev pub ended_by : Stop → Ended
@@ -63,10 +63,10 @@ pub record IsUnused (link : Link) : Type 0 where
 abbrev pub RoseBy : ℕ → ℕ → ℕ → Type 0
 RoseBy count old new = (old + count ≤ new) ⊎ (COUNT_MAX ≤ new)
 
--- a link was read often enough for so many octets, of which one read gives `READ` at most, or the
+-- a link was read often enough for so many octets, of which one read gives `BUFFER` at most, or the
 -- count of its reads stands at its greatest value
 abbrev pub ReadsGive : ℕ → ℕ → ℕ → Type 0
-ReadsGive octets old new = (octets + READ * old ≤ READ * new) ⊎ (COUNT_MAX ≤ new)
+ReadsGive octets old new = (octets + BUFFER * old ≤ BUFFER * new) ⊎ (COUNT_MAX ≤ new)
 
 -- a link and the count of quiet reads
 pub record Look : Type 0 where
@@ -215,12 +215,12 @@ pub record CountsQuiet (before : ℕ) (left : Left) (quiets : ℕ) : Type 0 wher
 -- since a link had been read so often it was read often enough for the octets that came, and for
 -- the latest reads that were quiet
 pub record CountsReads (reads : Reads) (before : ℕ) (left : Left) (count : ℕ) : Type 0 where
-  pub octets : (reads.octets + READ * before ≤ left.octets + READ * count) ⊎ (COUNT_MAX ≤ count)
+  pub octets : (reads.octets + BUFFER * before ≤ left.octets + BUFFER * count) ⊎ (COUNT_MAX ≤ count)
   pub quiets : RoseBy left.quiets before count
 
 -- the octets that came are as many as one read gives, or fewer
 abbrev pub fits_buffer : Got → Type 0
-fits_buffer (Got.Bytes n) = n ≤ READ
+fits_buffer (Got.Bytes n) = n ≤ BUFFER
 fits_buffer Got.Quiet = Unit {0}
 fits_buffer Got.End = Unit {0}
 

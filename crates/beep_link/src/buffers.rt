@@ -1,32 +1,44 @@
 //! The buffers of a link.
-ghost use Rattle.std.specs.Prelude.{◌≡◌, ◌≤◌, [], length, IfOk, vec_len};
+ghost use Rattle.std.specs.Prelude.{◌≡◌, ◌≤◌, ◌<◌, ◌↔◌, true, length, IfOk};
+ghost use Rattle.beep_link.specs.Between.{IsBetween};
+ghost use Rattle.beep_link.specs.declared.end.TheConstants.{FRAME_ROOM};
 
+use crate::end::FRAME_ROOM;
 use beep_octets::{NoMemory, Octets};
 use std::alloc::Global;
 
-/// How many octets are gathered before they are written: a quarter of the greatest window, so that
-/// a peer hears the first of them while the next are spelled.
-pub const BUFFER: usize = 16384;
+/// How many octets the buffer of each direction has: as many as the greatest window.
+pub const BUFFER: usize = 65536;
 
-/// How many octets are read at once at most: half of the greatest window, so that a peer whose
-/// window was full has a SEQ, and sends, while the rest of what it sent is still to be heard.
-pub const READ: usize = 32768;
+/// How full the buffer of what goes out is where an end stops gathering, and what it gathered is
+/// written: a quarter, so that a peer hears the first frames while the next are spelled.
+pub const PART: usize = 16384;
 
-/// What a read gives, and what is gathered to be written.
+/// Whether one more frame is gathered before what is gathered is written: less than a quarter of
+/// the buffer is full, and the frame has room.
+pub fn takes_more(out: &Octets) -> bool
+    ensures { (result ≡ true)
+        ↔ ((length out.now.octets < PART) × (FRAME_ROOM ≤ out.now.spare)) }
+{
+    out.len() < PART && FRAME_ROOM <= out.spare()
+}
+
+/// What a read gives, and what is gathered to be written. Between two turns nothing of either is
+/// kept, so that one pair serves all links of a loop.
 #[derive(Drop)]
-pub(crate) struct Buffers {
+pub struct Buffers {
     pub(crate) coming: Vec<u8>,
     pub(crate) going: Octets,
 }
 
 impl Buffers {
     /// Both, with their room.
-    pub(crate) fn new(alloc: Global) -> Result<Buffers, NoMemory>
-        ensures coming { IfOk result (λ b. vec_len b.coming ≡ READ) }
-        ensures going { IfOk result (λ b. (b.going.octets ≡ []) × (BUFFER ≤ b.going.spare)) }
+    pub fn new(alloc: Global) -> Result<Buffers, NoMemory>
+        ensures between { IfOk result (λ b. IsBetween b) }
+        ensures room { IfOk result (λ b. BUFFER ≤ b.going.spare) }
     {
         let mut coming = Vec::new(alloc);
-        coming.resize(READ, 0)?;
+        coming.resize(BUFFER, 0)?;
         let mut going = Octets::new(alloc);
         going.reserve(BUFFER)?;
         Ok(Buffers { coming, going })

@@ -15,14 +15,16 @@ pub struct Reads {
 
 /// How many octets may still be read, and how many of the latest reads were quiet.
 #[derive(Clone, Copy, Debug)]
-pub(crate) struct Left {
-    pub(crate) octets: u32,
-    pub(crate) quiets: u32,
+pub struct Left {
+    /// How many octets may still be read.
+    pub octets: u32,
+    /// How many of the latest reads, one after another, were quiet.
+    pub quiets: u32,
 }
 
 impl Left {
     /// What may be read of a link of which nothing was.
-    pub(crate) fn of(reads: Reads) -> Left
+    pub fn of(reads: Reads) -> Left
         ensures { result ≡ record { octets = reads.octets; quiets = 0 } }
     {
         Left {

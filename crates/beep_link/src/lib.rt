@@ -13,12 +13,12 @@ mod read;
 mod say;
 mod turns;
 
-pub use buffers::{BUFFER, READ};
+pub use buffers::{BUFFER, Buffers, PART, takes_more};
 pub use end::{End, FRAME_ROOM};
 pub use ended::{Ended, Stop};
-pub use left::Reads;
+pub use left::{Left, Reads};
 pub use say::ROUNDS;
-pub use turns::run_turns;
+pub use turns::{run_turns, turn};
 
 // Crates below, which are named through this one.
 pub use beep_memory;

@@ -4,9 +4,9 @@ ghost use Rattle.beep_wires.specs.Counts.{Rose};
 ghost use Rattle.beep_wires.specs.Got.{gives_end, read_entries};
 ghost use Rattle.beep_wires.specs.Log.{Logs};
 ghost use Rattle.beep_link.specs.Causes.{CountsQuiet, CountsReads, Keeps, Moves, fits_buffer};
-ghost use Rattle.beep_link.specs.declared.buffers.TheConstants.{READ};
+ghost use Rattle.beep_link.specs.declared.buffers.TheConstants.{BUFFER};
 
-use crate::buffers::READ;
+use crate::buffers::BUFFER;
 use crate::left::{Left, Reads};
 use beep_wires::{Failed, Got, Wires};
 
@@ -20,7 +20,7 @@ pub(crate) fn read_once<W: Wires>(
 ) -> Result<Got, Failed>
     requires open { (W.state wires.old link).is_open ≡ true }
     requires going { (W.state wires.old link).has_ended ≡ false }
-    requires buffer { length coming.old ≡ READ }
+    requires buffer { length coming.old ≡ BUFFER }
     requires some { 0 < left.old.octets }
     requires few { left.old.quiets < reads.idle }
     ensures within { IfOk result (λ got. fits_buffer got) }
@@ -53,9 +53,9 @@ pub(crate) fn read_once<W: Wires>(
           lent = W.lent wires.new;
         }) }
     ensures reads { (W.state wires.new link).reads ≤ (W.state wires.old link).reads + 1 }
-    ensures buffer { length coming.new ≡ READ }
+    ensures buffer { length coming.new ≡ BUFFER }
 {
-    let room = READ.min(left.octets as usize);
+    let room = BUFFER.min(left.octets as usize);
     let got = wires.read(link, &mut coming[..room]);
     match got {
         Ok(Got::Bytes(n)) => {

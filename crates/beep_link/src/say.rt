@@ -1,8 +1,8 @@
 //! Writing all that is due.
-ghost use Rattle.std.specs.Prelude.{◌≡◌, ◌⊎◌, [], ℕ, List, Option, false, true, IfErr, IfOk, OnOk};
+ghost use Rattle.std.specs.Prelude.{◌≡◌, ◌⊎◌, [], ℕ, List, false, true, IfErr, IfOk, OnOk};
 ghost use Rattle.beep_wires.specs.Counts.{Rose};
 ghost use Rattle.beep_wires.specs.Log.{Entry};
-ghost use Rattle.beep_link.specs.Causes.{GrewByWrites, Keeps, SameReads, WhereKnown, WithText};
+ghost use Rattle.beep_link.specs.Causes.{GrewByWrites, Keeps, SameReads, WhereKnown};
 ghost use Rattle.beep_link.specs.declared.ended.Ended.{Ended as EndedValue};
 
 use crate::buffers::BUFFER;
@@ -24,19 +24,16 @@ pub(crate) fn say<E: End, W: Wires>(
 ) -> Result<(), Ended>
     requires open { (W.state wires.old link).is_open ≡ true }
     requires empty { going.old.octets ≡ [] }
-    ensures said { (before now : Option (List ℕ))
-        → WhereKnown (λ log. WithText before now (E.stands end.old log []))
-        (W.state wires.old link).log → OnOk result
-        (WhereKnown (λ log. WithText before now (E.stands end.new log []))
-        (W.state wires.new link).log) }
-    ensures rested { (before now : Option (List ℕ))
-        → WhereKnown (λ log. WithText before now (E.stands end.old log []))
-        (W.state wires.old link).log → OnOk result
-        (WhereKnown (λ log. E.rests end.new) (W.state wires.new link).log) }
-    ensures stopped { (before now : Option (List ℕ))
-        → WhereKnown (λ log. WithText before now (E.stands end.old log []))
-        (W.state wires.old link).log → IfErr result (λ ended.
-        WhereKnown (λ log. WithText before now (E.tells (E.terms end.old) ended log))
+    ensures said { (text : List ℕ)
+        → WhereKnown (λ log. E.stands end.old log [] text) (W.state wires.old link).log
+        → OnOk result
+        (WhereKnown (λ log. E.stands end.new log [] text) (W.state wires.new link).log) }
+    ensures rested { (text : List ℕ)
+        → WhereKnown (λ log. E.stands end.old log [] text) (W.state wires.old link).log
+        → OnOk result (WhereKnown (λ log. E.rests end.new) (W.state wires.new link).log) }
+    ensures stopped { (text : List ℕ)
+        → WhereKnown (λ log. E.stands end.old log [] text) (W.state wires.old link).log
+        → IfErr result (λ ended. WhereKnown (λ log. E.tells (E.terms end.old) ended log text)
         (W.state wires.new link).log) }
     ensures failed { IfErr result (λ ended. ((ended ≡ EndedValue.NoMemory)
         × ((W.state wires.new link).faults ≡ (W.state wires.old link).faults))
@@ -46,7 +43,7 @@ pub(crate) fn say<E: End, W: Wires>(
         ((W.state wires.new link).faults ≡ (W.state wires.old link).faults) }
 
     // What stays.
-    ensures empty { OnOk result (going.new.octets ≡ []) }
+    ensures empty { going.new.octets ≡ [] }
     ensures terms { E.terms end.new ≡ E.terms end.old }
     ensures keeps { Keeps link
         (record {
@@ -67,6 +64,7 @@ pub(crate) fn say<E: End, W: Wires>(
 {
     for _ in 0..ROUNDS {
         let Ok(is_more) = gather_some(end, going) else {
+            going.clear();
             return Err(Ended::NoMemory);
         };
         let written = write_link(wires, link, going.as_slice());

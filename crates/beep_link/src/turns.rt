@@ -1,12 +1,12 @@
 //! The turns over a link.
-ghost use Rattle.std.specs.Prelude.{◌≡◌, ◌≤◌, ◌<◌, ◌+◌, ◌*◌, ℕ, min, [], List, Option, true, false, OnOk, IfErr, vec_len};
+ghost use Rattle.std.specs.Prelude.{◌≡◌, ◌≤◌, ◌<◌, ◌+◌, ◌*◌, ◌++◌, ℕ, min, [], List, true, false, OnOk, IfErr};
 ghost use Rattle.beep_wires.specs.Links.{Link};
 ghost use Rattle.beep_wires.specs.declared.count.TheConstants.{COUNT_MAX};
+ghost use Rattle.beep_link.specs.Between.{IsBetween};
 ghost use Rattle.beep_link.specs.Causes.{CountsQuiet, CountsReads, Grows, IsBounded, IsCaused, IsUnused, IsWritten, Keeps, reads_left, ReadsWhere, TellsLeft, WhereKnown, WithText};
-ghost use Rattle.beep_link.specs.declared.buffers.TheConstants.{READ};
 ghost use Rattle.beep_link.specs.declared.ended.Ended.{Ended as EndedValue};
 
-use crate::buffers::{Buffers, READ};
+use crate::buffers::Buffers;
 use crate::end::End;
 use crate::ended::Ended;
 use crate::left::{Left, Reads};
@@ -74,7 +74,11 @@ pub fn run_turns<E: End, W: Wires, O: Sink>(
 }
 
 /// Says what is due, looks whether the session has ended, and reads once.
-fn turn<E: End, W: Wires, O: Sink>(
+///
+/// One loop may take turns of several ends, each over a link of its own, with one pair of buffers
+/// and one output. Each turn tells what its own end wrote to the output, whatever was written there
+/// before, and leaves what is known of the other links.
+pub fn turn<E: End, W: Wires, O: Sink>(
     end: &mut E,
     buffers: &mut Buffers,
     wires: &mut W,
@@ -86,19 +90,20 @@ fn turn<E: End, W: Wires, O: Sink>(
     requires open { (W.state wires.old link).is_open ≡ true }
     requires going { (W.state wires.old link).has_ended ≡ false }
     requires shown { TellsLeft reads left.old (W.state wires.old link).log }
-    requires buffer { vec_len buffers.old.coming ≡ READ }
-    requires empty { buffers.old.going.octets ≡ [] }
-    ensures stands { (before : Option (List ℕ)) → WhereKnown (λ log. WithText before
-        (O.state output.old).written (E.stands end.old log [])) (W.state wires.old link).log
-        → OnOk result (WhereKnown (λ log. WithText before
-        (O.state output.new).written (E.stands end.new log [])) (W.state wires.new link).log) }
-    ensures stopped { (before : Option (List ℕ)) → WhereKnown (λ log. WithText before
-        (O.state output.old).written (E.stands end.old log [])) (W.state wires.old link).log
-        → IfErr result (λ ended. WhereKnown (λ log. WithText before
-        (O.state output.new).written (E.tells (E.terms end.old) ended log))
-        (W.state wires.new link).log) }
-    ensures waits { (before : Option (List ℕ)) → WhereKnown (λ log. WithText before
-        (O.state output.old).written (E.stands end.old log [])) (W.state wires.old link).log
+    requires between { IsBetween buffers.old }
+    ensures stands { (text : List ℕ)
+        → WhereKnown (λ log. E.stands end.old log [] text) (W.state wires.old link).log
+        → OnOk result (WithText (O.state output.old).written (O.state output.new).written
+        (λ more. WhereKnown (λ log. E.stands end.new log [] (text ++ more))
+        (W.state wires.new link).log)) }
+    ensures stopped { (text : List ℕ)
+        → WhereKnown (λ log. E.stands end.old log [] text) (W.state wires.old link).log
+        → IfErr result (λ ended.
+        WithText (O.state output.old).written (O.state output.new).written
+        (λ more. WhereKnown (λ log. E.tells (E.terms end.old) ended log (text ++ more))
+        (W.state wires.new link).log)) }
+    ensures waits { (text : List ℕ)
+        → WhereKnown (λ log. E.stands end.old log [] text) (W.state wires.old link).log
         → WhereKnown (ReadsWhere (λ log. (text : List ℕ)
         × E.tells (E.terms end.old) (EndedValue.Idle 0) log text)) (W.state wires.old link).log
         → WhereKnown (ReadsWhere (λ log. (text : List ℕ)
@@ -140,8 +145,7 @@ fn turn<E: End, W: Wires, O: Sink>(
     ensures kept { (O.state output.old).faults ≤ (O.state output.new).faults }
     ensures reads { (W.state wires.new link).reads
         ≤ (W.state wires.old link).reads + min 1 (reads_left reads left.old) }
-    ensures buffer { vec_len buffers.new.coming ≡ READ }
-    ensures empty { OnOk result (buffers.new.going.octets ≡ []) }
+    ensures between { IsBetween buffers.new }
     ensures terms { E.terms end.new ≡ E.terms end.old }
 {
     say(end, &mut buffers.going, wires, link)?;

@@ -1,6 +1,6 @@
 -- Whatever was written, all else stays, and the end stands for the log.
-use Rattle.std.proofs.Common.{◌≡◌, [], ℕ, List, Option}
-use Rattle.beep_link.specs.Causes.{GrewByWrites, Keeps, SameReads, WhereKnown, WithText}
+use Rattle.std.proofs.Common.{◌≡◌, [], ℕ, List}
+use Rattle.beep_link.specs.Causes.{GrewByWrites, Keeps, SameReads, WhereKnown}
 use Rattle.beep_link.proofs.say.say.Given as goal
 
 abbrev pub invariant-loop : goal.invariant-loop
@@ -10,8 +10,8 @@ invariant-loop g l =
     record {
       empty : l.going.octets ≡ [];
       terms : E.terms l.end ≡ E.terms l.initial.end;
-      stands : (before now : Option (List ℕ)) → WhereKnown (λ log. WithText before now (E.stands l.initial.end log [])) (W.state l.initial.wires l.link).log
-          → WhereKnown (λ log. WithText before now (E.stands l.end log [])) (W.state l.wires l.link).log;
+      stands : (text : List ℕ) → WhereKnown (λ log. E.stands l.initial.end log [] text) (W.state l.initial.wires l.link).log
+          → WhereKnown (λ log. E.stands l.end log [] text) (W.state l.wires l.link).log;
       unfailed : (W.state l.wires l.link).faults ≡ (W.state l.initial.wires l.link).faults;
       keeps : Keeps l.link (record { state = W.state l.initial.wires; counts = W.counts l.initial.wires; asked = W.asked l.initial.wires; lent = W.lent l.initial.wires })
           (record { state = W.state l.wires; counts = W.counts l.wires; asked = W.asked l.wires; lent = W.lent l.wires });

@@ -3,7 +3,7 @@ use Rattle.std.proofs.Common.{rules, ℕ, List, ◌∙◌, [], arith, subst, sym
 use Rattle.beep_link.specs.Causes.{ReadsWhere, WhereKnown, WithText}
 use Rattle.beep_link.specs.declared.ended.Ended.{Ended}
 use Rattle.beep_link.proofs.KeepLemmas.{Keeps-trans}
-use Rattle.beep_link.proofs.StandLemmas.{grown-more, text-none, known-empty, unread-bounded}
+use Rattle.beep_link.proofs.StandLemmas.{grown-more, text-more, text-none, known-empty, known-text, unread-bounded}
 use Rattle.beep_link.proofs.turns.run_turns.Goals as goal
 
 pub returns-in-Err-clause-caused : goal.returns-in-Err-clause-caused
@@ -17,15 +17,22 @@ returns-in-Err-clause-grew g c = grown-more _ (g.O.Sink.state c.loop-ended.outpu
 pub returns-in-Err-clause-shown : goal.returns-in-Err-clause-shown
 returns-in-Err-clause-shown g c begun =
     let E = g.E.End in
-    subst (λ t. WhereKnown (λ log. WithText (g.O.Sink.state c.args.output.now).written (g.O.Sink.state c.turn.new.output).written (E.tells t c.in-Err.ended log))
-    (g.W.Wires.state c.turn.new.wires c.args.link).log) c.loop-ended.invariant.terms
-    (c.in-Err.ensures.stopped (g.O.Sink.state c.args.output.now).written (c.loop-ended.invariant.stands begun))
+    let before = (g.O.Sink.state c.args.output.now).written in
+    let mid = (g.O.Sink.state c.loop-ended.output).written in
+    let now = (g.O.Sink.state c.turn.new.output).written in
+    let old = (g.W.Wires.state c.loop-ended.wires c.args.link).log in
+    let new = (g.W.Wires.state c.turn.new.wires c.args.link).log in
+    let ended = c.in-Err.ended in
+    subst (λ t. WhereKnown (λ log. WithText before now (E.tells t ended log)) new) c.loop-ended.invariant.terms
+    (known-text before now (E.tells (E.terms c.loop-ended.end) ended) new
+    (text-more before mid now (λ text. WhereKnown (λ log. E.stands c.loop-ended.end log [] text) old) (λ text. WhereKnown (λ log. E.tells (E.terms c.loop-ended.end) ended log text) new)
+    (λ text k. c.in-Err.ensures.stopped text k) (c.loop-ended.invariant.stands begun)))
 
 pub returns-in-Err-clause-waits : goal.returns-in-Err-clause-waits
 returns-in-Err-clause-waits g c begun =
     let E = g.E.End in
     subst (λ t. WhereKnown (ReadsWhere (λ log. (text : List ℕ) × E.tells t (Ended.Idle 0) log text)) (g.W.Wires.state c.turn.new.wires c.args.link).log) c.loop-ended.invariant.terms
-    (c.turn.ensures.waits (g.O.Sink.state c.args.output.now).written (c.loop-ended.invariant.stands begun)
+    (c.turn.ensures.waits (c.loop-ended.invariant.stands begun).0 (c.loop-ended.invariant.stands begun).2
     (subst (λ t. WhereKnown (ReadsWhere (λ log. (text : List ℕ) × E.tells t (Ended.Idle 0) log text)) (g.W.Wires.state c.loop-ended.wires c.args.link).log) (sym c.loop-ended.invariant.terms) (c.loop-ended.invariant.waits begun)))
 
 pub returns-in_default-clause-waits : goal.returns-in_default-clause-waits
@@ -50,16 +57,19 @@ returns-in-Err-clause-bounded g c = c.turn.ensures.bounded c.loop-ended.invarian
 
 pub loop-ended-preserved : goal.loop-ended-preserved
 loop-ended-preserved g c = record {
-  empty = c.in-Ok-turn.ensures.empty;
+  between = c.turn.ensures.between;
   terms = c.turn.ensures.terms ∙ c.loop-ended.invariant.terms;
-  stands = λ begun. c.in-Ok-turn.ensures.stands (g.O.Sink.state c.args.output.now).written (c.loop-ended.invariant.stands begun);
+  stands = λ begun.
+      let E = g.E.End in
+      text-more (g.O.Sink.state c.args.output.now).written (g.O.Sink.state c.loop-ended.output).written (g.O.Sink.state c.turn.new.output).written
+      (λ text. WhereKnown (λ log. E.stands c.loop-ended.end log [] text) (g.W.Wires.state c.loop-ended.wires c.args.link).log) (λ text. WhereKnown (λ log. E.stands c.turn.new.end log [] text) (g.W.Wires.state c.turn.new.wires c.args.link).log)
+      (λ text k. c.in-Ok-turn.ensures.stands text k) (c.loop-ended.invariant.stands begun);
   waits = λ begun.
       let E = g.E.End in
       subst (λ t. WhereKnown (ReadsWhere (λ log. (text : List ℕ) × E.tells t (Ended.Idle 0) log text)) (g.W.Wires.state c.turn.new.wires c.args.link).log) c.loop-ended.invariant.terms
-      (c.turn.ensures.waits (g.O.Sink.state c.args.output.now).written (c.loop-ended.invariant.stands begun)
+      (c.turn.ensures.waits (c.loop-ended.invariant.stands begun).0 (c.loop-ended.invariant.stands begun).2
       (subst (λ t. WhereKnown (ReadsWhere (λ log. (text : List ℕ) × E.tells t (Ended.Idle 0) log text)) (g.W.Wires.state c.loop-ended.wires c.args.link).log) (sym c.loop-ended.invariant.terms) (c.loop-ended.invariant.waits begun)));
   going = c.in-Ok-turn.ensures.going;
-  buffer = c.turn.ensures.buffer;
   shown = c.in-Ok-turn.ensures.shown;
   bounded = c.turn.ensures.bounded c.loop-ended.invariant.bounded;
   counted = c.in-Ok-turn.ensures.counted _ c.loop-ended.invariant.counted;

@@ -1,7 +1,7 @@
 -- The log shows what may still be read, and so do the reads; and the end stands for the log.
-use Rattle.std.proofs.Common.{◌≡◌, ℕ, List, ◌≤◌, ◌+◌, ◌*◌, false, [], vec_len}
+use Rattle.std.proofs.Common.{◌≡◌, ℕ, List, ◌≤◌, ◌+◌, ◌*◌, false, []}
+use Rattle.beep_link.specs.Between.{IsBetween}
 use Rattle.beep_link.specs.Causes.{CountsQuiet, CountsReads, Grows, IsBounded, Keeps, reads_left, ReadsWhere, TellsLeft, WhereKnown, WithText}
-use Rattle.beep_link.specs.declared.buffers.TheConstants.{READ}
 use Rattle.beep_link.specs.declared.ended.Ended.{Ended}
 use Rattle.beep_link.proofs.turns.run_turns.Given as goal
 
@@ -9,12 +9,11 @@ abbrev pub invariant-loop-ended : goal.invariant-loop-ended
 invariant-loop-ended g l =
     let W = g.W.Wires in
     record {
-      empty : l.buffers.going.octets ≡ [];
+      between : IsBetween l.buffers;
       terms : g.E.End.terms l.end ≡ g.E.End.terms l.fn.end;
-      stands : g.E.End.stands l.fn.end [] [] [] → WhereKnown (λ log. WithText (g.O.Sink.state l.fn.output).written (g.O.Sink.state l.output).written (g.E.End.stands l.end log [])) (W.state l.wires l.link).log;
+      stands : g.E.End.stands l.fn.end [] [] [] → WithText (g.O.Sink.state l.fn.output).written (g.O.Sink.state l.output).written (λ text. WhereKnown (λ log. g.E.End.stands l.end log [] text) (W.state l.wires l.link).log);
       waits : g.E.End.stands l.fn.end [] [] [] → WhereKnown (ReadsWhere (λ log. (text : List ℕ) × g.E.End.tells (g.E.End.terms l.fn.end) (Ended.Idle 0) log text)) (W.state l.wires l.link).log;
       going : (W.state l.wires l.link).has_ended ≡ false;
-      buffer : vec_len l.buffers.coming ≡ READ;
       shown : TellsLeft l.reads l.left (W.state l.wires l.link).log;
       bounded : IsBounded l.reads (W.state l.wires l.link).log;
       counted : CountsQuiet (W.counts l.fn.wires).quiets l.left (W.counts l.wires).quiets;

@@ -4,22 +4,27 @@ use Rattle.beep_wires.specs.Log.{Logs, read, quiet, ended}
 use Rattle.beep_wires.specs.Links.{Counts}
 use Rattle.beep_link.specs.Causes.{octets_read, CountsQuiet, CountsReads, IsOfReads, IsWithin, ReadsWhere, TellsLeft, WhereKnown, WithText, ended_by}
 use Rattle.beep_link.specs.declared.ended.Ended.{Ended}
-use Rattle.beep_link.proofs.StandLemmas.{bounded-grown, bounded-read, entered, kept, most-read, reads-grown, spent-is, take-front, tells-same, text-map, text-more, known-map, known-pair}
+use Rattle.beep_link.proofs.StandLemmas.{bounded-grown, bounded-read, entered, kept, most-read, reads-grown, spent-is, take-front, tells-same, text-entered, text-map, text-still, known-map, known-pair}
 use Rattle.beep_link.proofs.turns.turn.Goals as goal
 
 pub returns-in_err-say-clause-stopped : goal.returns-in_err-say-clause-stopped
-returns-in_err-say-clause-stopped g c before s = search (rules, c.in_err-say.ensures.stopped before (g.O.Sink.state c.args.output.now).written s)
-
-pub returns-in-Some-clause-stopped : goal.returns-in-Some-clause-stopped
-returns-in-Some-clause-stopped g c before s =
+returns-in_err-say-clause-stopped g c text s =
     let E = g.E.End in
     let now = (g.O.Sink.state c.args.output.now).written in
+    let new = (g.W.Wires.state c.say.new.wires c.args.link).log in
+    let told : WithText now now (λ more. WhereKnown (λ log. E.tells (E.terms c.args.end.now) c.in_err-say.field-0.0 log (text ++ more)) new) =
+    text-still now text (λ t. WhereKnown (λ log. E.tells (E.terms c.args.end.now) c.in_err-say.field-0.0 log t) new) (c.in_err-say.ensures.stopped text s) in
+    search (rules, told)
+
+pub returns-in-Some-clause-stopped : goal.returns-in-Some-clause-stopped
+returns-in-Some-clause-stopped g c text s =
+    let E = g.E.End in
     let old = E.terms c.args.end.now in
-    subst (λ e. WhereKnown (λ log. WithText before now (E.tells old e log)) (g.W.Wires.state c.say.new.wires c.args.link).log) (sym c.of.ensures)
-    (known-map (λ log. WithText before now (E.stands c.say.new.end log [])) (λ log. WithText before now (E.tells old (ended_by c.in-Some.stop) log))
-    (λ log h. text-map before now (E.stands c.say.new.end log []) (E.tells old (ended_by c.in-Some.stop) log)
-    (λ text k. subst (λ t. E.tells t (ended_by c.in-Some.stop) log text) c.say.ensures.terms (search (rules, k))) h)
-    (g.W.Wires.state c.say.new.wires c.args.link).log (c.in_ok-say.ensures.said before now s))
+    let log = (g.W.Wires.state c.say.new.wires c.args.link).log in
+    text-still (g.O.Sink.state c.args.output.now).written text (λ t. WhereKnown (λ log. E.tells old c.of.result log t) log)
+    (subst (λ e. WhereKnown (λ log. E.tells old e log text) log) (sym c.of.ensures)
+    (known-map (λ log. E.stands c.say.new.end log [] text) (λ log. E.tells old (ended_by c.in-Some.stop) log text)
+    (λ log k. subst (λ t. E.tells t (ended_by c.in-Some.stop) log text) c.say.ensures.terms (search (rules, k))) log (c.in_ok-say.ensures.said text s)))
 
 pub returns-in-Ok-clause-counted : goal.returns-in-Ok-clause-counted
 returns-in-Ok-clause-counted g c before h =
@@ -38,141 +43,133 @@ returns-in-Ok-Quiet-clause-came g c before h =
     c.in-Ok-Quiet.ensures.came before (subst (λ (n : ℕ). CountsReads c.args.reads before c.args.left.now n) (sym c.say.ensures.same_reads.counted) h)
 
 pub returns-in-Some-is_spent-clause-stopped : goal.returns-in-Some-is_spent-clause-stopped
-returns-in-Some-is_spent-clause-stopped g c before s =
+returns-in-Some-is_spent-clause-stopped g c text s =
     let E = g.E.End in
-    let now = (g.O.Sink.state c.args.output.now).written in
-    let t : IsOfReads c.in-Some-is_spent.ended = spent-is c.in-Some-is_spent.ended c.args.reads c.args.left.now c.in-Some-is_spent.ensures.some in
-    let h : WhereKnown (λ log. WithText before now (E.tells (E.terms c.args.end.now) c.in-Some-is_spent.ended log)) (g.W.Wires.state c.say.new.wires c.args.link).log =
-    known-map (λ log. WithText before now (E.stands c.say.new.end log []) × E.rests c.say.new.end) (λ log. WithText before now (E.tells (E.terms c.args.end.now) c.in-Some-is_spent.ended log))
-    (λ log h. text-map before now (E.stands c.say.new.end log []) (E.tells (E.terms c.args.end.now) c.in-Some-is_spent.ended log)
-    (λ text k. subst (λ e. E.tells e c.in-Some-is_spent.ended log text) c.say.ensures.terms (g.met.E.End.spends c.say.new.end log text c.in-Some-is_spent.ended t (search rules) h.1 k)) h.0)
-    (g.W.Wires.state c.say.new.wires c.args.link).log
-    (known-pair _ _ (g.W.Wires.state c.say.new.wires c.args.link).log (c.in_ok-say.ensures.said before now s) (c.in_ok-say.ensures.rested before now s)) in
-    search (rules, h)
+    let old = E.terms c.args.end.now in
+    let log = (g.W.Wires.state c.say.new.wires c.args.link).log in
+    let ended = c.in-Some-is_spent.ended in
+    let is : IsOfReads ended = spent-is ended c.args.reads c.args.left.now c.in-Some-is_spent.ensures.some in
+    text-still (g.O.Sink.state c.args.output.now).written text (λ t. WhereKnown (λ log. E.tells old ended log t) log)
+    (known-map (λ log. E.stands c.say.new.end log [] text × E.rests c.say.new.end) (λ log. E.tells old ended log text)
+    (λ log k. subst (λ e. E.tells e ended log text) c.say.ensures.terms (g.met.E.End.spends c.say.new.end log text ended is (search rules) k.1 k.0)) log
+    (known-pair _ _ log (c.in_ok-say.ensures.said text s) (c.in_ok-say.ensures.rested text s)))
 
 pub returns-in-Ok-clause-stands : goal.returns-in-Ok-clause-stands
-returns-in-Ok-clause-stands g c before s =
+returns-in-Ok-clause-stands g c text s =
     let E = g.E.End in
     let now = (g.O.Sink.state c.args.output.now).written in
-    let logged : Logs (g.W.Wires.state c.say.new.wires c.args.link).log (g.W.Wires.state c.read_once.new.wires c.args.link).log (read (take c.in-Ok-Bytes.count c.read_once.new.coming) ∷ []) = search rules in
-    let same : c.deref.result.now ≡ c.read_once.new.coming = c.deref.ensures.value ∙ take-front c.read_once.new.coming _ _ (c.read_once.ensures.buffer ∙ sym c.requires.buffer) in
-    entered (λ log. WithText before now (E.stands c.say.new.end log [])) (λ log. WithText before (g.O.Sink.state c.hear.new.output).written (E.stands c.hear.new.self log [])) (read (take c.in-Ok-Bytes.count c.deref.result.now))
-    (λ log h. text-more before now (g.O.Sink.state c.hear.new.output).written (E.stands c.say.new.end log []) (E.stands c.hear.new.self (read (take c.in-Ok-Bytes.count c.deref.result.now) ∷ log) [])
-    (λ text k. c.in-Ok.ensures.heard log text k) h)
-    (g.W.Wires.state c.say.new.wires c.args.link).log (g.W.Wires.state c.read_once.new.wires c.args.link).log
-    (subst (λ (octets : List ℕ). Logs (g.W.Wires.state c.say.new.wires c.args.link).log (g.W.Wires.state c.read_once.new.wires c.args.link).log (read (take c.in-Ok-Bytes.count octets) ∷ [])) (sym same) logged) (c.in_ok-say.ensures.said before now s)
+    let after = (g.O.Sink.state c.hear.new.output).written in
+    let mid = (g.W.Wires.state c.say.new.wires c.args.link).log in
+    let new = (g.W.Wires.state c.read_once.new.wires c.args.link).log in
+    let heard = read (take c.in-Ok-Bytes.count c.deref.result.now) in
+    let logged : Logs mid new (read (take c.in-Ok-Bytes.count c.read_once.new.coming) ∷ []) = search rules in
+    let same : c.deref.result.now ≡ c.read_once.new.coming = c.deref.ensures.value ∙ take-front c.read_once.new.coming _ _ (c.read_once.ensures.buffer ∙ sym c.requires.between.coming) in
+    text-entered (λ log. E.stands c.say.new.end log [] text) (λ more log. E.stands c.hear.new.self log [] (text ++ more)) heard now after c.hear.ensures.grew
+    (λ log k. c.in-Ok.ensures.heard log text k) mid new
+    (subst (λ (octets : List ℕ). Logs mid new (read (take c.in-Ok-Bytes.count octets) ∷ [])) (sym same) logged) (c.in_ok-say.ensures.said text s)
 
 pub returns-in-Err-hear-clause-stopped : goal.returns-in-Err-hear-clause-stopped
-returns-in-Err-hear-clause-stopped g c before s =
+returns-in-Err-hear-clause-stopped g c text s =
     let E = g.E.End in
     let now = (g.O.Sink.state c.args.output.now).written in
-    let logged : Logs (g.W.Wires.state c.say.new.wires c.args.link).log (g.W.Wires.state c.read_once.new.wires c.args.link).log (read (take c.in-Ok-Bytes.count c.read_once.new.coming) ∷ []) = search rules in
-    let same : c.deref.result.now ≡ c.read_once.new.coming = c.deref.ensures.value ∙ take-front c.read_once.new.coming _ _ (c.read_once.ensures.buffer ∙ sym c.requires.buffer) in
+    let after = (g.O.Sink.state c.hear.new.output).written in
+    let mid = (g.W.Wires.state c.say.new.wires c.args.link).log in
+    let new = (g.W.Wires.state c.read_once.new.wires c.args.link).log in
+    let heard = read (take c.in-Ok-Bytes.count c.deref.result.now) in
+    let logged : Logs mid new (read (take c.in-Ok-Bytes.count c.read_once.new.coming) ∷ []) = search rules in
+    let same : c.deref.result.now ≡ c.read_once.new.coming = c.deref.ensures.value ∙ take-front c.read_once.new.coming _ _ (c.read_once.ensures.buffer ∙ sym c.requires.between.coming) in
     let old = E.terms c.args.end.now in
-    subst (λ e. WhereKnown (λ log. WithText before (g.O.Sink.state c.hear.new.output).written (E.tells old e log)) (g.W.Wires.state c.read_once.new.wires c.args.link).log) (sym c.of-in-Err-hear.ensures)
-    (entered (λ log. WithText before now (E.stands c.say.new.end log [])) (λ log. WithText before (g.O.Sink.state c.hear.new.output).written (E.tells old (ended_by c.in-Err-hear.stop) log)) (read (take c.in-Ok-Bytes.count c.deref.result.now))
-    (λ log h. text-more before now (g.O.Sink.state c.hear.new.output).written (E.stands c.say.new.end log []) (E.tells old (ended_by c.in-Err-hear.stop) (read (take c.in-Ok-Bytes.count c.deref.result.now) ∷ log))
-    (λ text k. text-map now (g.O.Sink.state c.hear.new.output).written (λ more. E.tells (E.terms c.say.new.end) (ended_by c.in-Err-hear.stop) (read (take c.in-Ok-Bytes.count c.deref.result.now) ∷ log) (text ++ more)) (λ more. E.tells old (ended_by c.in-Err-hear.stop) (read (take c.in-Ok-Bytes.count c.deref.result.now) ∷ log) (text ++ more))
-    (λ more t. subst (λ e. E.tells e (ended_by c.in-Err-hear.stop) (read (take c.in-Ok-Bytes.count c.deref.result.now) ∷ log) (text ++ more)) c.say.ensures.terms t) (c.in-Err-hear.ensures.stopped log text k)) h)
-    (g.W.Wires.state c.say.new.wires c.args.link).log (g.W.Wires.state c.read_once.new.wires c.args.link).log
-    (subst (λ (octets : List ℕ). Logs (g.W.Wires.state c.say.new.wires c.args.link).log (g.W.Wires.state c.read_once.new.wires c.args.link).log (read (take c.in-Ok-Bytes.count octets) ∷ [])) (sym same) logged) (c.in_ok-say.ensures.said before now s))
+    let ended = ended_by c.in-Err-hear.stop in
+    subst (λ e. WithText now after (λ more. WhereKnown (λ log. E.tells old e log (text ++ more)) new)) (sym c.of-in-Err-hear.ensures)
+    (text-entered (λ log. E.stands c.say.new.end log [] text) (λ more log. E.tells old ended log (text ++ more)) heard now after c.hear.ensures.grew
+    (λ log k. text-map now after (λ more. E.tells (E.terms c.say.new.end) ended (heard ∷ log) (text ++ more)) (λ more. E.tells old ended (heard ∷ log) (text ++ more))
+    (λ more t. subst (λ e. E.tells e ended (heard ∷ log) (text ++ more)) c.say.ensures.terms t) (c.in-Err-hear.ensures.stopped log text k)) mid new
+    (subst (λ (octets : List ℕ). Logs mid new (read (take c.in-Ok-Bytes.count octets) ∷ [])) (sym same) logged) (c.in_ok-say.ensures.said text s))
 
 pub returns-in-Ok-Quiet-clause-stands : goal.returns-in-Ok-Quiet-clause-stands
-returns-in-Ok-Quiet-clause-stands g c before s =
+returns-in-Ok-Quiet-clause-stands g c text s =
     let E = g.E.End in
-    let now = (g.O.Sink.state c.args.output.now).written in
-    let h : WhereKnown (λ log. WithText before now (E.stands c.say.new.end log [])) (g.W.Wires.state c.read_once.new.wires c.args.link).log =
-    entered (λ log. WithText before now (E.stands c.say.new.end log [])) (λ log. WithText before now (E.stands c.say.new.end log [])) quiet
-    (λ log h. text-map before now (E.stands c.say.new.end log []) (E.stands c.say.new.end (quiet ∷ log) []) (λ text k. g.met.E.End.quiets c.say.new.end log text k) h)
-    (g.W.Wires.state c.say.new.wires c.args.link).log (g.W.Wires.state c.read_once.new.wires c.args.link).log
-    (search rules) (c.in_ok-say.ensures.said before now s) in
-    search (rules, h)
+    let new = (g.W.Wires.state c.read_once.new.wires c.args.link).log in
+    text-still (g.O.Sink.state c.args.output.now).written text (λ t. WhereKnown (λ log. E.stands c.say.new.end log [] t) new)
+    (entered (λ log. E.stands c.say.new.end log [] text) (λ log. E.stands c.say.new.end log [] text) quiet
+    (λ log k. g.met.E.End.quiets c.say.new.end log text k)
+    (g.W.Wires.state c.say.new.wires c.args.link).log new (search rules) (c.in_ok-say.ensures.said text s))
 
 pub returns-in-Ok-End-clause-stopped : goal.returns-in-Ok-End-clause-stopped
-returns-in-Ok-End-clause-stopped g c before s =
+returns-in-Ok-End-clause-stopped g c text s =
     let E = g.E.End in
-    let now = (g.O.Sink.state c.args.output.now).written in
-    let old = E.terms c.args.end.now in
-    let h : WhereKnown (λ log. WithText before now (E.tells old (Ended.Cut c.left.result) log)) (g.W.Wires.state c.read_once.new.wires c.args.link).log =
-    entered (λ log. WithText before now (E.stands c.say.new.end log [])) (λ log. WithText before now (E.tells old (Ended.Cut c.left.result) log)) ended
-    (λ log h. text-map before now (E.stands c.say.new.end log []) (E.tells old (Ended.Cut c.left.result) (ended ∷ log))
-    (λ text k. subst (λ e. E.tells e (Ended.Cut c.left.result) (ended ∷ log) text) c.say.ensures.terms (c.left.ensures.cut (ended ∷ log) text (search rules) (g.met.E.End.closes c.say.new.end log text k))) h)
-    (g.W.Wires.state c.say.new.wires c.args.link).log (g.W.Wires.state c.read_once.new.wires c.args.link).log
-    (search rules) (c.in_ok-say.ensures.said before now s) in
-    search (rules, h)
+    let cut = Ended.Cut c.left.result in
+    let new = (g.W.Wires.state c.read_once.new.wires c.args.link).log in
+    text-still (g.O.Sink.state c.args.output.now).written text (λ t. WhereKnown (λ log. E.tells (E.terms c.args.end.now) cut log t) new)
+    (entered (λ log. E.stands c.say.new.end log [] text) (λ log. E.tells (E.terms c.args.end.now) cut log text) ended
+    (λ log k. subst (λ e. E.tells e cut (ended ∷ log) text) c.say.ensures.terms (c.left.ensures.cut (ended ∷ log) text (search rules) (g.met.E.End.closes c.say.new.end log text k)))
+    (g.W.Wires.state c.say.new.wires c.args.link).log new (search rules) (c.in_ok-say.ensures.said text s))
 
 pub returns-in-Err-clause-stopped : goal.returns-in-Err-clause-stopped
-returns-in-Err-clause-stopped g c before s =
+returns-in-Err-clause-stopped g c text s =
     let E = g.E.End in
-    let now = (g.O.Sink.state c.args.output.now).written in
-    let old = E.terms c.args.end.now in
-    let h : WhereKnown (λ log. WithText before now (E.tells old Ended.WireFault log)) (g.W.Wires.state c.read_once.new.wires c.args.link).log =
-    kept (λ log. WithText before now (E.tells old Ended.WireFault log)) (g.W.Wires.state c.say.new.wires c.args.link).log (g.W.Wires.state c.read_once.new.wires c.args.link).log (search rules)
-    (known-map (λ log. WithText before now (E.stands c.say.new.end log [])) (λ log. WithText before now (E.tells old Ended.WireFault log))
-    (λ log h. text-map before now (E.stands c.say.new.end log []) (E.tells old Ended.WireFault log)
-    (λ text k. subst (λ e. E.tells e Ended.WireFault log text) c.say.ensures.terms (g.met.E.End.stops c.say.new.end log [] text Ended.WireFault tt k)) h)
-    (g.W.Wires.state c.say.new.wires c.args.link).log (c.in_ok-say.ensures.said before now s)) in
-    search (rules, h)
+    let mid = (g.W.Wires.state c.say.new.wires c.args.link).log in
+    let new = (g.W.Wires.state c.read_once.new.wires c.args.link).log in
+    text-still (g.O.Sink.state c.args.output.now).written text (λ t. WhereKnown (λ log. E.tells (E.terms c.args.end.now) Ended.WireFault log t) new)
+    (kept (λ log. E.tells (E.terms c.args.end.now) Ended.WireFault log text) mid new (search rules)
+    (known-map (λ log. E.stands c.say.new.end log [] text) (λ log. E.tells (E.terms c.args.end.now) Ended.WireFault log text)
+    (λ log k. subst (λ e. E.tells e Ended.WireFault log text) c.say.ensures.terms (g.met.E.End.stops c.say.new.end log [] text Ended.WireFault tt k)) mid (c.in_ok-say.ensures.said text s)))
 
 pub returns-in_err-say-clause-waits : goal.returns-in_err-say-clause-waits
-returns-in_err-say-clause-waits g c before s r = reads-grown _ _ _ c.say.ensures.writes r
+returns-in_err-say-clause-waits g c text s r = reads-grown _ _ _ c.say.ensures.writes r
 
 pub returns-in-Some-clause-waits : goal.returns-in-Some-clause-waits
-returns-in-Some-clause-waits g c before s r = reads-grown _ _ _ c.say.ensures.writes r
+returns-in-Some-clause-waits g c text s r = reads-grown _ _ _ c.say.ensures.writes r
 
 pub returns-in-Some-is_spent-clause-waits : goal.returns-in-Some-is_spent-clause-waits
-returns-in-Some-is_spent-clause-waits g c before s r = reads-grown _ _ _ c.say.ensures.writes r
+returns-in-Some-is_spent-clause-waits g c text s r = reads-grown _ _ _ c.say.ensures.writes r
 
 pub returns-in-Ok-clause-waits : goal.returns-in-Ok-clause-waits
-returns-in-Ok-clause-waits g c before s r =
+returns-in-Ok-clause-waits g c text s r =
     let E = g.E.End in
-    let now = (g.O.Sink.state c.args.output.now).written in
     let logged : Logs (g.W.Wires.state c.say.new.wires c.args.link).log (g.W.Wires.state c.read_once.new.wires c.args.link).log (read (take c.in-Ok-Bytes.count c.read_once.new.coming) ∷ []) = search rules in
     entered (λ log. ((text : List ℕ) × E.tells (E.terms c.args.end.now) (Ended.Idle 0) log text) × ReadsWhere (λ log. (text : List ℕ) × E.tells (E.terms c.args.end.now) (Ended.Idle 0) log text) log) (ReadsWhere (λ log. (text : List ℕ) × E.tells (E.terms c.args.end.now) (Ended.Idle 0) log text)) (read (take c.in-Ok-Bytes.count c.read_once.new.coming))
     (λ log h. h) _ _ logged (known-pair _ _ _
-    (known-map (λ log. WithText before now (E.stands c.say.new.end log []) × E.rests c.say.new.end) (λ log. (text : List ℕ) × E.tells (E.terms c.args.end.now) (Ended.Idle 0) log text)
-    (λ log h. (h.0.0, subst (λ e. E.tells e (Ended.Idle 0) log h.0.0) c.say.ensures.terms (g.met.E.End.spends c.say.new.end log h.0.0 (Ended.Idle 0) tt (search rules) h.1 h.0.2)))
+    (known-map (λ log. E.stands c.say.new.end log [] text × E.rests c.say.new.end) (λ log. (text : List ℕ) × E.tells (E.terms c.args.end.now) (Ended.Idle 0) log text)
+    (λ log h. (text, subst (λ e. E.tells e (Ended.Idle 0) log text) c.say.ensures.terms (g.met.E.End.spends c.say.new.end log text (Ended.Idle 0) tt (search rules) h.1 h.0)))
     (g.W.Wires.state c.say.new.wires c.args.link).log
-    (known-pair _ _ (g.W.Wires.state c.say.new.wires c.args.link).log (c.in_ok-say.ensures.said before now s) (c.in_ok-say.ensures.rested before now s))) (reads-grown _ _ _ c.say.ensures.writes r))
+    (known-pair _ _ (g.W.Wires.state c.say.new.wires c.args.link).log (c.in_ok-say.ensures.said text s) (c.in_ok-say.ensures.rested text s))) (reads-grown _ _ _ c.say.ensures.writes r))
 
 pub returns-in-Err-hear-clause-waits : goal.returns-in-Err-hear-clause-waits
-returns-in-Err-hear-clause-waits g c before s r =
+returns-in-Err-hear-clause-waits g c text s r =
     let E = g.E.End in
-    let now = (g.O.Sink.state c.args.output.now).written in
     let logged : Logs (g.W.Wires.state c.say.new.wires c.args.link).log (g.W.Wires.state c.read_once.new.wires c.args.link).log (read (take c.in-Ok-Bytes.count c.read_once.new.coming) ∷ []) = search rules in
     entered (λ log. ((text : List ℕ) × E.tells (E.terms c.args.end.now) (Ended.Idle 0) log text) × ReadsWhere (λ log. (text : List ℕ) × E.tells (E.terms c.args.end.now) (Ended.Idle 0) log text) log) (ReadsWhere (λ log. (text : List ℕ) × E.tells (E.terms c.args.end.now) (Ended.Idle 0) log text)) (read (take c.in-Ok-Bytes.count c.read_once.new.coming))
     (λ log h. h) _ _ logged (known-pair _ _ _
-    (known-map (λ log. WithText before now (E.stands c.say.new.end log []) × E.rests c.say.new.end) (λ log. (text : List ℕ) × E.tells (E.terms c.args.end.now) (Ended.Idle 0) log text)
-    (λ log h. (h.0.0, subst (λ e. E.tells e (Ended.Idle 0) log h.0.0) c.say.ensures.terms (g.met.E.End.spends c.say.new.end log h.0.0 (Ended.Idle 0) tt (search rules) h.1 h.0.2)))
+    (known-map (λ log. E.stands c.say.new.end log [] text × E.rests c.say.new.end) (λ log. (text : List ℕ) × E.tells (E.terms c.args.end.now) (Ended.Idle 0) log text)
+    (λ log h. (text, subst (λ e. E.tells e (Ended.Idle 0) log text) c.say.ensures.terms (g.met.E.End.spends c.say.new.end log text (Ended.Idle 0) tt (search rules) h.1 h.0)))
     (g.W.Wires.state c.say.new.wires c.args.link).log
-    (known-pair _ _ (g.W.Wires.state c.say.new.wires c.args.link).log (c.in_ok-say.ensures.said before now s) (c.in_ok-say.ensures.rested before now s))) (reads-grown _ _ _ c.say.ensures.writes r))
+    (known-pair _ _ (g.W.Wires.state c.say.new.wires c.args.link).log (c.in_ok-say.ensures.said text s) (c.in_ok-say.ensures.rested text s))) (reads-grown _ _ _ c.say.ensures.writes r))
 
 pub returns-in-Ok-Quiet-clause-waits : goal.returns-in-Ok-Quiet-clause-waits
-returns-in-Ok-Quiet-clause-waits g c before s r =
+returns-in-Ok-Quiet-clause-waits g c text s r =
     let E = g.E.End in
-    let now = (g.O.Sink.state c.args.output.now).written in
     let logged : Logs (g.W.Wires.state c.say.new.wires c.args.link).log (g.W.Wires.state c.read_once.new.wires c.args.link).log (quiet ∷ []) = search rules in
     entered (λ log. ((text : List ℕ) × E.tells (E.terms c.args.end.now) (Ended.Idle 0) log text) × ReadsWhere (λ log. (text : List ℕ) × E.tells (E.terms c.args.end.now) (Ended.Idle 0) log text) log) (ReadsWhere (λ log. (text : List ℕ) × E.tells (E.terms c.args.end.now) (Ended.Idle 0) log text)) quiet
     (λ log h. h) _ _ logged (known-pair _ _ _
-    (known-map (λ log. WithText before now (E.stands c.say.new.end log []) × E.rests c.say.new.end) (λ log. (text : List ℕ) × E.tells (E.terms c.args.end.now) (Ended.Idle 0) log text)
-    (λ log h. (h.0.0, subst (λ e. E.tells e (Ended.Idle 0) log h.0.0) c.say.ensures.terms (g.met.E.End.spends c.say.new.end log h.0.0 (Ended.Idle 0) tt (search rules) h.1 h.0.2)))
+    (known-map (λ log. E.stands c.say.new.end log [] text × E.rests c.say.new.end) (λ log. (text : List ℕ) × E.tells (E.terms c.args.end.now) (Ended.Idle 0) log text)
+    (λ log h. (text, subst (λ e. E.tells e (Ended.Idle 0) log text) c.say.ensures.terms (g.met.E.End.spends c.say.new.end log text (Ended.Idle 0) tt (search rules) h.1 h.0)))
     (g.W.Wires.state c.say.new.wires c.args.link).log
-    (known-pair _ _ (g.W.Wires.state c.say.new.wires c.args.link).log (c.in_ok-say.ensures.said before now s) (c.in_ok-say.ensures.rested before now s))) (reads-grown _ _ _ c.say.ensures.writes r))
+    (known-pair _ _ (g.W.Wires.state c.say.new.wires c.args.link).log (c.in_ok-say.ensures.said text s) (c.in_ok-say.ensures.rested text s))) (reads-grown _ _ _ c.say.ensures.writes r))
 
 pub returns-in-Ok-End-clause-waits : goal.returns-in-Ok-End-clause-waits
-returns-in-Ok-End-clause-waits g c before s r =
+returns-in-Ok-End-clause-waits g c text s r =
     let E = g.E.End in
-    let now = (g.O.Sink.state c.args.output.now).written in
     let logged : Logs (g.W.Wires.state c.say.new.wires c.args.link).log (g.W.Wires.state c.read_once.new.wires c.args.link).log (ended ∷ []) = search rules in
     entered (λ log. ((text : List ℕ) × E.tells (E.terms c.args.end.now) (Ended.Idle 0) log text) × ReadsWhere (λ log. (text : List ℕ) × E.tells (E.terms c.args.end.now) (Ended.Idle 0) log text) log) (ReadsWhere (λ log. (text : List ℕ) × E.tells (E.terms c.args.end.now) (Ended.Idle 0) log text)) ended
     (λ log h. h) _ _ logged (known-pair _ _ _
-    (known-map (λ log. WithText before now (E.stands c.say.new.end log []) × E.rests c.say.new.end) (λ log. (text : List ℕ) × E.tells (E.terms c.args.end.now) (Ended.Idle 0) log text)
-    (λ log h. (h.0.0, subst (λ e. E.tells e (Ended.Idle 0) log h.0.0) c.say.ensures.terms (g.met.E.End.spends c.say.new.end log h.0.0 (Ended.Idle 0) tt (search rules) h.1 h.0.2)))
+    (known-map (λ log. E.stands c.say.new.end log [] text × E.rests c.say.new.end) (λ log. (text : List ℕ) × E.tells (E.terms c.args.end.now) (Ended.Idle 0) log text)
+    (λ log h. (text, subst (λ e. E.tells e (Ended.Idle 0) log text) c.say.ensures.terms (g.met.E.End.spends c.say.new.end log text (Ended.Idle 0) tt (search rules) h.1 h.0)))
     (g.W.Wires.state c.say.new.wires c.args.link).log
-    (known-pair _ _ (g.W.Wires.state c.say.new.wires c.args.link).log (c.in_ok-say.ensures.said before now s) (c.in_ok-say.ensures.rested before now s))) (reads-grown _ _ _ c.say.ensures.writes r))
+    (known-pair _ _ (g.W.Wires.state c.say.new.wires c.args.link).log (c.in_ok-say.ensures.said text s) (c.in_ok-say.ensures.rested text s))) (reads-grown _ _ _ c.say.ensures.writes r))
 
 pub returns-in-Err-clause-waits : goal.returns-in-Err-clause-waits
-returns-in-Err-clause-waits g c before s r =
+returns-in-Err-clause-waits g c text s r =
     kept _ (g.W.Wires.state c.say.new.wires c.args.link).log (g.W.Wires.state c.read_once.new.wires c.args.link).log (search rules) (reads-grown _ _ _ c.say.ensures.writes r)
 
 pub returns-in_err-say-clause-bounded : goal.returns-in_err-say-clause-bounded
