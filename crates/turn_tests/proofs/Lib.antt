@@ -1,0 +1,5 @@
+-- Proofs.
+mod MergeLemmas
+mod SharedLemmas
+mod SinceLemmas
+mod WaitLemmas
