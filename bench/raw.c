@@ -1,6 +1,6 @@
 /* A sender and a collector of lines by RAW over BEEP (RFC 3195, section 3), with the frames and the exchanges of `beep send`
- * and `beep listen`: the same windows, a SEQ once half a window has opened, one write for all that is gathered. Nothing of
- * what a peer sends is checked.
+ * and `beep listen`: the same windows, a SEQ once half a window has opened, one write once a quarter of the buffer is full and
+ * one for the rest. Nothing of what a peer sends is checked.
  * usage: raw listen PORT WINDOW | raw send PORT PIECE */
 #include <arpa/inet.h>
 #include <netinet/tcp.h>
@@ -11,7 +11,8 @@
 #include <unistd.h>
 
 #define BUFFER 65536
-#define READ 32768
+#define READ BUFFER
+#define PART (BUFFER / 4)
 #define MIME "Content-Type: application/beep+xml\r\n\r\n"
 #define PROFILE "<profile uri='http://xml.resource.org/profiles/syslog/RAW' />"
 
@@ -245,7 +246,7 @@ static int put_answer(unsigned piece, unsigned *done)
 static int say(int link, unsigned piece, unsigned *done)
 {
     while (at_line < size && put_answer(piece, done))
-        if (gathered >= BUFFER - 4163)
+        if (gathered >= PART)
             flush(link);
     if (at_line == size) {
         put_text("NUL 1 0 . ");

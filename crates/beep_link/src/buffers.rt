@@ -12,7 +12,7 @@ pub const BUFFER: usize = 65536;
 
 /// How full the buffer of what goes out is where an end stops gathering, and what it gathered is
 /// written: a quarter, so that a peer hears the first frames while the next are spelled.
-pub const PART: usize = 16384;
+pub const PART: usize = BUFFER / 4;
 
 /// Whether one more frame is gathered before what is gathered is written: less than a quarter of
 /// the buffer is full, and the frame has room.
@@ -23,8 +23,8 @@ pub fn takes_more(out: &Octets) -> bool
     out.len() < PART && FRAME_ROOM <= out.spare()
 }
 
-/// What a read gives, and what is gathered to be written. Between two turns nothing of either is
-/// kept, so that one pair serves all links of a loop.
+/// What a read gives, and what is gathered to be written. Between two turns nothing is gathered,
+/// so that one pair serves all links of a loop.
 #[derive(Drop)]
 pub struct Buffers {
     pub(crate) coming: Vec<u8>,

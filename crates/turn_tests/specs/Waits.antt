@@ -5,9 +5,9 @@ use Rattle.beep_link.specs.Causes.{ReadsWhere, WhereKnown}
 use Rattle.beep_link.specs.declared.ended.Ended.{Ended}
 
 -- of a log up to there holds, with some text, what the end tells where it is idle
-abbrev pub IsIdle : (Ended → List Entry → List ℕ → Type 0) → List Entry → Type 0
-IsIdle tells log = (text : List ℕ) × tells (Ended.Idle 0) log text
+abbrev pub IsToldIdle : (Ended → List Entry → List ℕ → Type 0) → List Entry → Type 0
+IsToldIdle tells log = (text : List ℕ) × tells (Ended.Idle 0) log text
 
--- wherever a log that is known shows a read, its end had nothing more to say and wasn't over
+-- wherever a log that is known shows a read, that holds of the log before it
 abbrev pub Waits : (Ended → List Entry → List ℕ → Type 0) → Option (List Entry) → Type 0
-Waits tells log = WhereKnown (ReadsWhere (IsIdle tells)) log
+Waits tells log = WhereKnown (ReadsWhere (IsToldIdle tells)) log

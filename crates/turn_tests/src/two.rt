@@ -73,6 +73,7 @@ pub fn take_turns<E: End, F: End, W: Wires, O: Sink>(
         (λ log. F.stands other.new.end log []) (late ++ more)
         (W.state wires.new other.old.link).log) }
 
+    // What each link shows, as if it were served alone.
     ensures one_caused { (before : Look) → IsSince before one.old.reads one.old.left
         (look_at (W.state wires.old) (W.counts wires.old) one.old.link)
         → HasCause (one_ended result) before one.old.reads one.new.left

@@ -4,7 +4,7 @@ use Rattle.beep_link.specs.Causes.{IsBounded, IsCaused, WhereKnown}
 use Rattle.beep_link.specs.declared.left.Reads.{Reads}
 use Rattle.turn_tests.specs.Shared.{IsShared}
 use Rattle.turn_tests.specs.Since.{IsSince, look_at}
-use Rattle.turn_tests.specs.Waits.{IsIdle, Waits}
+use Rattle.turn_tests.specs.Waits.{IsToldIdle, Waits}
 use Rattle.turn_tests.proofs.SharedLemmas.{going-beside, going-on, shared-none, shared-one, shared-other}
 use Rattle.turn_tests.proofs.SinceLemmas.{bounded-beside, bounded-on, since-beside, since-caused, since-on}
 use Rattle.turn_tests.proofs.WaitLemmas.{stood-beside, stood-on, waits-beside, waits-on}
@@ -136,7 +136,7 @@ returns-in-Err-clause-one_waits g c text s w =
     let E = g.E.End in
     let F = g.F.End in
     let i = c.loop-ended.invariant in
-    waits-on (W.state c.loop-ended.wires) (W.state c.turn.new.wires) c.loop-ended.one.link c.args.one.now.link i.one_link (λ own log. E.stands c.loop-ended.one.end log [] own) (IsIdle (E.tells (E.terms c.args.one.now.end)))
+    waits-on (W.state c.loop-ended.wires) (W.state c.turn.new.wires) c.loop-ended.one.link c.args.one.now.link i.one_link (λ own log. E.stands c.loop-ended.one.end log [] own) (IsToldIdle (E.tells (E.terms c.args.one.now.end)))
     (subst (λ (terms : E.Terms). (own : List ℕ) → WhereKnown (λ log. E.stands c.loop-ended.one.end log [] own) (W.state c.loop-ended.wires c.loop-ended.one.link).log → Waits (E.tells terms) (W.state c.loop-ended.wires c.loop-ended.one.link).log → Waits (E.tells terms) (W.state c.turn.new.wires c.loop-ended.one.link).log) i.terms c.turn.ensures.waits)
     (i.one_stood text s) (i.one_waits text s w)
 
@@ -146,7 +146,7 @@ returns-in-Err-clause-other_waits g c text s w =
     let E = g.E.End in
     let F = g.F.End in
     let i = c.loop-ended.invariant in
-    waits-beside (W.state c.loop-ended.wires) (W.state c.turn.new.wires) c.loop-ended.one.link c.args.one.now.link i.one_link (λ own log. F.stands c.loop-ended.other.end log [] own) (IsIdle (F.tells (F.terms c.args.other.now.end))) c.args.other.now.link c.requires.apart c.turn.ensures.keeps.others (i.other_waits text s w)
+    waits-beside (W.state c.loop-ended.wires) (W.state c.turn.new.wires) c.loop-ended.one.link c.args.one.now.link i.one_link (λ own log. F.stands c.loop-ended.other.end log [] own) (IsToldIdle (F.tells (F.terms c.args.other.now.end))) c.args.other.now.link c.requires.apart c.turn.ensures.keeps.others (i.other_waits text s w)
 
 pub returns-in-Err-turn-clause-one_waits : goal.returns-in-Err-turn-clause-one_waits
 returns-in-Err-turn-clause-one_waits g c text s w =
@@ -154,8 +154,8 @@ returns-in-Err-turn-clause-one_waits g c text s w =
     let E = g.E.End in
     let F = g.F.End in
     let i = c.loop-ended.invariant in
-    waits-beside (W.state c.turn.new.wires) (W.state c.turn-in-loop-ended.new.wires) c.loop-ended.other.link c.args.other.now.link i.other_link (λ own log. E.stands c.turn.new.end log [] own) (IsIdle (E.tells (E.terms c.args.one.now.end))) c.args.one.now.link (λ e. c.requires.apart (sym e)) c.turn-in-loop-ended.ensures.keeps.others
-    (waits-on (W.state c.loop-ended.wires) (W.state c.turn.new.wires) c.loop-ended.one.link c.args.one.now.link i.one_link (λ own log. E.stands c.loop-ended.one.end log [] own) (IsIdle (E.tells (E.terms c.args.one.now.end)))
+    waits-beside (W.state c.turn.new.wires) (W.state c.turn-in-loop-ended.new.wires) c.loop-ended.other.link c.args.other.now.link i.other_link (λ own log. E.stands c.turn.new.end log [] own) (IsToldIdle (E.tells (E.terms c.args.one.now.end))) c.args.one.now.link (λ e. c.requires.apart (sym e)) c.turn-in-loop-ended.ensures.keeps.others
+    (waits-on (W.state c.loop-ended.wires) (W.state c.turn.new.wires) c.loop-ended.one.link c.args.one.now.link i.one_link (λ own log. E.stands c.loop-ended.one.end log [] own) (IsToldIdle (E.tells (E.terms c.args.one.now.end)))
     (subst (λ (terms : E.Terms). (own : List ℕ) → WhereKnown (λ log. E.stands c.loop-ended.one.end log [] own) (W.state c.loop-ended.wires c.loop-ended.one.link).log → Waits (E.tells terms) (W.state c.loop-ended.wires c.loop-ended.one.link).log → Waits (E.tells terms) (W.state c.turn.new.wires c.loop-ended.one.link).log) i.terms c.turn.ensures.waits)
     (i.one_stood text s) (i.one_waits text s w))
 
@@ -165,10 +165,10 @@ returns-in-Err-turn-clause-other_waits g c text s w =
     let E = g.E.End in
     let F = g.F.End in
     let i = c.loop-ended.invariant in
-    waits-on (W.state c.turn.new.wires) (W.state c.turn-in-loop-ended.new.wires) c.loop-ended.other.link c.args.other.now.link i.other_link (λ own log. F.stands c.loop-ended.other.end log [] own) (IsIdle (F.tells (F.terms c.args.other.now.end)))
+    waits-on (W.state c.turn.new.wires) (W.state c.turn-in-loop-ended.new.wires) c.loop-ended.other.link c.args.other.now.link i.other_link (λ own log. F.stands c.loop-ended.other.end log [] own) (IsToldIdle (F.tells (F.terms c.args.other.now.end)))
     (subst (λ (terms : F.Terms). (own : List ℕ) → WhereKnown (λ log. F.stands c.loop-ended.other.end log [] own) (W.state c.turn.new.wires c.loop-ended.other.link).log → Waits (F.tells terms) (W.state c.turn.new.wires c.loop-ended.other.link).log → Waits (F.tells terms) (W.state c.turn-in-loop-ended.new.wires c.loop-ended.other.link).log) i.other_terms c.turn-in-loop-ended.ensures.waits)
     (stood-beside (W.state c.loop-ended.wires) (W.state c.turn.new.wires) c.loop-ended.one.link c.args.one.now.link i.one_link (λ own log. F.stands c.loop-ended.other.end log [] own) c.args.other.now.link c.requires.apart c.turn.ensures.keeps.others (i.other_stood text s))
-    (waits-beside (W.state c.loop-ended.wires) (W.state c.turn.new.wires) c.loop-ended.one.link c.args.one.now.link i.one_link (λ own log. F.stands c.loop-ended.other.end log [] own) (IsIdle (F.tells (F.terms c.args.other.now.end))) c.args.other.now.link c.requires.apart c.turn.ensures.keeps.others (i.other_waits text s w))
+    (waits-beside (W.state c.loop-ended.wires) (W.state c.turn.new.wires) c.loop-ended.one.link c.args.one.now.link i.one_link (λ own log. F.stands c.loop-ended.other.end log [] own) (IsToldIdle (F.tells (F.terms c.args.other.now.end))) c.args.other.now.link c.requires.apart c.turn.ensures.keeps.others (i.other_waits text s w))
 
 pub loop-ended-preserved : goal.loop-ended-preserved
 loop-ended-preserved g c =
@@ -200,15 +200,15 @@ loop-ended-preserved g c =
           stood-on (W.state c.turn.new.wires) (W.state c.turn-in-loop-ended.new.wires) c.loop-ended.other.link c.args.other.now.link i.other_link (λ own log. F.stands c.loop-ended.other.end log [] own) (λ own log. F.stands c.turn-in-loop-ended.new.end log [] own) (g.O.Sink.state c.turn.new.output).written (g.O.Sink.state c.turn-in-loop-ended.new.output).written c.in-Ok-turn.ensures.stands
           (stood-beside (W.state c.loop-ended.wires) (W.state c.turn.new.wires) c.loop-ended.one.link c.args.one.now.link i.one_link (λ own log. F.stands c.loop-ended.other.end log [] own) c.args.other.now.link c.requires.apart c.turn.ensures.keeps.others (i.other_stood text s));
       one_waits = λ text s w.
-          waits-beside (W.state c.turn.new.wires) (W.state c.turn-in-loop-ended.new.wires) c.loop-ended.other.link c.args.other.now.link i.other_link (λ own log. E.stands c.turn.new.end log [] own) (IsIdle (E.tells (E.terms c.args.one.now.end))) c.args.one.now.link (λ e. c.requires.apart (sym e)) c.turn-in-loop-ended.ensures.keeps.others
-          (waits-on (W.state c.loop-ended.wires) (W.state c.turn.new.wires) c.loop-ended.one.link c.args.one.now.link i.one_link (λ own log. E.stands c.loop-ended.one.end log [] own) (IsIdle (E.tells (E.terms c.args.one.now.end)))
+          waits-beside (W.state c.turn.new.wires) (W.state c.turn-in-loop-ended.new.wires) c.loop-ended.other.link c.args.other.now.link i.other_link (λ own log. E.stands c.turn.new.end log [] own) (IsToldIdle (E.tells (E.terms c.args.one.now.end))) c.args.one.now.link (λ e. c.requires.apart (sym e)) c.turn-in-loop-ended.ensures.keeps.others
+          (waits-on (W.state c.loop-ended.wires) (W.state c.turn.new.wires) c.loop-ended.one.link c.args.one.now.link i.one_link (λ own log. E.stands c.loop-ended.one.end log [] own) (IsToldIdle (E.tells (E.terms c.args.one.now.end)))
           (subst (λ (terms : E.Terms). (own : List ℕ) → WhereKnown (λ log. E.stands c.loop-ended.one.end log [] own) (W.state c.loop-ended.wires c.loop-ended.one.link).log → Waits (E.tells terms) (W.state c.loop-ended.wires c.loop-ended.one.link).log → Waits (E.tells terms) (W.state c.turn.new.wires c.loop-ended.one.link).log) i.terms c.turn.ensures.waits)
           (i.one_stood text s) (i.one_waits text s w));
       other_waits = λ text s w.
-          waits-on (W.state c.turn.new.wires) (W.state c.turn-in-loop-ended.new.wires) c.loop-ended.other.link c.args.other.now.link i.other_link (λ own log. F.stands c.loop-ended.other.end log [] own) (IsIdle (F.tells (F.terms c.args.other.now.end)))
+          waits-on (W.state c.turn.new.wires) (W.state c.turn-in-loop-ended.new.wires) c.loop-ended.other.link c.args.other.now.link i.other_link (λ own log. F.stands c.loop-ended.other.end log [] own) (IsToldIdle (F.tells (F.terms c.args.other.now.end)))
           (subst (λ (terms : F.Terms). (own : List ℕ) → WhereKnown (λ log. F.stands c.loop-ended.other.end log [] own) (W.state c.turn.new.wires c.loop-ended.other.link).log → Waits (F.tells terms) (W.state c.turn.new.wires c.loop-ended.other.link).log → Waits (F.tells terms) (W.state c.turn-in-loop-ended.new.wires c.loop-ended.other.link).log) i.other_terms c.turn-in-loop-ended.ensures.waits)
           (stood-beside (W.state c.loop-ended.wires) (W.state c.turn.new.wires) c.loop-ended.one.link c.args.one.now.link i.one_link (λ own log. F.stands c.loop-ended.other.end log [] own) c.args.other.now.link c.requires.apart c.turn.ensures.keeps.others (i.other_stood text s))
-          (waits-beside (W.state c.loop-ended.wires) (W.state c.turn.new.wires) c.loop-ended.one.link c.args.one.now.link i.one_link (λ own log. F.stands c.loop-ended.other.end log [] own) (IsIdle (F.tells (F.terms c.args.other.now.end))) c.args.other.now.link c.requires.apart c.turn.ensures.keeps.others (i.other_waits text s w));
+          (waits-beside (W.state c.loop-ended.wires) (W.state c.turn.new.wires) c.loop-ended.one.link c.args.one.now.link i.one_link (λ own log. F.stands c.loop-ended.other.end log [] own) (IsToldIdle (F.tells (F.terms c.args.other.now.end))) c.args.other.now.link c.requires.apart c.turn.ensures.keeps.others (i.other_waits text s w));
       one_bounded = λ b.
           bounded-beside (W.state c.turn.new.wires) (W.state c.turn-in-loop-ended.new.wires) c.loop-ended.other.link c.args.other.now.link c.args.one.now.link c.loop-ended.one.reads i.other_link (λ e. c.requires.apart (sym e)) c.turn-in-loop-ended.ensures.keeps.others
           (bounded-on (W.state c.loop-ended.wires) (W.state c.turn.new.wires) c.loop-ended.one.link c.args.one.now.link c.loop-ended.one.reads i.one_link c.turn.ensures.bounded (i.one_bounded b));
