@@ -22,7 +22,7 @@ use Rattle.beep_steps.specs.Desking.{DesksOn, ShowsSaidZero}
 use Rattle.beep_steps.specs.Resting.{IsAwake, TellsIdle}
 use Rattle.beep_steps.specs.Speaking.{Notes, SpeaksOn, ShowsSaid}
 use Rattle.beep_steps.proofs.PartLemmas.{none-waits}
-use Rattle.beep_steps.proofs.RestLemmas.{rests-idle}
+use Rattle.beep_steps.proofs.SpeakListed.{rests-idle}
 use Rattle.beep_steps.proofs.ServeLemmas.{shows-served}
 use Rattle.beep_steps.proofs.SpeakCalls.{serving-at}
 use Rattle.beep_steps.proofs.DeskSaid.{said-goes}

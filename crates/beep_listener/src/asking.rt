@@ -72,7 +72,7 @@ pub(crate) fn first_other(numbers: &[u32], others: &[u32]) -> Option<u32>
 }
 
 /// Whether a number is one of these.
-pub(crate) fn has_number(numbers: &[u32], number: u32) -> bool
+fn has_number(numbers: &[u32], number: u32) -> bool
     ensures { result ≡ is_among number numbers.now }
 {
     numbers.contains(&number)
@@ -136,11 +136,7 @@ fn is_any(one: bool, other: bool) -> bool
 }
 
 /// Refuses the oldest request of a channel, and answers whether there was one that found room.
-pub(crate) fn refuse_oldest(
-    session: &mut Session,
-    number: u32,
-    refusal: &[u8],
-) -> Result<bool, NoMemory>
+fn refuse_oldest(session: &mut Session, number: u32, refusal: &[u8]) -> Result<bool, NoMemory>
     ensures stays { StaysOn session.old session.new }
     ensures serving { (plan : PlainPlan) → KeepsServing plan session.old session.new }
     ensures speaking { (plan : PlainPlan) (notes : Notes) → is_among number notes.spoken ≡ true

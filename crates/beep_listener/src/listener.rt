@@ -20,13 +20,11 @@ ghost use Rattle.beep_steps.specs.Serving.{KeepsServing, ServesOn};
 
 mod hearing;
 
-use crate::asking::{
-    ask_lines, first_other, has_number, list_live, refusal_text, refuse_each, refuse_oldest,
-};
+use crate::asking::{ask_lines, first_other, list_live, refusal_text, refuse_each};
 use crate::pruning::prune;
 use beep_lines::{Bodies, Lines};
 use beep_steps::beep_frame::MAX_PAYLOAD;
-use beep_steps::beep_link::{BUFFER, End, FRAME_ROOM, Stop};
+use beep_steps::beep_link::{BUFFER, End, Stop, takes_more};
 use beep_steps::beep_octets::{NoMemory, Octets};
 use beep_steps::beep_session::Session;
 use beep_steps::beep_speaking::Emit;
@@ -53,7 +51,7 @@ pub(crate) struct Listener {
 
 impl Listener {
     ghost use Rattle.beep_steps.specs.Speaking.{no_notes};
-    ghost use Rattle.beep_listener.specs.Speaking.{notes_of, KeepsSpeakingBy, RepliesOn, SaysOn, SpeaksBy, SpeaksGoneBy, SpeaksNewBy, TakesBy};
+    ghost use Rattle.beep_listener.specs.Speaking.{notes_of, KeepsSpeakingBy, RepliesOn, RestsOn, SaysOn, SpeaksBy, SpeaksGoneBy, SpeaksNewBy, TakesBy};
 
     /// A listener over a session in which nothing has happened.
     pub(crate) fn new(alloc: Global, session: Session) -> Result<Listener, NoMemory>
@@ -114,6 +112,37 @@ impl Listener {
         }
     }
 
+    /// Says what goes next, or refuses what waits where nothing goes, and answers whether it did
+    /// either.
+    fn say_or_refuse(&mut self, out: &mut Octets) -> Result<bool, NoMemory>
+        requires room { FRAME_ROOM ≤ out.old.spare }
+        ensures listens { (log : List Moment) (text : List ℕ)
+            → Listens self.old.session self.old.bodies self.old.lines.octets.octets
+            (put_all out.old.octets log) text
+            → Listens self.new.session self.new.bodies self.new.lines.octets.octets
+            (put_all out.new.octets log) text }
+        ensures serving { (plan : PlainPlan) (log : List Moment)
+            → ServesOn plan self.old.session (put_all out.old.octets log)
+            → ServesOn plan self.new.session (put_all out.new.octets log) }
+        ensures speaking { (plan : PlainPlan) (log : List Moment)
+            → ServesOn plan self.old.session (put_all out.old.octets log)
+            → AreTaken self.old.session → SpeaksBy plan self.old (put_all out.old.octets log)
+            → OnOk result (SpeaksBy plan self.new (put_all out.new.octets log)) }
+        ensures unrefused { (log : List Moment)
+            → UnrefusedOn self.old.session (put_all out.old.octets log)
+            → UnrefusedOn self.new.session (put_all out.new.octets log) }
+        ensures rests { (log : List Moment)
+            → StandsOn self.old.session (put_all out.old.octets log)
+            → IfOk result (λ done. done ≡ false → RestsOn (notes_of self.new) self.new.session) }
+        ensures plan { plan_of self.new.session ≡ plan_of self.old.session }
+        ensures lines { self.new.lines ≡ self.old.lines }
+    {
+        if self.say(out)? {
+            return Ok(true);
+        }
+        self.refill()
+    }
+
     /// Does what a frame of channel zero calls for that went out. Where it begins a life, and it
     /// begins one at most, the lines are asked for.
     fn begun(&mut self) -> Result<(), NoMemory>
@@ -153,7 +182,8 @@ impl Listener {
         ask_lines(&mut self.session, number)
     }
 
-    /// Refuses what found no room before, on each channel, and answers whether any was refused.
+    /// Refuses the oldest request of each channel, where there is room, and answers whether any
+    /// was refused.
     fn refill(&mut self) -> Result<bool, NoMemory>
         ensures stays { StaysOn self.old.session self.new.session }
         ensures serving { (plan : PlainPlan)
@@ -170,24 +200,6 @@ impl Listener {
             self.spoken.as_slice(),
             self.refusal.as_slice(),
         )
-    }
-
-    /// Refuses the oldest request of a channel. One that finds no room waits.
-    fn refuse(&mut self, number: u32) -> Result<(), NoMemory>
-        ensures stays { StaysOn self.old.session self.new.session }
-        ensures serving { (plan : PlainPlan)
-            → KeepsServing plan self.old.session self.new.session }
-        ensures speaking { (plan : PlainPlan) → KeepsSpeakingBy plan self.old self.new }
-        ensures bodies { self.new.bodies ≡ self.old.bodies }
-        ensures lines { self.new.lines ≡ self.old.lines }
-    {
-        if !has_number(self.spoken.as_slice(), number) {
-            return Ok(());
-        }
-        match refuse_oldest(&mut self.session, number, self.refusal.as_slice()) {
-            Ok(_) => Ok(()),
-            Err(NoMemory) => Err(NoMemory),
-        }
     }
 }
 
@@ -225,11 +237,11 @@ impl End for Listener {
 
     fn gather(&mut self, out: &mut Octets) -> Result<bool, NoMemory> {
         for _ in 0..BUFFER {
-            if out.spare() < FRAME_ROOM {
+            if !takes_more(out) {
                 return Ok(true);
             }
-            if !self.say(out)? {
-                return self.refill();
+            if !self.say_or_refuse(out)? {
+                return Ok(false);
             }
         }
         Ok(true)

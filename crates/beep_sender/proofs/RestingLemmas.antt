@@ -1,5 +1,5 @@
 -- What a sender is left with where a line found no room.
-use Rattle.std.proofs.Common.{◌≡◌, ◌∙◌, sym, ap, subst, arith, ℕ, ◌+◌, ◌≤◌, List, [], ◌∷◌, ◌++◌, length, length-append, Some}
+use Rattle.std.proofs.Common.{◌≡◌, sym, subst, arith, ℕ, ◌≤◌, List, [], ◌∷◌, ◌++◌, length, length-append, Some}
 use Rattle.beep_steps.specs.beep_history.specs.declared.limits.TheConstants.{MAX_MESSAGE}
 use Rattle.beep_steps.specs.beep_lives.specs.Lives.{live_at}
 use Rattle.beep_steps.specs.beep_giving.specs.Giving.{reply_refusal_at}
@@ -8,7 +8,7 @@ use Rattle.beep_steps.specs.beep_session.specs.Channels.{IsStill}
 use Rattle.beep_steps.specs.beep_session.specs.Session.{Held}
 use Rattle.beep_steps.specs.prof_raw.specs.declared.line.TheConstants.{ENTRY_MAX}
 use Rattle.beep_steps.specs.prof_raw.specs.Entries.{body_of, line_end}
-use Rattle.beep_steps.specs.Resting.{HasRepliedAt, HoldsStill, IsFullAt}
+use Rattle.beep_steps.specs.Resting.{HoldsStill, IsFullAt}
 use Rattle.beep_steps.proofs.RestCalls.{full-replied, still-replied, unchanged-still}
 
 -- the body of a short line is a short message

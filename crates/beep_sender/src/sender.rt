@@ -11,7 +11,6 @@ ghost use Rattle.beep_steps.specs.beep_speaking.specs.declared.emit.Emit.{Emit a
 ghost use Rattle.beep_steps.specs.beep_session.specs.Lawfully.{terms_of};
 ghost use Rattle.beep_steps.specs.beep_link.specs.Causes.{ended_by, Grows, WithText};
 ghost use Rattle.beep_steps.specs.beep_answering.specs.Sent.{is_uri as is_uri_text};
-ghost use Rattle.beep_steps.specs.beep_link.specs.declared.end.TheConstants.{FRAME_ROOM};
 ghost use Rattle.beep_steps.specs.beep_link.specs.declared.ended.Stop.{Stop as StopValue};
 ghost use Rattle.beep_steps.specs.beep_frame.specs.declared.limits.TheConstants.{MAX_PAYLOAD};
 ghost use Rattle.beep_sender.specs.declared.sender.TheConstants.{CHANNEL};
@@ -28,7 +27,7 @@ mod taking;
 
 use beep_steps::beep_chars::Text;
 use beep_steps::beep_frame::{Head, MAX_PAYLOAD};
-use beep_steps::beep_link::{BUFFER, End, FRAME_ROOM, Stop};
+use beep_steps::beep_link::{BUFFER, End, Stop, takes_more};
 use beep_steps::beep_octets::{NoMemory, Octets};
 use beep_steps::beep_session::Session;
 use beep_steps::beep_speaking::Emit;
@@ -266,7 +265,7 @@ impl End for Sender<'_> {
         // What finds room now goes out with what waited: with one write, and not two.
         let _ = self.refill()?;
         for _ in 0..BUFFER {
-            if out.spare() < FRAME_ROOM {
+            if !takes_more(out) {
                 return Ok(true);
             }
             let said = say_next(&mut self.session, out);

@@ -2,18 +2,17 @@
 use Rattle.std.proofs.Common.{◌≡◌, ◌∙◌, refl, sym, ap, subst, ℕ, Bool, true, false, not, ◌&&◌, ◌||◌, ◌⊎◌, ⊎_elim, List, [], ◌∷◌, ◌++◌, Option, None, Some, append_assoc}
 use Rattle.std.specs.Prelude.{IsTrue, is_none}
 use Rattle.beep_session.specs.beep_frame.specs.declared.rule.Rule.{Rule}
-use Rattle.beep_session.specs.beep_history.specs.declared.journal.Side.{Side}
 use Rattle.beep_session.specs.beep_journal.specs.Broken.{none_tunes}
 use Rattle.beep_session.specs.beep_journal.specs.Journal.{Fault, Past, Shows as ShowsPast, goes_on}
 use Rattle.beep_session.specs.beep_journal.specs.Life.{is_released}
 use Rattle.beep_session.specs.beep_journal.specs.Log.{Moment, got, put, none, over, flat, got_all, put_all}
 use Rattle.beep_session.specs.beep_journal.specs.Zero.{zero_history}
 use Rattle.beep_session.specs.beep_journal.proofs.ShownLemmas.{one-shown}
-use Rattle.beep_session.specs.beep_lawful.specs.Lawful.{IsLawfulLog, IsLawfulMoment}
+use Rattle.beep_session.specs.beep_lawful.specs.Lawful.{IsLawfulLog}
 use Rattle.beep_session.specs.beep_lawful.specs.Tuned.{has_tuned}
 use Rattle.beep_session.specs.beep_lawful.specs.declared.terms.Terms.{Terms}
 use Rattle.beep_desk.specs.beep_talk.specs.Plan.{PlainPlan}
-use Rattle.beep_desk.specs.beep_script.specs.EachEnd.{EachEnd, GoesOn, NamesFault, Stops, WritesGoing}
+use Rattle.beep_desk.specs.beep_script.specs.EachEnd.{GoesOn, NamesFault, Stops, WritesGoing}
 use Rattle.beep_desk.specs.beep_script.specs.Prompt.{IsIdle, IsPrompt, is_over}
 use Rattle.beep_link.specs.beep_wires.specs.Log.{Entry, read, wrote, quiet, ended}
 use Rattle.beep_link.specs.Causes.{WhereKnown}

@@ -57,6 +57,7 @@ pub mod DeskBegins
 pub mod DeskSaid
 pub mod DeskSmall
 pub mod RestLemmas
+pub mod SpeakListed
 pub mod RestCalls
 pub mod SendRests
 pub mod DeskSends

@@ -20,10 +20,10 @@ use Rattle.beep_session.specs.beep_speaking.specs.declared.emit.Emit.{Emit}
 use Rattle.beep_session.specs.beep_peer.specs.declared.peer.Peer.{Peer}
 use Rattle.beep_session.specs.beep_peer.specs.Acts.{IsUnchanged, held_of}
 use Rattle.beep_session.specs.beep_peer.specs.Calls.{Speaks, TakesTurn}
-use Rattle.beep_session.specs.beep_peer.specs.Peering.{IsPeer, is_greeted, is_met, is_over, zero_waits}
+use Rattle.beep_session.specs.beep_peer.specs.Peering.{IsPeer, is_met, is_over, zero_waits}
 use Rattle.beep_session.specs.Session.{Held}
 use Rattle.beep_steps.specs.Logs.{StandsOn}
-use Rattle.beep_steps.specs.Resting.{HasRepliedAt, HasSaidAll, HoldsStill, IsAwake, RestsAfter, has_replied}
+use Rattle.beep_steps.specs.Resting.{HasRepliedAt, HasSaidAll, HoldsStill, IsAwake, RestsAfter}
 
 -- ---- all channels
 

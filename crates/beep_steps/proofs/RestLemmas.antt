@@ -1,67 +1,47 @@
--- Where a listener has nothing more to say by itself nothing of its script is due.
-use Rattle.std.proofs.Common.{◌≡◌, ◌∙◌, refl, sym, ap, subst, arith, ℕ, zero, suc, ◌+◌, ◌-◌, ◌<◌, ◌==◌, nat_lt, Bool, true, false, not, ◌||◌, ◌&&◌, if◌then◌else◌, List, [], ◌∷◌, ◌++◌, length, map, flat_map, drop, Option, None, Some, append-nil, append_assoc}
+-- Where an end has nothing more to say by itself nothing of its script is due: the script goes on from what was given with what waits.
+use Rattle.std.proofs.Common.{◌≡◌, ◌∙◌, refl, sym, ap, subst, arith, ℕ, zero, suc, ◌+◌, ◌-◌, ◌<◌, ◌==◌, nat_lt, Bool, true, false, not, ◌||◌, ◌&&◌, if◌then◌else◌, List, [], ◌∷◌, ◌++◌, length, map, drop, Option, None, Some, append-nil, append_assoc}
 use Rattle.std.specs.Prelude.{is_some, slice_get}
 use Rattle.std.proofs.lemmas.Bool.Decides.{nat_tests}
-use Rattle.std.proofs.lemmas.List.{map-append, length-map}
-use Rattle.std.proofs.lemmas.List.Concat.{flat_map-append}
-use Rattle.beep_session.specs.beep_frame.specs.Frame.{is_msg}
+use Rattle.std.proofs.lemmas.List.{length-map}
 use Rattle.beep_session.specs.beep_history.specs.declared.journal.Side.{Side}
 use Rattle.beep_session.specs.beep_history.specs.Journal.{Item}
 use Rattle.beep_session.specs.beep_history.specs.Marks.{Mark, octet, end, marks, mark_modulo_2_64, passed_octets}
-use Rattle.beep_session.specs.beep_history.specs.Messages.{Message}
-use Rattle.beep_session.specs.beep_history.specs.Broken.{KeepsExchangeRules}
 use Rattle.beep_session.specs.beep_history.specs.Windows.{arrivals, greatest_edge, open_now}
 use Rattle.beep_session.specs.beep_mgmt.specs.Form.{Form}
 use Rattle.beep_session.specs.beep_journal.specs.Broken.{none_tunes}
 use Rattle.beep_session.specs.beep_journal.specs.Journal.{Past}
-use Rattle.beep_session.specs.beep_journal.specs.Life.{history, is_there, life, life_now}
+use Rattle.beep_session.specs.beep_journal.specs.Life.{history, is_there, life_now}
 use Rattle.beep_session.specs.beep_journal.specs.Lives.{Event}
 use Rattle.beep_session.specs.beep_journal.specs.Log.{Moment}
 use Rattle.beep_session.specs.beep_journal.specs.Zero.{asked, zero_events, zero_history}
 use Rattle.beep_session.specs.beep_journal.proofs.MomentLemmas.{equal-number}
 use Rattle.beep_session.specs.beep_journal.proofs.ShownLemmas.{one-shown}
-use Rattle.beep_session.specs.beep_exchange.specs.Given.{ends_reply}
 use Rattle.beep_session.specs.beep_frame.specs.declared.seq.Seq.{Seq}
 use Rattle.beep_session.specs.beep_seq.specs.Due.{is_seq_due}
 use Rattle.beep_session.specs.beep_seq.specs.Receiving.{due_seq, full_seq}
-use Rattle.beep_session.specs.beep_inbox.specs.Runs.{Run, marks_of as untaken_marks}
 use Rattle.beep_session.specs.beep_outbox.specs.Queue.{Message as Unsent, marks_of as unsent_marks}
 use Rattle.beep_session.specs.beep_channel.specs.Held.{Live}
-use Rattle.beep_session.specs.beep_channel.specs.Stands.{Stands, ends_of}
-use Rattle.beep_session.specs.beep_channel.proofs.CountedLemmas.{ends-append}
+use Rattle.beep_session.specs.beep_channel.specs.Stands.{ends_of}
 use Rattle.beep_session.specs.beep_lives.specs.Lives.{live_at}
-use Rattle.beep_session.specs.beep_standing.specs.Standing.{Marks, AreLiveBy}
+use Rattle.beep_session.specs.beep_standing.specs.Standing.{AreLiveBy}
 use Rattle.beep_session.specs.beep_standing.specs.Due.{has_due, may_go, octets_among, octets_taken}
 use Rattle.beep_session.specs.beep_standing.proofs.DueLemmas.{channel-due, channel-ready}
-use Rattle.beep_session.specs.beep_giving.proofs.CountLemmas.{counted-above}
 use Rattle.beep_session.specs.beep_decide.specs.Asks.{is_greeted as is_greeted_by}
-use Rattle.beep_session.specs.beep_decide.specs.Decide.{is_among}
 use Rattle.beep_session.specs.beep_asked.specs.Asked.{AreAsked, AreWaiting}
 use Rattle.beep_session.specs.beep_asked.specs.Kept.{Kept, oldest}
 use Rattle.beep_session.specs.beep_lawful.specs.Due.{due, is_ready, may_go as may_go_of, open_of, seq_of}
 use Rattle.beep_session.specs.beep_peer.specs.Acts.{held_of}
-use Rattle.beep_session.specs.beep_peer.specs.Peering.{is_greeted, is_met}
+use Rattle.beep_session.specs.beep_peer.specs.Peering.{is_met}
 use Rattle.beep_session.specs.Session.{Held}
-use Rattle.beep_desk.specs.beep_talk.specs.declared.plan.Command.{Command}
 use Rattle.beep_desk.specs.beep_talk.specs.Plan.{PlainPlan}
-use Rattle.beep_desk.specs.beep_talk.specs.Talk.{talk}
 use Rattle.beep_desk.specs.beep_script.specs.Prompt.{IsIdle, IsSettled, taken_all}
-use Rattle.beep_desk.specs.beep_script.specs.Script.{message_marks, script_marks, unsent}
-use Rattle.beep_served.specs.Served.{HaveProfile}
-use Rattle.beep_replies.specs.Replies.{first_said, replies, requests_passed, whole_requests}
-use Rattle.beep_replies.proofs.PlacedLemmas.{replies_marks, replies-split}
-use Rattle.beep_replies.proofs.SaidLemmas.{said}
-use Rattle.beep_replies.proofs.StayLemmas.{script-is}
+use Rattle.beep_desk.specs.beep_script.specs.Script.{script_marks, unsent}
 use Rattle.beep_desk.proofs.TagLemmas.{given-listed}
 use Rattle.beep_steps.specs.Desking.{DesksOn}
+use Rattle.beep_steps.specs.Listed.{IsGivenOrWaits, begun, replies_given, script_modulo, waiting}
 use Rattle.beep_steps.specs.Logs.{AreTaken, StandsOn}
-use Rattle.beep_steps.specs.Resting.{HasRepliedAt, HasSaidAll, has_replied}
-use Rattle.beep_steps.specs.Speaking.{AllSpoken, IsSaid, Notes, SpeaksOn, SpeaksSo}
-use Rattle.beep_steps.proofs.DeskCalls.{one-journal}
-use Rattle.beep_steps.proofs.DeskDone.{says-as}
+use Rattle.beep_steps.specs.Resting.{HasSaidAll, has_replied}
 use Rattle.beep_steps.proofs.SpeakDone.{unsent-none}
-use Rattle.beep_steps.proofs.SpeakLives.{channel-at, ends-modulo, ends-requests, past-is, said-ends, stands}
-use Rattle.beep_steps.proofs.SpeakSteps.{live-life}
 use Rattle.beep_steps.proofs.TakenLemmas.{to-all}
 
 clash : {A : Type 0} (b : Bool) → b ≡ true → b ≡ false → A
@@ -92,7 +72,7 @@ may-go-front room (octet tag value ∷ ms) more none whole = none
 may-go-front room (end tag ∷ ms) more none whole = none
 
 -- where nothing of what was given may go, nothing of a script may that goes on with it, where something of it is unsent
-pub script-quiet : (room : ℕ) (sent script given left more : List Mark) → given ≡ map mark_modulo_2_64 sent ++ left → map mark_modulo_2_64 script ≡ given ++ more
+script-quiet : (room : ℕ) (sent script given left more : List Mark) → given ≡ map mark_modulo_2_64 sent ++ left → map mark_modulo_2_64 script ≡ given ++ more
     → may_go room (drop (length sent) given) ≡ false → (left ≡ [] → more ≡ []) → may_go_of room (drop (length sent) script) ≡ false
 script-quiet room sent script given left more is whole none last =
     may-go-as room (drop (length sent) script)
@@ -107,80 +87,19 @@ no-owed : (b : Bool) (owed : ℕ) → nat_lt 0 owed ≡ b → (not b || false) �
 no-owed true owed is h = absurd (let g : false ≡ true = h in cc)
 no-owed false owed is h = grind (arith, nat_tests)
 
-pub replied-all : (owed : ℕ) (queue : List Unsent) → (not (nat_lt 0 owed) || nat_lt 0 (length queue)) ≡ true → queue ≡ [] → owed ≡ 0
+replied-all : (owed : ℕ) (queue : List Unsent) → (not (nat_lt 0 owed) || nat_lt 0 (length queue)) ≡ true → queue ≡ [] → owed ≡ 0
 replied-all owed queue h none =
     no-owed (nat_lt 0 owed) owed refl (sym (ap (λ (q : List Unsent). not (nat_lt 0 owed) || nat_lt 0 (length q)) none) ∙ h)
 
--- ---- a live life
+-- ---- what waits
 
-module _ (plan : PlainPlan) (listens : plan.command ≡ Command.Listen) (size : ℕ) (journal : List Item) (given taken : Marks) (channels : List Live)
-    (live : AreLiveBy size journal given taken channels) (have : HaveProfile plan.raw_uri journal) (n : ℕ) (above : (n == 0) ≡ false) (there : is_there n journal ≡ true)
-    (s : IsSaid plan (first_said plan n (life_now n journal) journal) (given n)) where
-  abbrev k : ℕ
-  k = life_now n journal
+drop-none : (n : ℕ) → drop n (map mark_modulo_2_64 []) ≡ []
+drop-none zero = refl
+drop-none (suc n) = refl
 
-  abbrev all : ℕ
-  all = requests_passed n k journal
-
-  abbrev first : List Message
-  first = first_said plan n k journal
-
-  abbrev c : Live
-  c = (channel-at plan listens size journal given taken channels live n above there).0
-
-  at : live_at n channels ≡ Some c
-  at = (channel-at plan listens size journal given taken channels live n above there).1
-
-  is : Stands size c.held (history n journal) (given n) (taken n)
-  is = stands plan listens size journal given taken channels live n above there
-
-  life-is : history n journal ≡ life n k journal
-  life-is = past-is plan listens size journal given taken channels live n above there
-
-  abbrev later : List Mark
-  later = replies_marks plan (0 + s.count) (all - s.count)
-
-  -- where all is taken so many requests passed as were refused and as are owed
-  owed-are : c.held.inbox ≡ [] → all ≡ s.count + c.held.life.given.owed
-  owed-are empty =
-      let counted = counted-above size n journal given taken channels c above live at in
-      let owed = counted.owed in
-      let arrived = ap (ends_of is_msg) is.all_arrived ∙ ends-append is_msg (taken n) (untaken_marks c.held.inbox) in
-      let none = ap (λ (runs : List Run). ends_of is_msg (untaken_marks runs)) empty in
-      let modulo = ends-modulo is_msg (marks Side.Received (history n journal)) in
-      let passed_are : ends_of is_msg (marks Side.Received (history n journal)) ≡ all =
-      ends-requests (marks Side.Received (history n journal)) ∙ ap (λ (p : List Item). whole_requests Side.Received p) life-is in
-      let replied = ap (ends_of ends_reply) s.given_is ∙ said-ends plan listens n k s.count journal in
-      omega (arith, owed, arrived, none, modulo, passed_are, replied)
-
-  talk-is : talk plan n k journal ≡ first ++ replies plan 0 all
-  talk-is =
-      let l = live-life n journal above there in
-      said plan n k journal above (subst KeepsExchangeRules life-is is.held.exchange.unbroken) l (have n k l.first l.begun)
-
-  -- what was given goes on with the replies that are owed
-  script-goes : c.held.inbox ≡ [] → map mark_modulo_2_64 (script_marks plan n k journal) ≡ given n ++ map mark_modulo_2_64 later
-  script-goes empty =
-      let total = owed-are empty in
-      let split : all ≡ s.count + (all - s.count) = omega (arith, total) in
-      ap (map mark_modulo_2_64) (script-is plan n k journal above ∙ ap (flat_map message_marks) talk-is ∙ flat_map-append message_marks first (replies plan 0 all)
-      ∙ ap (λ (ms : List Mark). flat_map message_marks first ++ ms) (ap (replies_marks plan 0) split ∙ replies-split plan 0 s.count (all - s.count))
-      ∙ sym (append_assoc (flat_map message_marks first) (replies_marks plan 0 s.count) later))
-      ∙ map-append mark_modulo_2_64 (flat_map message_marks first ++ replies_marks plan 0 s.count) later
-      ∙ ap (λ (ms : List Mark). ms ++ map mark_modulo_2_64 later) (ap (map mark_modulo_2_64) (sym (flat_map-append message_marks first (replies plan 0 s.count))) ∙ sym s.given_is)
-
-  pub life-quiet : c.held.inbox ≡ [] → has_replied c.held ≡ true → may_go (open_now Side.Sent (history n journal)) (drop (length (marks Side.Sent (history n journal))) (given n)) ≡ false
-      → may_go_of (open_of n journal) (unsent plan n journal) ≡ false
-  life-quiet empty replied none =
-      script-quiet (open_now Side.Sent (history n journal)) (marks Side.Sent (history n journal)) (script_marks plan n k journal) (given n) (unsent_marks c.held.queue) (map mark_modulo_2_64 later)
-      is.all_given (script-goes empty) none last
-    where
-      last : unsent_marks c.held.queue ≡ [] → map mark_modulo_2_64 later ≡ []
-      last unsent_none =
-          let total = owed-are empty in
-          let no_more = replied-all c.held.life.given.owed c.held.queue replied (unsent-none c.held.queue (ap (ends_of (λ kind. true)) unsent_none)) in
-          let none_left : all - s.count ≡ 0 = omega (arith, total, no_more) in
-          ap (λ (m : ℕ). map mark_modulo_2_64 (replies_marks plan (0 + s.count) m)) none_left
+-- where nothing is owed nothing waits
+pub none-waiting : (plan : PlainPlan) (next position owed : ℕ) → owed ≡ 0 → waiting plan next position owed ≡ []
+none-waiting plan next position owed none = ap (waiting plan next position) none ∙ drop-none (begun plan next position)
 
 -- ---- the own greeting
 
@@ -252,6 +171,17 @@ some-at : (o : Option Live) → is_some o ≡ true → (c : Live) × (o ≡ Some
 some-at None e = absurd (let g : false ≡ true = e in cc)
 some-at (Some c) e = (c, refl)
 
+-- on channel zero all of the script was given
+pub zero-listed : (plan : PlainPlan) (session : Held) (log : List Moment) (d : DesksOn plan session log) → script_modulo plan 0 d.on.journal ≡ d.on.given 0
+zero-listed plan session log d =
+    let on = d.on in
+    let journal = on.journal in
+    let live = on.stands.stands.holds.live in
+    let c = some-at (live_at 0 session.peer.lives) (sym (live.there 0)) in
+    let is = live.zero c.0 c.1 in
+    sym (given-listed plan journal d.placed d.plan_is.none session.limits.window on.given on.taken session.peer
+    (record { keeps = is.held.exchange.unbroken; live = live; manages = on.stands.stands.holds.manages }) d.desk (life_now 0 journal))
+
 module _ (plan : PlainPlan) (session : Held) (log : List Moment) (d : DesksOn plan session log) (untaken : AreTaken session) (window : plan.terms.window ≡ session.limits.window)
     (said_all : HasSaidAll session) where
   abbrev on : StandsOn session log
@@ -266,7 +196,7 @@ module _ (plan : PlainPlan) (session : Held) (log : List Moment) (d : DesksOn pl
   live : AreLiveBy size journal on.given on.taken session.peer.lives
   live = on.stands.stands.holds.live
 
-  pub at-of : (n : ℕ) → is_there n d.on.journal ≡ true → (c : Live) × (live_at n session.peer.lives ≡ Some c)
+  at-of : (n : ℕ) → is_there n d.on.journal ≡ true → (c : Live) × (live_at n session.peer.lives ≡ Some c)
   at-of n there = some-at (live_at n session.peer.lives) (sym (live.there n) ∙ there)
 
   taken-of : (n : ℕ) → is_there n journal ≡ true → on.taken n ≡ map mark_modulo_2_64 (marks Side.Received (history n journal))
@@ -286,57 +216,46 @@ module _ (plan : PlainPlan) (session : Held) (log : List Moment) (d : DesksOn pl
       ∙ ap (λ (t : ℕ). is_seq_due size t (greatest_edge Side.Received (history n journal))) (sym (all-taken (on.taken n) (history n journal) (taken-of n there)))
       ∙ none
 
-  pub frame-none : (n : ℕ) → is_there n d.on.journal ≡ true
+  frame-none : (n : ℕ) → is_there n d.on.journal ≡ true
       → may_go (open_now Side.Sent (history n d.on.journal)) (drop (length (marks Side.Sent (history n d.on.journal))) (d.on.given n)) ≡ false
   frame-none n there =
       let c = at-of n there in
       sym (channel-ready size journal on.given on.taken session.peer.lives live n c.0 c.1) ∙ said_all.no_frame n c.0.held (ap held_of c.1)
 
-  zero-quiet : is_there 0 journal ≡ true → may_go_of (open_of 0 journal) (unsent plan 0 journal) ≡ false
-  zero-quiet there =
-      let c = at-of 0 there in
-      let is = live.zero c.0 c.1 in
-      let listed = given-listed plan journal d.placed d.plan_is.none size on.given on.taken session.peer
-      (record { keeps = is.held.exchange.unbroken; live = live; manages = on.stands.stands.holds.manages }) d.desk (life_now 0 journal) in
-      script-quiet (open_now Side.Sent (zero_history journal)) (marks Side.Sent (zero_history journal)) (script_marks plan 0 (life_now 0 journal) journal) (on.given 0) (unsent_marks c.0.held.queue) []
-      is.all_given (sym listed ∙ sym (append-nil (on.given 0))) (frame-none 0 there) (λ e. refl)
+  -- a script goes on from what was given with what waits: where nothing waits or something is unsent, nothing of it is due
+  module _ (next : ℕ) (listed : IsGivenOrWaits plan next session d.on.journal d.on.given)
+      (replied : (n : ℕ) (c : Live) → (n == 0) ≡ false → live_at n session.peer.lives ≡ Some c → has_replied c.held ≡ true) where
+    zero-quiet : is_there 0 journal ≡ true → may_go_of (open_of 0 journal) (unsent plan 0 journal) ≡ false
+    zero-quiet there =
+        let c = at-of 0 there in
+        let is = live.zero c.0 c.1 in
+        script-quiet (open_now Side.Sent (zero_history journal)) (marks Side.Sent (zero_history journal)) (script_marks plan 0 (life_now 0 journal) journal) (on.given 0) (unsent_marks c.0.held.queue) []
+        is.all_given (listed.zero ∙ sym (append-nil (on.given 0))) (frame-none 0 there) (λ e. refl)
 
-  -- nothing is due where that holds above channel zero
-  module _ (above_quiet : (n : ℕ) → (n == 0) ≡ false → is_there n d.on.journal ≡ true → may_go_of (open_of n d.on.journal) (unsent plan n d.on.journal) ≡ false) where
-    pub rests-settled : IsSettled plan d.on.journal
+    above-quiet : (n : ℕ) → (n == 0) ≡ false → is_there n journal ≡ true → may_go_of (open_of n journal) (unsent plan n journal) ≡ false
+    above-quiet n above there =
+        let c = at-of n there in
+        let is = live.above n c.0 above c.1 in
+        let owed = c.0.held.life.given.owed in
+        let queue = c.0.held.queue in
+        script-quiet (open_now Side.Sent (history n journal)) (marks Side.Sent (history n journal)) (script_marks plan n (life_now n journal) journal) (on.given n) (unsent_marks queue)
+        (waiting plan next (replies_given (on.given n)) owed) is.all_given (listed.above n c.0 above c.1) (frame-none n there)
+        (λ e. none-waiting plan next (replies_given (on.given n)) owed (replied-all owed queue (replied n c.0 above c.1) (unsent-none queue (ap (ends_of (λ kind. true)) e))))
+
+    rests-settled : IsSettled plan journal
     rests-settled = record {
       no_seq = λ n. due-none plan.terms.window (taken_all journal n) n journal (seq-none n);
       none_ready = λ n. ready-none n (unsent plan n journal) journal (λ there. of n there (n == 0) refl);
     }
       where
         of : (n : ℕ) → is_there n journal ≡ true → (b : Bool) → (n == 0) ≡ b → may_go_of (open_of n journal) (unsent plan n journal) ≡ false
-        of n there false e = above_quiet n e there
+        of n there false e = above-quiet n e there
         of n there true e =
             let is = equal-number n 0 e in
             subst (λ (m : ℕ). may_go_of (open_of m journal) (unsent plan m journal) ≡ false) (sym is) (zero-quiet (subst (λ (m : ℕ). is_there m journal ≡ true) is there))
 
     -- so it is in the session that the log shows
-    pub settled-idle : IsIdle plan log
-    settled-idle past shows going =
+    pub listed-idle : IsIdle plan log
+    listed-idle past shows going =
         let shown = on.logged.shown in
         subst (λ (j : List Item). IsSettled plan j) (sym shown.journal_is ∙ ap (λ (p : Past). p.journal) (one-shown none_tunes log shown.past past shown.shows shows)) rests-settled
-
--- ---- a listener's session
-
-module _ (plan : PlainPlan) (notes : Notes) (session : Held) (log : List Moment) (s : SpeaksOn plan notes session log) (d : DesksOn plan session log) (untaken : AreTaken session)
-    (have : HaveProfile plan.raw_uri s.on.journal) (window : plan.terms.window ≡ session.limits.window) (said_all : HasSaidAll session)
-    (replied : (n : ℕ) → (n == 0) ≡ false → is_among n notes.spoken ≡ true → HasRepliedAt n session) where
-  above-quiet : (n : ℕ) → (n == 0) ≡ false → is_there n d.on.journal ≡ true → may_go_of (open_of n d.on.journal) (unsent plan n d.on.journal) ≡ false
-  above-quiet n above there =
-      let journal = d.on.journal in
-      let live = d.on.stands.stands.holds.live in
-      let scripts : SpeaksSo plan notes journal d.on.given = says-as plan notes session log s.on d.on s.scripts in
-      let spoken : AllSpoken notes journal = subst (AllSpoken notes) (one-journal session log s.on d.on) s.noted.all in
-      let has_profile : HaveProfile plan.raw_uri journal = subst (HaveProfile plan.raw_uri) (one-journal session log s.on d.on) have in
-      let c = channel-at plan s.listens session.limits.window journal d.on.given d.on.taken session.peer.lives live n above there in
-      life-quiet plan s.listens session.limits.window journal d.on.given d.on.taken session.peer.lives live has_profile n above there (scripts.said n above there (spoken n above there))
-      (untaken n above c.0 c.1) (replied n above (spoken n above there) c.0.held (ap held_of c.1)) (frame-none plan session log d untaken window said_all n there)
-
-  -- where it rests nothing of its script is due
-  pub rests-idle : IsIdle plan log
-  rests-idle = settled-idle plan session log d untaken window said_all above-quiet

@@ -1,6 +1,5 @@
--- Where a sender took all that came, and has answered each request or something of its answers is unsent, what it gave in its life of channel 1 goes on with its script there (RFC
--- 3195, section 3.1).
-use Rattle.std.proofs.Common.{◌≡◌, ◌∙◌, refl, sym, ap, subst, arith, ℕ, zero, suc, ◌+◌, ◌%◌, ◌<◌, ◌≤◌, ◌==◌, ◌||◌, nat_lt, Bool, true, false, if◌then◌else◌, List, [], ◌∷◌, ◌++◌, length, map, flat_map, drop, take, Option, None, Some, append-nil, append_assoc}
+-- What a sender has to say in its life of channel 1 is what it gave there, and then the answers and the ends that wait for what it owes (RFC 3195, section 3.1).
+use Rattle.std.proofs.Common.{◌≡◌, ◌∙◌, refl, sym, ap, subst, arith, ℕ, zero, suc, ◌+◌, ◌%◌, ◌<◌, ◌≤◌, ◌==◌, ◌||◌, nat_lt, Bool, true, false, if◌then◌else◌, List, [], ◌∷◌, ◌++◌, length, map, flat_map, drop, take, None, Some, append-nil, append_assoc}
 use Rattle.std.specs.Prelude.{is_some}
 use Rattle.std.proofs.lemmas.Bool.Decides.{nat_tests}
 use Rattle.std.proofs.lemmas.List.{map-append}
@@ -10,34 +9,29 @@ use Rattle.beep_session.specs.beep_history.specs.declared.journal.Side.{Side}
 use Rattle.beep_session.specs.beep_history.specs.Journal.{Item}
 use Rattle.beep_session.specs.beep_history.specs.Marks.{Mark, octet, end, marks, mark_modulo_2_64}
 use Rattle.beep_session.specs.beep_history.specs.Messages.{Message}
-use Rattle.beep_session.specs.beep_history.specs.Broken.{KeepsExchangeRules}
-use Rattle.beep_session.specs.beep_history.specs.Windows.{open_now}
-use Rattle.beep_session.specs.beep_journal.specs.Life.{history, is_there, life, life_now}
+use Rattle.beep_session.specs.beep_journal.specs.Life.{history, is_there, life_now}
 use Rattle.beep_session.specs.beep_journal.specs.Lives.{is_live, lives}
 use Rattle.beep_session.specs.beep_journal.specs.Log.{Moment}
 use Rattle.beep_session.specs.beep_journal.specs.Zero.{events, zero_history}
 use Rattle.beep_session.specs.beep_journal.proofs.MomentLemmas.{equal-number}
 use Rattle.beep_session.specs.beep_exchange.specs.Given.{ends_reply, message_number}
 use Rattle.beep_session.specs.beep_inbox.specs.Runs.{Run, marks_of as untaken_marks}
-use Rattle.beep_session.specs.beep_outbox.specs.Queue.{marks_of as unsent_marks}
 use Rattle.beep_session.specs.beep_channel.specs.Held.{Live}
 use Rattle.beep_session.specs.beep_channel.specs.Stands.{Stands, IsCounted, answer_number, answers_after, ends_of}
 use Rattle.beep_session.specs.beep_channel.proofs.CountedLemmas.{ends-append}
 use Rattle.beep_session.specs.beep_lives.specs.Lives.{live_at}
 use Rattle.beep_session.specs.beep_standing.specs.Standing.{Marks, AreLiveBy}
-use Rattle.beep_session.specs.beep_standing.specs.Due.{may_go}
 use Rattle.beep_session.specs.beep_giving.proofs.CountLemmas.{counted-above}
 use Rattle.beep_session.specs.beep_lawful.specs.declared.limits.TheConstants.{MESSAGE_NUMBERS}
-use Rattle.beep_session.specs.beep_lawful.specs.Due.{may_go as may_go_of, open_of}
 use Rattle.beep_desk.specs.prof_raw.specs.Entries.{body_of}
 use Rattle.beep_desk.specs.beep_talk.specs.declared.plan.Command.{Command}
 use Rattle.beep_desk.specs.beep_talk.specs.Plan.{PlainPlan}
 use Rattle.beep_desk.specs.beep_talk.specs.Talk.{answers_from, has_profile, message_of, nul, reply_of, talk}
 use Rattle.beep_session.specs.beep_frame.specs.declared.kind.Kind.{Kind}
-use Rattle.beep_desk.specs.beep_script.specs.Script.{message_marks, script_marks, unsent}
+use Rattle.beep_desk.specs.beep_script.specs.Script.{message_marks, script_marks}
 use Rattle.beep_desk.specs.beep_script.specs.Sending.{answers_of}
 use Rattle.beep_desk.specs.beep_script.specs.Prompt.{IsIdle}
-use Rattle.beep_replies.specs.Replies.{replies, requests_passed, whole_requests}
+use Rattle.beep_replies.specs.Replies.{replies, requests_passed}
 use Rattle.beep_replies.proofs.LogLemmas.{first-empty}
 use Rattle.beep_replies.proofs.PlacedLemmas.{replies_marks, replies-split}
 use Rattle.beep_replies.proofs.SaidLemmas.{said}
@@ -47,6 +41,7 @@ use Rattle.beep_session.specs.beep_peer.specs.Acts.{held_of}
 use Rattle.beep_session.specs.Lawfully.{terms_of}
 use Rattle.beep_session.specs.Session.{Held}
 use Rattle.beep_steps.specs.Desking.{DesksOn}
+use Rattle.beep_steps.specs.Listed.{IsGivenOrWaits, begun, replies_given, script_modulo, waiting}
 use Rattle.beep_steps.specs.Logs.{AreTaken}
 use Rattle.beep_steps.specs.Resting.{HasRepliedAt, HasSaidAll, has_replied}
 use Rattle.beep_steps.specs.Scripting.{RepliesGiven, part_given, whole_given, ScriptedOn}
@@ -55,10 +50,9 @@ use Rattle.beep_steps.proofs.DeskCalls.{one-journal}
 use Rattle.beep_steps.proofs.DeskDone.{one-given}
 use Rattle.beep_steps.proofs.EmitSends.{only-life}
 use Rattle.beep_steps.proofs.HeardSends.{few-now}
-use Rattle.beep_steps.proofs.RestLemmas.{at-of, frame-none, replied-all, script-quiet, settled-idle}
+use Rattle.beep_steps.proofs.RestLemmas.{listed-idle, none-waiting, zero-listed}
 use Rattle.beep_steps.proofs.ScriptLemmas.{began-with, lines_left, lines-go}
 use Rattle.beep_steps.proofs.SendLives.{life-on, no-live}
-use Rattle.beep_steps.proofs.SpeakDone.{unsent-none}
 use Rattle.beep_steps.proofs.SpeakLives.{answers-octets, ends-message, ends-modulo, ends-requests}
 use Rattle.beep_steps.proofs.SpeakSteps.{live-life}
 
@@ -116,6 +110,18 @@ answers-count answers request place (line ∷ lines) =
 some-lt : (n : ℕ) → nat_lt 0 (suc n) ≡ true
 some-lt n = grind (arith, nat_tests)
 
+all-left : (ms : List Mark) → drop 0 ms ≡ ms
+all-left [] = refl
+all-left (m ∷ ms) = refl
+
+-- marks that begin with some go on with what is left of them
+goes-on : (xs ys all : List Mark) → all ≡ xs ++ ys → all ≡ xs ++ drop (length xs) all
+goes-on xs ys all is = is ∙ sym (ap (λ (ms : List Mark). xs ++ ms) (ap (drop (length xs)) is ∙ after xs ys))
+  where
+    after : (xs ys : List Mark) → drop (length xs) (xs ++ ys) ≡ ys
+    after [] ys = all-left ys
+    after (x ∷ xs) ys = after xs ys
+
 -- ---- the life of channel 1
 
 module _ (plan : PlainPlan) (send : plan.command ≡ Command.Send) (size : ℕ) (journal : List Item) (given taken : Marks) (channels : List Live) (live : AreLiveBy size journal given taken channels)
@@ -154,31 +160,39 @@ module _ (plan : PlainPlan) (send : plan.command ≡ Command.Send) (size : ℕ) 
   script-are : map mark_modulo_2_64 (script_marks plan 1 k journal) ≡ map mark_modulo_2_64 (replies_marks plan 0 all)
   script-are = ap (map mark_modulo_2_64) (script-is plan 1 k journal refl ∙ ap (flat_map message_marks) talk-is)
 
-  -- what was given goes on with the replies that are owed: with nothing, where none is
-  record Goes : Type 0 where
-    more : List Mark
-    on : map mark_modulo_2_64 (script_marks plan 1 k journal) ≡ given 1 ++ more
-    last : owed ≡ 0 → more ≡ []
-
   split-at : (few more : ℕ) → all ≡ few + more
       → map mark_modulo_2_64 (script_marks plan 1 k journal) ≡ map mark_modulo_2_64 (replies_marks plan 0 few) ++ map mark_modulo_2_64 (replies_marks plan (0 + few) more)
   split-at few more total =
       script-are ∙ ap (λ (n : ℕ). map mark_modulo_2_64 (replies_marks plan 0 n)) total ∙ ap (map mark_modulo_2_64) (replies-split plan 0 few more)
       ∙ map-append mark_modulo_2_64 (replies_marks plan 0 few) (replies_marks plan (0 + few) more)
 
-  -- the replies to some requests were given whole
+  -- what was given goes on with what waits for the requests that are owed
+  abbrev Goes : Type 0
+  Goes = script_modulo plan 1 journal ≡ given 1 ++ waiting plan next (replies_given (given 1)) owed
+
+  -- the replies to some requests were given whole: whole ones wait
   whole : (count : ℕ) → given 1 ≡ map mark_modulo_2_64 (replies_marks plan 0 (count + 1)) → Goes
-  whole count given_is = record {
-    more = map mark_modulo_2_64 (replies_marks plan (0 + (count + 1)) owed);
-    on = split-at (count + 1) owed total ∙ ap (λ (ms : List Mark). ms ++ map mark_modulo_2_64 (replies_marks plan (0 + (count + 1)) owed)) (sym given_is);
-    last = λ none. ap (λ (n : ℕ). map mark_modulo_2_64 (replies_marks plan (0 + (count + 1)) n)) none;
-  }
+  whole count given_is =
+      split-at (count + 1) owed total
+      ∙ ap (λ (ms : List Mark). ms ++ map mark_modulo_2_64 (replies_marks plan (0 + (count + 1)) owed)) (sym given_is)
+      ∙ ap (λ (ms : List Mark). given 1 ++ ms) waits
     where
+      ends : replies_given (given 1) ≡ count + 1
+      ends = ap (ends_of ends_reply) given_is ∙ ends-modulo ends_reply (replies_marks plan 0 (count + 1)) ∙ replies-end plan send 0 (count + 1)
+
       total : all ≡ (count + 1) + owed
-      total =
-          let ends = ap (ends_of ends_reply) given_is ∙ ends-modulo ends_reply (replies_marks plan 0 (count + 1)) ∙ replies-end plan send 0 (count + 1) in
-          let a = all-are in
-          omega (arith, a, ends)
+      total = let e = ends in let a = all-are in omega (arith, a, e)
+
+      none-begun : (position : ℕ) → position ≡ count + 1 → begun plan next position ≡ 0
+      none-begun position is =
+          let later : (position == 0) ≡ false = grind (arith, nat_tests) in
+          ap (λ (b : Bool). if b then length (answers_of (take next plan.lines)) else 0) later
+
+      waits : map mark_modulo_2_64 (replies_marks plan (0 + (count + 1)) owed) ≡ waiting plan next (replies_given (given 1)) owed
+      waits =
+          ap (λ (p : ℕ). map mark_modulo_2_64 (replies_marks plan p owed)) (let e = ends in let f : 0 + (count + 1) ≡ replies_given (given 1) = omega (arith, e) in f)
+          ∙ sym (ap (λ (n : ℕ). drop n (map mark_modulo_2_64 (replies_marks plan (replies_given (given 1)) owed))) (none-begun (replies_given (given 1)) ends)
+          ∙ all-left (map mark_modulo_2_64 (replies_marks plan (replies_given (given 1)) owed)))
 
   -- where nothing is owed no answer has begun
   none-given : given 1 ≡ answers_of (take next plan.lines) → owed ≡ 0 → given 1 ≡ []
@@ -193,50 +207,47 @@ module _ (plan : PlainPlan) (send : plan.command ≡ Command.Send) (size : ℕ) 
           let owes = counted.answering some in
           absurd (omega (arith, owes, none))
 
-  -- the answers of some lines were given, and not their end
+  -- the answers of some lines were given, and not their end: the others wait
   part : given 1 ≡ answers_of (take next plan.lines) → (n : ℕ) → owed ≡ n → Goes
-  part given_is zero none = record {
-    more = [];
-    on = split-at 0 0 total ∙ sym (append-nil (given 1) ∙ none-given given_is none);
-    last = λ e. refl;
-  }
+  part given_is zero none =
+      split-at 0 0 total ∙ sym (none-given given_is none)
+      ∙ sym (append-nil (given 1)) ∙ ap (λ (ms : List Mark). given 1 ++ ms) (sym (none-waiting plan next (replies_given (given 1)) owed none))
     where
       total : all ≡ 0 + 0
       total =
           let ends = ap (ends_of ends_reply) given_is ∙ answers-end 0 0 (take next plan.lines) in
           let a = all-are in
           omega (arith, a, ends, none)
-  part given_is (suc n) some = record {
-    more = lines_left plan next ++ map mark_modulo_2_64 (replies_marks plan (0 + 1) n);
-    on = split-at 1 n total ∙ ap (λ (ms : List Mark). ms ++ map mark_modulo_2_64 (replies_marks plan (0 + 1) n)) (sym (lines-go plan next send))
-        ∙ append_assoc (answers_of (take next plan.lines)) (lines_left plan next) (map mark_modulo_2_64 (replies_marks plan (0 + 1) n))
-        ∙ ap (λ (ms : List Mark). ms ++ (lines_left plan next ++ map mark_modulo_2_64 (replies_marks plan (0 + 1) n))) (sym given_is);
-    last = λ none. absurd (omega (arith, none, some));
-  }
+  part given_is (suc n) some =
+      script-are ∙ ap (λ (m : ℕ). map mark_modulo_2_64 (replies_marks plan 0 m)) total
+      ∙ goes-on (answers_of (take next plan.lines)) (lines_left plan next ++ map mark_modulo_2_64 (replies_marks plan (0 + 1) n)) (map mark_modulo_2_64 (replies_marks plan 0 owed)) split
+      ∙ ap (λ (ms : List Mark). ms ++ waiting plan next 0 owed) (sym given_is)
+      ∙ ap (λ (p : ℕ). given 1 ++ waiting plan next p owed) (sym ends)
     where
-      total : all ≡ 1 + n
-      total =
-          let ends = ap (ends_of ends_reply) given_is ∙ answers-end 0 0 (take next plan.lines) in
-          let a = all-are in
-          omega (arith, a, ends, some)
+      ends : replies_given (given 1) ≡ 0
+      ends = ap (ends_of ends_reply) given_is ∙ answers-end 0 0 (take next plan.lines)
 
-  goes : Goes
-  goes = of r
+      total : all ≡ owed
+      total = let e = ends in let a = all-are in omega (arith, a, e)
+
+      split : map mark_modulo_2_64 (replies_marks plan 0 owed) ≡ answers_of (take next plan.lines) ++ (lines_left plan next ++ map mark_modulo_2_64 (replies_marks plan (0 + 1) n))
+      split =
+          ap (λ (m : ℕ). map mark_modulo_2_64 (replies_marks plan 0 m)) (let e : owed ≡ 1 + n = omega (arith, some) in e)
+          ∙ ap (map mark_modulo_2_64) (replies-split plan 0 1 n) ∙ map-append mark_modulo_2_64 (replies_marks plan 0 1) (replies_marks plan (0 + 1) n)
+          ∙ ap (λ (ms : List Mark). ms ++ map mark_modulo_2_64 (replies_marks plan (0 + 1) n)) (sym (lines-go plan next send))
+          ∙ append_assoc (answers_of (take next plan.lines)) (lines_left plan next) (map mark_modulo_2_64 (replies_marks plan (0 + 1) n))
+
+  pub channel-listed : script_modulo plan 1 journal ≡ given 1 ++ waiting plan next (replies_given (given 1)) owed
+  channel-listed = of r
     where
       of : RepliesGiven plan next (given 1) → Goes
       of (whole_given count enough given_is) = whole count given_is
       of (part_given given_is) = part given_is owed refl
 
-  pub sender-quiet : has_replied c.held ≡ true → may_go (open_now Side.Sent (history 1 journal)) (drop (length (marks Side.Sent (history 1 journal))) (given 1)) ≡ false
-      → may_go_of (open_of 1 journal) (unsent plan 1 journal) ≡ false
-  sender-quiet replied none =
-      script-quiet (open_now Side.Sent (history 1 journal)) (marks Side.Sent (history 1 journal)) (script_marks plan 1 k journal) (given 1) (unsent_marks c.held.queue) goes.more is.all_given goes.on
-      none (λ e. goes.last (replied-all owed c.held.queue replied (unsent-none c.held.queue (ap (ends_of (λ kind. true)) e))))
-
 -- ---- a sender's session
 
 module _ (plan : PlainPlan) (p : Progress) (session : Held) (log : List Moment) (x : ScriptedOn plan p session log) (d : DesksOn plan session log) (untaken : AreTaken session)
-    (offers : plan.offers ≡ []) (window : plan.terms.window ≡ session.limits.window) (said_all : HasSaidAll session) (replied : HasRepliedAt 1 session) where
+    (offers : plan.offers ≡ []) where
   abbrev journal : List Item
   journal = d.on.journal
 
@@ -246,36 +257,51 @@ module _ (plan : PlainPlan) (p : Progress) (session : Held) (log : List Moment) 
   lived : HasOneLife (zero_history journal)
   lived = subst (λ (j : List Item). HasOneLife (zero_history j)) one (life-on plan p session log x d offers)
 
+  there-at : (n : ℕ) (c : Live) → live_at n session.peer.lives ≡ Some c → is_there n d.on.journal ≡ true
+  there-at n c at = d.on.stands.stands.holds.live.there n ∙ ap is_some at
+
   -- in its life of channel 1
-  channel-quiet : is_there 1 journal ≡ true → may_go_of (open_of 1 journal) (unsent plan 1 journal) ≡ false
-  channel-quiet there =
+  one-listed : (c : Live) → live_at 1 session.peer.lives ≡ Some c → script_modulo plan 1 journal ≡ d.on.given 1 ++ waiting plan p.next (replies_given (d.on.given 1)) c.held.life.given.owed
+  one-listed c at =
       let on = d.on in
+      let there = there-at 1 c at in
       let live = on.stands.stands.holds.live in
-      let c = at-of plan session log d untaken window said_all 1 there in
       let s = x.sends in
       let few = few-now plan p session s.on.fed s.on.rest s.on.journal s.on.given s.on.taken s.sender s.on.stands s.sends in
-      let begun = live-life 1 journal refl there in
+      let lives_are = live-life 1 journal refl there in
       let given_is : s.on.given 1 ≡ on.given 1 = one-given session log s.on on 1 refl (subst (λ (j : List Item). is_there 1 j ≡ true) (sym one) there) in
       let profile : has_profile plan.raw_uri 1 1 journal ≡ true =
       subst (λ (j : List Item). has_profile plan.raw_uri 1 1 j ≡ true) one
       (began-with plan s.sender.texts (terms_of session) s.sender.role s.on.journal s.on.given s.on.taken session.peer.lives s.on.stands.stands.holds.live p.asked s.sends.asked s.on.stands.lawful
-      (subst (λ (j : List Item). 0 < lives 1 (events j)) (sym one) (omega (arith, begun.begun, begun.first)))) in
+      (subst (λ (j : List Item). 0 < lives 1 (events j)) (sym one) (omega (arith, lives_are.begun, lives_are.first)))) in
       let first : life_now 1 journal ≡ 1 = only-life (events journal) there (subst (λ (j : List Item). lives 1 (events j) ≤ 1) one few) in
-      sender-quiet plan s.sender.command session.limits.window journal on.given on.taken session.peer.lives live c.0 c.1 there
+      channel-listed plan s.sender.command session.limits.window journal on.given on.taken session.peer.lives live c at there
       (subst (λ (k : ℕ). has_profile plan.raw_uri 1 k journal ≡ true) (sym first) profile) p.next
-      (subst (RepliesGiven plan p.next) given_is (x.scripts.lines (subst (λ (j : List Item). is_there 1 j ≡ true) (sym one) there))) (untaken 1 refl c.0 c.1)
-      (replied c.0.held (ap held_of c.1)) (frame-none plan session log d untaken window said_all 1 there)
+      (subst (RepliesGiven plan p.next) given_is (x.scripts.lines (subst (λ (j : List Item). is_there 1 j ≡ true) (sym one) there))) (untaken 1 refl c at)
 
-  above-quiet : (n : ℕ) → (n == 0) ≡ false → is_there n journal ≡ true → may_go_of (open_of n journal) (unsent plan n journal) ≡ false
-  above-quiet n above there = of (n == 1) refl
+  -- it has no other
+  no-other : (n : ℕ) (c : Live) → (n == 0) ≡ false → (n == 1) ≡ false → live_at n session.peer.lives ≡ Some c → ⊥
+  no-other n c above e at =
+      let g : true ≡ false = sym (there-at n c at) ∙ ap (λ (b : Bool). b || is_live n (events journal)) above ∙ no-live n (events journal) (lived.none n e) in cc
+
+  pub sends-listed : IsGivenOrWaits plan p.next session d.on.journal d.on.given
+  sends-listed = record {
+    zero = zero-listed plan session log d;
+    above = λ n c above at. of n c above at (n == 1) refl;
+  }
     where
-      of : (b : Bool) → (n == 1) ≡ b → may_go_of (open_of n journal) (unsent plan n journal) ≡ false
-      of true e =
+      of : (n : ℕ) (c : Live) → (n == 0) ≡ false → live_at n session.peer.lives ≡ Some c → (b : Bool) → (n == 1) ≡ b
+          → script_modulo plan n journal ≡ d.on.given n ++ waiting plan p.next (replies_given (d.on.given n)) c.held.life.given.owed
+      of n c above at true e =
           let is = equal-number n 1 e in
-          subst (λ (m : ℕ). may_go_of (open_of m journal) (unsent plan m journal) ≡ false) (sym is) (channel-quiet (subst (λ (m : ℕ). is_there m journal ≡ true) is there))
-      of false e =
-          absurd (let g : true ≡ false = sym there ∙ ap (λ (b : Bool). b || is_live n (events journal)) above ∙ no-live n (events journal) (lived.none n e) in cc)
+          subst (λ (m : ℕ). script_modulo plan m journal ≡ d.on.given m ++ waiting plan p.next (replies_given (d.on.given m)) c.held.life.given.owed) (sym is)
+          (one-listed c (subst (λ (m : ℕ). live_at m session.peer.lives ≡ Some c) is at))
+      of n c above at false e = absurd (no-other n c above e at)
 
   -- where it rests nothing of its script is due
-  pub sender-idle : IsIdle plan log
-  sender-idle = settled-idle plan session log d untaken window said_all above-quiet
+  pub sender-idle : (window : plan.terms.window ≡ session.limits.window) → HasSaidAll session → HasRepliedAt 1 session → IsIdle plan log
+  sender-idle window said_all replied = listed-idle plan session log d untaken window said_all p.next sends-listed (λ n c above at. of n c above at (n == 1) refl)
+    where
+      of : (n : ℕ) (c : Live) → (n == 0) ≡ false → live_at n session.peer.lives ≡ Some c → (b : Bool) → (n == 1) ≡ b → has_replied c.held ≡ true
+      of n c above at true e = replied c.held (ap held_of (subst (λ (m : ℕ). live_at m session.peer.lives ≡ Some c) (equal-number n 1 e) at))
+      of n c above at false e = absurd (no-other n c above e at)

@@ -9,6 +9,7 @@ pub mod Steps
 pub mod Scripting
 pub mod Desking
 pub mod Resting
+pub mod Listed
 pub mod EachEnd
 -- What proofs alone need: what a turn of either end keeps.
 pub mod Turning

@@ -116,7 +116,7 @@ impl Listener {
         let (count, came) = hear_next(&mut self.session, bytes)?;
         match came {
             Came::More => Ok(count),
-            Came::Arrived(number) => match self.take(number, output) {
+            Came::Arrived(number) => match self.take_all(number, output) {
                 Ok(()) => Ok(count),
                 Err(stop) => Err(stop),
             },
@@ -200,45 +200,9 @@ impl Listener {
         }
     }
 
-    /// Takes the frame that has arrived, and refuses the request that it ends.
-    fn take<O: Sink>(&mut self, number: u32, output: &mut O) -> Result<(), Stop>
-        ensures stays { StaysOn self.old.session self.new.session }
-        ensures serving { (plan : PlainPlan)
-            → KeepsServing plan self.old.session self.new.session }
-        ensures speaking { (plan : PlainPlan) (log : List Moment) (text : List ℕ)
-            → ListensTaking number 0 self.old.session self.old.bodies
-            self.old.lines.octets.octets log text → ServesOn plan self.old.session log
-            → TakesBy plan self.old log → OnOk result (SpeaksBy plan self.new log) }
-        ensures taken { (log : List Moment) (text : List ℕ) → ListensTaking number 0
-            self.old.session self.old.bodies self.old.lines.octets.octets log text → OnOk result
-            (WithText (O.state output.old).written (O.state output.new).written
-            (λ more. Listens self.new.session self.new.bodies self.new.lines.octets.octets log
-            (text ++ more))) }
-        ensures wrote { (log : List Moment) (text : List ℕ) → ListensTaking number 0
-            self.old.session self.old.bodies self.old.lines.octets.octets log text → OnErr result
-            (WithText (O.state output.old).written (O.state output.new).written
-            (λ more. WritesLines (plan_of self.old.session) false log
-            ((text ++ more) ++ self.new.lines.octets.octets))) }
-        ensures stopped { IfErr result (λ stop. SaysNothing stop) }
-        ensures unrefusing { IfErr result (λ stop. IsOtherStop stop) }
-        ensures grew { Grows (O.state output.old).written (O.state output.new).written }
-        ensures failed { IfErr result (λ stop. stop ≡ StopValue.WriteFault
-            → Rose (O.state output.old).faults (O.state output.new).faults) }
-        ensures kept { (O.state output.old).faults ≤ (O.state output.new).faults }
-    {
-        let is_asked = self.take_all(number, output)?;
-        if !is_asked {
-            return Ok(());
-        }
-        match self.refuse(number) {
-            Ok(()) => Ok(()),
-            Err(NoMemory) => Err(Stop::NoMemory),
-        }
-    }
-
-    /// Takes all that has arrived on a channel, and answers whether it ends a request. A frame is
-    /// one part of a message, or several, and the end of its message is its last mark.
-    fn take_all<O: Sink>(&mut self, number: u32, output: &mut O) -> Result<bool, Stop>
+    /// Takes all that has arrived on a channel. A frame is one part of a message, or several, and
+    /// the end of its message is its last mark. A request that it ends waits for its refusal.
+    fn take_all<O: Sink>(&mut self, number: u32, output: &mut O) -> Result<(), Stop>
         ensures stays { StaysOn self.old.session self.new.session }
         ensures serving { (plan : PlainPlan)
             → KeepsServing plan self.old.session self.new.session }
@@ -262,19 +226,17 @@ impl Listener {
             → Rose (O.state output.old).faults (O.state output.new).faults) }
         ensures kept { (O.state output.old).faults ≤ (O.state output.new).faults }
     {
-        let mut is_asked = false;
         for _ in 0..u32::MAX {
             let Some(part) = take_part(&mut self.session, number, self.taken.as_mut_slice()) else {
-                return Ok(is_asked);
+                return Ok(());
             };
             let is_last = part.ended;
-            is_asked = is_asked || is_last && part.tag.kind.is_msg();
             self.took(number, part, output)?;
             if is_last {
-                return Ok(is_asked);
+                return Ok(());
             }
         }
-        Ok(is_asked)
+        Ok(())
     }
 
     /// Uses a part that was taken: one of an answer to the first request goes on with it, or ends

@@ -20,6 +20,7 @@ use Rattle.beep_listener.proofs.PartLemmas.{frame-taking, more-listens, zero-wai
 use Rattle.beep_steps.specs.Speaking.{ComesSpeaking, SpeaksOn, SpeaksWaiting}
 use Rattle.beep_listener.specs.Speaking.{notes_of}
 use Rattle.beep_listener.proofs.RefusingLemmas.{goes-unrefused, stays-unrefused, waits-unrefused}
+use Rattle.beep_listener.proofs.SpeakingLemmas.{taken-speaking}
 use Rattle.beep_listener.proofs.listener.Listener.hear_some.Goals as goal
 
 pub returns-in-Err-settle-clause-stopped : goal.returns-in-Err-settle-clause-stopped
@@ -78,8 +79,8 @@ returns-in-Err-clause-wrote g c log text l =
     let came : CameFrame number a.session n l.on.journal front = subst (λ (x : Came). ComesSo x a.session n l.on.journal front) c.in-Arrived.is (c.in_ok-count.ensures.came log l.on) in
     let taking : ListensTaking number 0 n a.bodies a.lines.octets.octets front text =
     frame-taking a.session n a.bodies a.lines.octets.octets text log front l same number came c.in_ok-count.ensures.going in
-    text-map (g.O.Sink.state c.args.output.now).written (g.O.Sink.state c.take.new.output).written _ _
-    (λ more w. take-stops (plan_of a.session) (plan_of n) same c.in-Err.stop count bytes log ((text ++ more) ++ c.take.new.self.lines.octets.octets) c.in-Err.ensures.stopped w)
+    text-map (g.O.Sink.state c.args.output.now).written (g.O.Sink.state c.take_all.new.output).written _ _
+    (λ more w. take-stops (plan_of a.session) (plan_of n) same c.in-Err.stop count bytes log ((text ++ more) ++ c.take_all.new.self.lines.octets.octets) c.in-Err.ensures.stopped w)
     (c.in-Err.ensures.wrote front text taking)
 
 pub returns-in-Ok-settle-clause-heard : goal.returns-in-Ok-settle-clause-heard
@@ -119,7 +120,7 @@ pub returns-in-Ok-clause-serving : goal.returns-in-Ok-clause-serving
 returns-in-Ok-clause-serving g c plan log s =
     let front = got_all (take c.in_ok-count.count c.args.bytes.now) log in
     let came = subst (λ (x : Came). ComesServing plan x c.hear_next.new.session front) c.in-Arrived.is (c.in_ok-count.ensures.serving plan log s) in
-    c.take.ensures.serving plan front came
+    c.take_all.ensures.serving plan front came
 
 pub returns-in-Ok-settle-clause-serving : goal.returns-in-Ok-settle-clause-serving
 returns-in-Ok-settle-clause-serving g c plan log s =
@@ -149,7 +150,9 @@ returns-in-Ok-clause-speaking g c plan log text l served s =
     let serves : ServesOn plan n front = subst (λ (x : Came). ComesServing plan x n front) c.in-Arrived.is (c.in_ok-count.ensures.serving plan log served) in
     let speaks : SpeaksOn plan (notes_of a) n front = subst (λ (x : Came). ComesSpeaking plan (notes_of a) x n front) c.in-Arrived.is (c.in_ok-count.ensures.speaking plan (notes_of a) log s.0) in
     let desk : DesksWithin plan n front = subst (λ (x : Came). ComesDesk plan x n front) c.in-Arrived.is (c.in_ok-count.ensures.desk plan log s.1) in
-    c.in-Ok.ensures.speaking plan front text taking serves (speaks, desk)
+    let m = c.take_all.new.self in
+    let taken = c.in-Ok.ensures.taken front text taking in
+    taken-speaking plan (notes_of m) m.session front (c.take_all.ensures.serving plan front serves) taken.2.taken (c.take_all.ensures.speaking plan front serves (speaks, desk))
 
 pub returns-in-Ok-settle-clause-speaking : goal.returns-in-Ok-settle-clause-speaking
 returns-in-Ok-settle-clause-speaking g c plan log text l served s =
@@ -179,7 +182,7 @@ returns-in-Ok-clause-unrefused g c log u =
     let n = c.hear_next.new.session in
     let front = got_all (take c.in_ok-count.count c.args.bytes.now) log in
     let on : StandsOn n front = subst (λ (x : Came). ComesOn x n front) c.in-Arrived.is (c.in_ok-count.ensures.heard log u.on) in
-    stays-unrefused n c.take.new.self.session front c.take.ensures.stays
+    stays-unrefused n c.take_all.new.self.session front c.take_all.ensures.stays
     (goes-unrefused a.session n front false on c.hear_next.ensures.terms u.role
     (subst (λ (x : Came). ComesUnrefused Command.Listen false x n front) c.in-Arrived.is (c.in_ok-count.ensures.unrefused Command.Listen false log u.on u.unrefused)))
 

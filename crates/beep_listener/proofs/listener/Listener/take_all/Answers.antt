@@ -58,8 +58,8 @@ returns-in_err-took-clause-wrote g c log text t =
 pub returns-in_err-took-clause-grew : goal.returns-in_err-took-clause-grew
 returns-in_err-took-clause-grew g c = grown-more _ (g.O.Sink.state c.loop.output).written _ c.loop.invariant.grew c.took.ensures.grew
 
-pub returns-then-is_last-2-clause-grew : goal.returns-then-is_last-2-clause-grew
-returns-then-is_last-2-clause-grew g c = grown-more _ (g.O.Sink.state c.loop.output).written _ c.loop.invariant.grew c.took.ensures.grew
+pub returns-then-is_last-clause-grew : goal.returns-then-is_last-clause-grew
+returns-then-is_last-clause-grew g c = grown-more _ (g.O.Sink.state c.loop.output).written _ c.loop.invariant.grew c.took.ensures.grew
 
 pub loop-init : goal.loop-init
 loop-init g c = record {
@@ -136,17 +136,17 @@ returns-clause-speaking g c plan log v s =
     let a = c.args.self.now in
     subst (λ n. TakesOn plan n c.loop.self.session log) (sym c.loop.invariant.noted) (c.loop.invariant.speaking plan (notes_of a) log v s)
 
-pub returns-then-is_last-2-clause-stays : goal.returns-then-is_last-2-clause-stays
-returns-then-is_last-2-clause-stays g c =
+pub returns-then-is_last-clause-stays : goal.returns-then-is_last-clause-stays
+returns-then-is_last-clause-stays g c =
     subst (λ (h : Held). StaysOn c.args.self.now.session h) (sym c.took.ensures.session)
     (stays-trans c.args.self.now.session c.loop.self.session c.take_part.new.session c.loop.invariant.stays c.take_part.ensures.stays)
 
-pub returns-then-is_last-2-clause-serving : goal.returns-then-is_last-2-clause-serving
-returns-then-is_last-2-clause-serving g c plan log s =
+pub returns-then-is_last-clause-serving : goal.returns-then-is_last-clause-serving
+returns-then-is_last-clause-serving g c plan log s =
     subst (λ (h : Held). ServesOn plan h log) (sym c.took.ensures.session) (c.take_part.ensures.serving plan log (c.loop.invariant.serving plan log s))
 
-pub returns-then-is_last-2-clause-taken : goal.returns-then-is_last-2-clause-taken
-returns-then-is_last-2-clause-taken g c log text t =
+pub returns-then-is_last-clause-taken : goal.returns-then-is_last-clause-taken
+returns-then-is_last-clause-taken g c log text t =
     let state = g.O.Sink.state in
     let l = c.loop.self in
     let part = c.in-Some.part in
@@ -159,14 +159,14 @@ returns-then-is_last-2-clause-taken g c log text t =
     (λ more k. subst (λ (h : Held). WithText (state c.loop.output).written (state c.took.new.output).written
     (λ two. Listens h n.bodies n.lines.octets.octets log ((text ++ more) ++ two))) (sym c.took.ensures.session)
     (takes-last c.args.number c.loop.counter l.session c.take_part.new.session l.bodies n.bodies l.lines.octets.octets n.lines.octets.octets (text ++ more) log part octets
-    (λ log left. c.in-Some.ensures.part log left) k c.if-is_last-2.true c.take_part.ensures.stays
+    (λ log left. c.in-Some.ensures.part log left) k c.if-is_last.true c.take_part.ensures.stays
     (subst (λ x. PartOf c.args.number (part_marks part x) l.bodies n.bodies) same c.in_ok-took.ensures.bodies) (state c.loop.output).written (state c.took.new.output).written
     (subst (λ x. GathersAll (state c.loop.output).written (state c.took.new.output).written l.lines.octets.octets (part_lines c.args.number part x l.bodies) n.lines.octets.octets) same
     c.in_ok-took.ensures.ok)))
     (c.loop.invariant.taking log text t)
 
-pub returns-then-is_last-2-clause-speaking : goal.returns-then-is_last-2-clause-speaking
-returns-then-is_last-2-clause-speaking g c plan log v s =
+pub returns-then-is_last-clause-speaking : goal.returns-then-is_last-clause-speaking
+returns-then-is_last-clause-speaking g c plan log v s =
     let a = c.args.self.now in
     let n = c.took.new.self in
     let b = c.loop.invariant.speaking plan (notes_of a) log v s in

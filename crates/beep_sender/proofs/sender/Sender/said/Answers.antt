@@ -1,5 +1,5 @@
 -- What went out was a frame.
-use Rattle.std.proofs.Common.{subst, refl, sym}
+use Rattle.std.proofs.Common.{subst, refl}
 use Rattle.beep_steps.specs.beep_speaking.specs.declared.emit.Emit.{Emit}
 use Rattle.beep_steps.specs.Sending.{SendsOn, went_by}
 use Rattle.beep_sender.specs.Sender.{plan_of, progress_of}

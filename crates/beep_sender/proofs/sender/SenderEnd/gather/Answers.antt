@@ -30,8 +30,8 @@ loop-init c = record {
   );
 }
 
-pub returns-then-spare-lt-FRAME_ROOM-clause-said : goal.returns-then-spare-lt-FRAME_ROOM-clause-said
-returns-then-spare-lt-FRAME_ROOM-clause-said c log text s = c.loop.invariant.scripted (moments log) s
+pub returns-then-not-takes_more-clause-said : goal.returns-then-not-takes_more-clause-said
+returns-then-not-takes_more-clause-said c log text s = c.loop.invariant.scripted (moments log) s
 
 -- what was said, and then what was given
 pub returns-then-not-branch-clause-said : goal.returns-then-not-branch-clause-said
@@ -68,8 +68,8 @@ returns-then-not-branch-clause-rested c log text s =
     (subst (λ (e : Emit). RestsAfter e c.say_next-said.new.session) none.0 (c.say_next-said.ensures.rests (moments log) t.0.0.sends.on)) in
     ok-map c.refill-then-not-branch.result _ _ (λ given r false_is short. let h = r false_is short in λ awake. (still-said m n h.0 (said (awake-before m n h.0 awake)), h.1 awake)) c.refill-then-not-branch.ensures.rests
 
-pub returns-then-spare-lt-FRAME_ROOM-clause-rested : goal.returns-then-spare-lt-FRAME_ROOM-clause-rested
-returns-then-spare-lt-FRAME_ROOM-clause-rested c log text s none = absurd (let h : true ≡ false = none in cc)
+pub returns-then-not-takes_more-clause-rested : goal.returns-then-not-takes_more-clause-rested
+returns-then-not-takes_more-clause-rested c log text s none = absurd (let h : true ≡ false = none in cc)
 
 pub returns-clause-rested : goal.returns-clause-rested
 returns-clause-rested c log text s none = absurd (let h : true ≡ false = none in cc)
