@@ -1,7 +1,7 @@
 /* A sender and a collector of lines by RAW over BEEP (RFC 3195, section 3), with the frames and the exchanges of `beep send`
- * and `beep listen`: the same windows, a SEQ once half a window has opened, one write once a quarter of the buffer is full and
- * one for the rest. Nothing of what a peer sends is checked.
- * usage: raw listen PORT WINDOW | raw send PORT PIECE */
+ * and `beep listen`: the same windows, a SEQ once half a window has opened, one write for all that is gathered, and for MOST
+ * octets of it at the latest. Nothing of what a peer sends is checked.
+ * usage: raw listen PORT WINDOW | raw send PORT PIECE MOST */
 #include <arpa/inet.h>
 #include <netinet/tcp.h>
 #include <stdio.h>
@@ -12,7 +12,6 @@
 
 #define BUFFER 65536
 #define READ BUFFER
-#define PART (BUFFER / 4)
 #define MIME "Content-Type: application/beep+xml\r\n\r\n"
 #define PROFILE "<profile uri='http://xml.resource.org/profiles/syslog/RAW' />"
 
@@ -197,7 +196,7 @@ static void collect(int link, unsigned window)
 /* ---- the sender */
 
 static char *input;
-static size_t size, at_line;
+static size_t size, at_line, most;
 static unsigned sent, open_to = 4096, answer;
 
 /* Puts octets of the body of a line, from one on: a line end, the line and a line end. */
@@ -246,7 +245,7 @@ static int put_answer(unsigned piece, unsigned *done)
 static int say(int link, unsigned piece, unsigned *done)
 {
     while (at_line < size && put_answer(piece, done))
-        if (gathered >= PART)
+        if (gathered >= most)
             flush(link);
     if (at_line == size) {
         put_text("NUL 1 0 . ");
@@ -302,10 +301,12 @@ int main(int argc, char **argv)
 {
     struct sockaddr_in address = {.sin_family = AF_INET, .sin_addr.s_addr = htonl(INADDR_LOOPBACK)};
     int link = socket(AF_INET, SOCK_STREAM, 0), yes = 1;
-    if (argc != 4 || link < 0)
+    int sends = argc == 5 && strcmp(argv[1], "send") == 0;
+    if ((argc != 4 && !sends) || link < 0)
         return 2;
     address.sin_port = htons(atoi(argv[2]));
-    if (strcmp(argv[1], "send") == 0) {
+    if (sends) {
+        most = atoi(argv[4]);
         if (connect(link, (struct sockaddr *)&address, sizeof address))
             return 3;
         setsockopt(link, IPPROTO_TCP, TCP_NODELAY, &yes, sizeof yes);

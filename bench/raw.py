@@ -4,11 +4,12 @@
 usage: bench/raw.py [ROUNDS]
 
 In each of ROUNDS (5) rounds every run is made once, and beside it that of bench/raw.c, a sender and a collector in C that
-make the same frames in the same exchanges and check nothing. The table has the medians, from the start of the sender to
-the end of both processes: lines and MB a second, microseconds on the processor for a line at both ends together, and the
-ratios to the C pair, of the time and of the processor. Each end has a processor of its own, where there are two: else the
-scheduler has both on one now and then. What the collector writes is compared with what was sent. Then, where there is
-strace, the system calls of both ends for a line.
+make the same frames in the same exchanges and check nothing: once with one write for each buffer that is full, and once with
+one for each quarter of it, as `beep` writes. The table has the medians, from the start of the sender to the end of both
+processes: lines and MB a second, microseconds on the processor for a line at both ends together, and the ratios to the C pair
+with whole buffers, of the time and of the processor, and of the time to the one with quarters. Each end has a processor of its
+own, where there are two: else the scheduler has both on one now and then. What the collector writes is compared with what was
+sent. Then, where there is strace, the system calls of both ends for a line, and those of the C pair with whole buffers.
 """
 import filecmp
 import os
@@ -34,6 +35,10 @@ WINDOWS = ["4096", "65536"]
 # The octets of a payload at most: what `beep send` takes where nothing is set.
 PIECE = "1024"
 
+# How much the C pair gathers before it writes: as much as its buffer holds of whole frames, or a quarter of that buffer.
+BUFFER = 65536 - 4163
+QUARTER = 16384
+
 
 def free_port():
     with socket.socket() as link:
@@ -52,11 +57,11 @@ def processor():
     return used.ru_utime + used.ru_stime
 
 
-def commands(pair, window):
+def commands(pair, window, most=BUFFER):
     """The words of a collector and a sender."""
     port = free_port()
     if pair:
-        return [pair, "listen", port, window], [pair, "send", port, PIECE]
+        return [pair, "listen", port, window], [pair, "send", port, PIECE, str(most)]
     listen = [PROGRAM, "listen", "--port", port, "--window", window]
     return listen, [PROGRAM, "send", "--host", "127.0.0.1", "--port", port, "--piece", PIECE]
 
@@ -81,11 +86,12 @@ def measure(words, lines, before=((), ())):
 
 
 def print_times(pair, lines, length, window, rounds):
-    found = [(*measure(commands(None, window), lines), *measure(commands(pair, window), lines)) for _ in range(rounds)]
-    took, used, c_took, c_used = (statistics.median(column) for column in zip(*found))
+    runs = [(None, BUFFER), (pair, BUFFER), (pair, QUARTER)]
+    found = [[figure for who, most in runs for figure in measure(commands(who, window, most), lines)] for _ in range(rounds)]
+    took, used, c_took, c_used, quarters_took, _ = (statistics.median(column) for column in zip(*found))
     count = SIZE // length
     print(f"{length:6} {window:>6} {count / took:10.0f} {SIZE / took / 1e6:7.1f} {used / count * 1e6:9.3f}"
-          f" {took / c_took:6.2f} {used / c_used:6.2f}")
+          f" {took / c_took:6.2f} {used / c_used:6.2f} {took / quarters_took:8.2f}")
 
 
 def calls(report):
@@ -117,7 +123,7 @@ def main():
     with tempfile.TemporaryDirectory() as folder:
         pair = Path(folder) / "raw"
         subprocess.run(["gcc", "-O2", "-o", pair, TOP / "bench/raw.c"], check=True)
-        print("octets window    lines/s    MB/s   us/line   time    CPU")
+        print("octets window    lines/s    MB/s   us/line   time    CPU quarters")
         for lines, length, window in each(folder):
             print_times(pair, lines, length, window, rounds)
         if shutil.which("strace"):
