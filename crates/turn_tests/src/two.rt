@@ -112,7 +112,7 @@ pub fn take_turns<E: End, F: End, W: Wires, O: Sink>(
     ensures other_terms { F.terms other.new.end ≡ F.terms other.old.end }
 {
     loop {
-        match turn(
+        if let Err(ended) = turn(
             &mut one.end,
             buffers,
             wires,
@@ -121,10 +121,9 @@ pub fn take_turns<E: End, F: End, W: Wires, O: Sink>(
             &mut one.left,
             output,
         ) {
-            Ok(()) => {}
-            Err(ended) => return Which::One(ended),
+            return Which::One(ended);
         }
-        match turn(
+        if let Err(ended) = turn(
             &mut other.end,
             buffers,
             wires,
@@ -133,8 +132,7 @@ pub fn take_turns<E: End, F: End, W: Wires, O: Sink>(
             &mut other.left,
             output,
         ) {
-            Ok(()) => {}
-            Err(ended) => return Which::Other(ended),
+            return Which::Other(ended);
         }
     }
 }

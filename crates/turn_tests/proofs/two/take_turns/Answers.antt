@@ -68,7 +68,7 @@ returns-in-Err-turn-clause-shared g c text late s t =
     (shared-one (g.O.Sink.state c.args.output.now).written (g.O.Sink.state c.loop-ended.output).written (g.O.Sink.state c.turn.new.output).written text
     (W.state c.loop-ended.wires) (W.state c.turn.new.wires) c.loop-ended.one.link c.args.one.now.link c.args.other.now.link i.one_link c.requires.apart c.turn.ensures.keeps.others
     (λ own log. E.stands c.loop-ended.one.end log [] own) (λ own log. E.stands c.turn.new.end log [] own) (λ more log. F.stands c.loop-ended.other.end log [] (late ++ more))
-    c.in-Ok.ensures.stands (i.shared text late s t)))
+    c.in_default.ensures.stands (i.shared text late s t)))
 
 pub returns-in-Err-clause-one_caused : goal.returns-in-Err-clause-one_caused
 returns-in-Err-clause-one_caused g c before s =
@@ -104,7 +104,7 @@ returns-in-Err-turn-clause-one_caused g c before s =
     let i = c.loop-ended.invariant in
     subst (λ (reads : Reads). IsSince before reads c.turn.new.left (look_at (W.state c.turn-in-loop-ended.new.wires) (W.counts c.turn-in-loop-ended.new.wires) c.args.one.now.link)) i.one_reads
     (since-beside (W.state c.turn.new.wires) (W.state c.turn-in-loop-ended.new.wires) (W.counts c.turn.new.wires) (W.counts c.turn-in-loop-ended.new.wires) c.loop-ended.other.link c.args.other.now.link i.other_link before c.loop-ended.one.reads c.turn.new.left c.args.one.now.link (λ e. c.requires.apart (sym e)) c.turn-in-loop-ended.ensures.keeps.others c.turn-in-loop-ended.ensures.keeps.quiets
-    (since-on (W.state c.loop-ended.wires) (W.state c.turn.new.wires) (W.counts c.loop-ended.wires) (W.counts c.turn.new.wires) c.loop-ended.one.link c.args.one.now.link i.one_link before c.loop-ended.one.reads c.loop-ended.one.left c.turn.new.left c.in-Ok.ensures.unfailed (c.in-Ok.ensures.counted before.quiets) (c.in-Ok.ensures.came before.link.reads) (i.one_since before s)))
+    (since-on (W.state c.loop-ended.wires) (W.state c.turn.new.wires) (W.counts c.loop-ended.wires) (W.counts c.turn.new.wires) c.loop-ended.one.link c.args.one.now.link i.one_link before c.loop-ended.one.reads c.loop-ended.one.left c.turn.new.left c.in_default.ensures.unfailed (c.in_default.ensures.counted before.quiets) (c.in_default.ensures.came before.link.reads) (i.one_since before s)))
 
 pub returns-in-Err-turn-clause-other_caused : goal.returns-in-Err-turn-clause-other_caused
 returns-in-Err-turn-clause-other_caused g c before s =
@@ -183,21 +183,21 @@ loop-ended-preserved g c =
       one_link = i.one_link;
       other_link = i.other_link;
       one_going = going-beside (W.state c.turn.new.wires) (W.state c.turn-in-loop-ended.new.wires) c.loop-ended.other.link c.args.other.now.link c.args.one.now.link c.loop-ended.one.reads c.turn.new.left i.other_link (λ e. c.requires.apart (sym e)) second.others
-          (going-on (W.state c.turn.new.wires) c.loop-ended.one.link c.args.one.now.link c.loop-ended.one.reads c.turn.new.left i.one_link first.still_open c.in-Ok.ensures.going c.in-Ok.ensures.shown);
-      other_going = going-on (W.state c.turn-in-loop-ended.new.wires) c.loop-ended.other.link c.args.other.now.link c.loop-ended.other.reads c.turn-in-loop-ended.new.left i.other_link second.still_open c.in-Ok-turn.ensures.going c.in-Ok-turn.ensures.shown;
+          (going-on (W.state c.turn.new.wires) c.loop-ended.one.link c.args.one.now.link c.loop-ended.one.reads c.turn.new.left i.one_link first.still_open c.in_default.ensures.going c.in_default.ensures.shown);
+      other_going = going-on (W.state c.turn-in-loop-ended.new.wires) c.loop-ended.other.link c.args.other.now.link c.loop-ended.other.reads c.turn-in-loop-ended.new.left i.other_link second.still_open c.in_default-turn.ensures.going c.in_default-turn.ensures.shown;
       one_reads = i.one_reads;
       other_reads = i.other_reads;
       one_since = λ before s.
           since-beside (W.state c.turn.new.wires) (W.state c.turn-in-loop-ended.new.wires) (W.counts c.turn.new.wires) (W.counts c.turn-in-loop-ended.new.wires) c.loop-ended.other.link c.args.other.now.link i.other_link before c.loop-ended.one.reads c.turn.new.left c.args.one.now.link (λ e. c.requires.apart (sym e)) c.turn-in-loop-ended.ensures.keeps.others c.turn-in-loop-ended.ensures.keeps.quiets
-          (since-on (W.state c.loop-ended.wires) (W.state c.turn.new.wires) (W.counts c.loop-ended.wires) (W.counts c.turn.new.wires) c.loop-ended.one.link c.args.one.now.link i.one_link before c.loop-ended.one.reads c.loop-ended.one.left c.turn.new.left c.in-Ok.ensures.unfailed (c.in-Ok.ensures.counted before.quiets) (c.in-Ok.ensures.came before.link.reads) (i.one_since before s));
+          (since-on (W.state c.loop-ended.wires) (W.state c.turn.new.wires) (W.counts c.loop-ended.wires) (W.counts c.turn.new.wires) c.loop-ended.one.link c.args.one.now.link i.one_link before c.loop-ended.one.reads c.loop-ended.one.left c.turn.new.left c.in_default.ensures.unfailed (c.in_default.ensures.counted before.quiets) (c.in_default.ensures.came before.link.reads) (i.one_since before s));
       other_since = λ before s.
-          since-on (W.state c.turn.new.wires) (W.state c.turn-in-loop-ended.new.wires) (W.counts c.turn.new.wires) (W.counts c.turn-in-loop-ended.new.wires) c.loop-ended.other.link c.args.other.now.link i.other_link before c.loop-ended.other.reads c.loop-ended.other.left c.turn-in-loop-ended.new.left c.in-Ok-turn.ensures.unfailed (c.in-Ok-turn.ensures.counted before.quiets) (c.in-Ok-turn.ensures.came before.link.reads)
+          since-on (W.state c.turn.new.wires) (W.state c.turn-in-loop-ended.new.wires) (W.counts c.turn.new.wires) (W.counts c.turn-in-loop-ended.new.wires) c.loop-ended.other.link c.args.other.now.link i.other_link before c.loop-ended.other.reads c.loop-ended.other.left c.turn-in-loop-ended.new.left c.in_default-turn.ensures.unfailed (c.in_default-turn.ensures.counted before.quiets) (c.in_default-turn.ensures.came before.link.reads)
           (since-beside (W.state c.loop-ended.wires) (W.state c.turn.new.wires) (W.counts c.loop-ended.wires) (W.counts c.turn.new.wires) c.loop-ended.one.link c.args.one.now.link i.one_link before c.loop-ended.other.reads c.loop-ended.other.left c.args.other.now.link c.requires.apart c.turn.ensures.keeps.others c.turn.ensures.keeps.quiets (i.other_since before s));
       one_stood = λ text s.
           stood-beside (W.state c.turn.new.wires) (W.state c.turn-in-loop-ended.new.wires) c.loop-ended.other.link c.args.other.now.link i.other_link (λ own log. E.stands c.turn.new.end log [] own) c.args.one.now.link (λ e. c.requires.apart (sym e)) c.turn-in-loop-ended.ensures.keeps.others
-          (stood-on (W.state c.loop-ended.wires) (W.state c.turn.new.wires) c.loop-ended.one.link c.args.one.now.link i.one_link (λ own log. E.stands c.loop-ended.one.end log [] own) (λ own log. E.stands c.turn.new.end log [] own) (g.O.Sink.state c.loop-ended.output).written (g.O.Sink.state c.turn.new.output).written c.in-Ok.ensures.stands (i.one_stood text s));
+          (stood-on (W.state c.loop-ended.wires) (W.state c.turn.new.wires) c.loop-ended.one.link c.args.one.now.link i.one_link (λ own log. E.stands c.loop-ended.one.end log [] own) (λ own log. E.stands c.turn.new.end log [] own) (g.O.Sink.state c.loop-ended.output).written (g.O.Sink.state c.turn.new.output).written c.in_default.ensures.stands (i.one_stood text s));
       other_stood = λ text s.
-          stood-on (W.state c.turn.new.wires) (W.state c.turn-in-loop-ended.new.wires) c.loop-ended.other.link c.args.other.now.link i.other_link (λ own log. F.stands c.loop-ended.other.end log [] own) (λ own log. F.stands c.turn-in-loop-ended.new.end log [] own) (g.O.Sink.state c.turn.new.output).written (g.O.Sink.state c.turn-in-loop-ended.new.output).written c.in-Ok-turn.ensures.stands
+          stood-on (W.state c.turn.new.wires) (W.state c.turn-in-loop-ended.new.wires) c.loop-ended.other.link c.args.other.now.link i.other_link (λ own log. F.stands c.loop-ended.other.end log [] own) (λ own log. F.stands c.turn-in-loop-ended.new.end log [] own) (g.O.Sink.state c.turn.new.output).written (g.O.Sink.state c.turn-in-loop-ended.new.output).written c.in_default-turn.ensures.stands
           (stood-beside (W.state c.loop-ended.wires) (W.state c.turn.new.wires) c.loop-ended.one.link c.args.one.now.link i.one_link (λ own log. F.stands c.loop-ended.other.end log [] own) c.args.other.now.link c.requires.apart c.turn.ensures.keeps.others (i.other_stood text s));
       one_waits = λ text s w.
           waits-beside (W.state c.turn.new.wires) (W.state c.turn-in-loop-ended.new.wires) c.loop-ended.other.link c.args.other.now.link i.other_link (λ own log. E.stands c.turn.new.end log [] own) (IsToldIdle (E.tells (E.terms c.args.one.now.end))) c.args.one.now.link (λ e. c.requires.apart (sym e)) c.turn-in-loop-ended.ensures.keeps.others
@@ -221,9 +221,9 @@ loop-ended-preserved g c =
           shared-other (g.O.Sink.state c.args.output.now).written (g.O.Sink.state c.turn.new.output).written (g.O.Sink.state c.turn-in-loop-ended.new.output).written late
           (W.state c.turn.new.wires) (W.state c.turn-in-loop-ended.new.wires) c.loop-ended.other.link c.args.other.now.link c.args.one.now.link i.other_link (λ e. c.requires.apart (sym e)) second.others
           (λ own log. F.stands c.loop-ended.other.end log [] own) (λ own log. F.stands c.turn-in-loop-ended.new.end log [] own) (λ more log. E.stands c.turn.new.end log [] (text ++ more))
-          c.in-Ok-turn.ensures.stands
+          c.in_default-turn.ensures.stands
           (shared-one (g.O.Sink.state c.args.output.now).written (g.O.Sink.state c.loop-ended.output).written (g.O.Sink.state c.turn.new.output).written text
           (W.state c.loop-ended.wires) (W.state c.turn.new.wires) c.loop-ended.one.link c.args.one.now.link c.args.other.now.link i.one_link c.requires.apart first.others
           (λ own log. E.stands c.loop-ended.one.end log [] own) (λ own log. E.stands c.turn.new.end log [] own) (λ more log. F.stands c.loop-ended.other.end log [] (late ++ more))
-          c.in-Ok.ensures.stands (i.shared text late s t));
+          c.in_default.ensures.stands (i.shared text late s t));
     }
