@@ -1,24 +1,44 @@
 //! The program `beep`: it makes the real source, sink and links, makes one call, hands on its
-//! status, and says on standard error what a status but 0 means.
+//! status, and says on standard error what a status but 0 means and what caused it.
 #![tactic(auto)]
 
+mod cause;
+mod usage;
+
+use crate::cause::{Why, meaning_of};
 use beep_cmd::{beep_run, status};
-use beep_std::{StdSink, StdSource, StdWires};
+use beep_std::{StdSink, StdSource, StdWires, hold_streams};
 use std::alloc::Global;
 use std::env::{self, Env};
-use std::io::{self, ErrorKind};
+use std::io::{self, ErrorKind, IsTerminal};
 use std::process::ExitCode;
 
+/// Why a stream that wasn't open when the program began can't be read or written.
+const CLOSED: &str = "it wasn't open when the program began";
+
 fn main(rt: HostRuntime) -> ExitCode {
+    let streams = match hold_streams(&rt) {
+        Ok(streams) => streams,
+        Err(why) => return early(&rt, status::WRITE_FAULT, Why::Error(why)),
+    };
     let words = match words_of(&rt) {
         Ok(words) => words,
-        Err(e) if e.kind() == ErrorKind::OutOfMemory => return ended(&rt, status::NO_MEMORY),
+        Err(e) if e.kind() == ErrorKind::OutOfMemory => return early(
+            &rt,
+            status::NO_MEMORY,
+            Why::Unknown,
+        ),
         // A word that is no text is no command, as no word at all.
         Err(_) => Vec::new(rt.alloc()),
     };
+    // What a peer sends would be lost: none is asked for it.
+    if !streams.output && command_of(&words) == "listen" {
+        return early(&rt, status::WRITE_FAULT, Why::Text(CLOSED));
+    }
     let mut input = StdSource::new(rt.stdin());
     let mut output = StdSink::new(rt.stdout());
-    let mut wires = StdWires::new(rt.alloc(), rt);
+    let shows_progress = rt.stderr().is_terminal() && !is_quiet(&words);
+    let mut wires = StdWires::new(rt.alloc(), rt, shows_progress);
     let status = beep_run(
         rt.alloc(),
         words.as_slice(),
@@ -26,7 +46,33 @@ fn main(rt: HostRuntime) -> ExitCode {
         &mut output,
         &mut wires,
     );
-    ended(&rt, status)
+    if status == status::USAGE {
+        usage::say_fault(&rt, words.as_slice());
+        return ExitCode::from(status);
+    }
+    let why = match status {
+        status::READ_FAULT if !streams.input => Why::Text(CLOSED),
+        status::READ_FAULT => Why::of_error(input.why()),
+        status::WRITE_FAULT if !streams.output => Why::Text(CLOSED),
+        status::WRITE_FAULT => Why::of_error(output.why()),
+        status::WIRE_FAULT => Why::of_text(wires.why()),
+        _ => Why::Unknown,
+    };
+    let meaning = meaning_of(status, command_of(&words), output.tail());
+    ended(&rt, status, meaning, why)
+}
+
+/// The first word, or none at all.
+fn command_of(words: &Vec<String>) -> &str {
+    match words.first() {
+        Some(word) => word.as_str(),
+        None => "",
+    }
+}
+
+/// Whether the words say that nothing is to be told of a session.
+fn is_quiet(words: &Vec<String>) -> bool {
+    words.windows(2).any(|pair| pair[0].as_str() == "--quiet" && pair[1].as_str() == "yes")
 }
 
 /// The words after the program's name.
@@ -38,39 +84,16 @@ fn words_of<R: Env + Alloc<A = Global>>(rt: &R) -> io::Result<Vec<String>> {
     Ok(words)
 }
 
-/// Says what the status means, unless it is 0. Where that write fails nothing is left to be said.
-fn ended(rt: &HostRuntime, status: u8) -> ExitCode {
-    if status != status::FINE {
-        let meaning = meaning_of(status);
-        let _ = eprintln!(rt; "beep: {meaning}");
-    }
-    ExitCode::from(status)
+/// Ends before a command has begun.
+fn early(rt: &HostRuntime, status: u8, why: Why<'_>) -> ExitCode {
+    ended(rt, status, meaning_of(status, "", &[]), why)
 }
 
-/// What a status but 0 means (docs/COMMANDS.md).
-fn meaning_of(status: u8) -> &'static str {
-    match status {
-        status::USAGE =>
-            "the words are no command; there are: show [--elements yes|no] [--octets N]; replay; \
-              pair [--window N] [--piece N] [--seed N]; send [--host HOST] [--profile raw] \
-              [OPTIONS]; listen [--offer raw] [--sessions N] [OPTIONS]; where OPTIONS are \
-              --port N, --raw-uri URI, --window N, --piece N, --idle N, --octets N and \
-              --record yes|no",
-        status::BAD =>
-            "the input is no record or schedule, or what was written breaks a rule, or a line of \
-              it is too long, at the place in the last line",
-        status::BROKEN =>
-            "what was read breaks a rule of BEEP, at the octet that the last line names, or the last \
-              line of the record's replay",
-        status::READ_FAULT => "the input couldn't be read",
-        status::WRITE_FAULT => "the output couldn't be written",
-        status::WIRE_FAULT => "the link failed, or none was given",
-        status::NO_MEMORY => "out of memory",
-        status::REFUSED =>
-            "the peer refused, with the code in the last line, unless a record was written",
-        status::CUT => "what was read ended within a frame, or before the session was released",
-        status::IDLE => "the peer was silent for as many reads as --idle says",
-        status::SPENT => "as many octets were read as --octets says, and one more read was needed",
-        _ => "the run failed",
+/// Says what the status means and what caused it, unless it is 0. Where that write fails nothing is
+/// left to be said.
+fn ended(rt: &HostRuntime, status: u8, meaning: &str, why: Why<'_>) -> ExitCode {
+    if status != status::FINE {
+        let _ = eprintln!(rt; "beep: {meaning}{why}");
     }
+    ExitCode::from(status)
 }

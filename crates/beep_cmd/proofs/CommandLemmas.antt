@@ -4,7 +4,8 @@ use Rattle.beep_show.specs.beep_words.specs.declared.command.ShowSettings.{ShowS
 use Rattle.beep_show.specs.beep_words.specs.declared.command.PairSettings.{PairSettings}
 use Rattle.beep_runs.specs.beep_settings.specs.declared.settings.Settings.{Settings as EndSettings}
 use Rattle.beep_show.specs.beep_words.specs.declared.command.Command.{Command}
-use Rattle.beep_show.specs.beep_words.specs.CommandSet.{IsShow, IsReplay, IsSend, IsListen, IsPair, IsCommand, IsNoCommand, IsOfEnd}
+use Rattle.beep_show.specs.beep_words.specs.declared.command.Topic.{Topic}
+use Rattle.beep_show.specs.beep_words.specs.CommandSet.{IsShow, IsReplay, IsSend, IsListen, IsPair, IsHelp, IsVersion, IsCommand, IsNoCommand, IsOfEnd}
 
 module _ (words : List (List ℕ)) (result : Option Command) (reads : (command : Command) → ((result ≡ Some command) ↔ IsCommand command words)) where
   -- the words say one command
@@ -27,6 +28,15 @@ module _ (words : List (List ℕ)) (result : Option Command) (reads : (command :
   pub not_show : (settings : Settings) → result ≡ Some Command.Replay → IsShow settings words → ⊥
   not_show settings e w =
       let same : Command.Replay ≡ Command.Show settings = same_command Command.Replay (Command.Show settings) e w in
+      cc
+
+  -- words of one command are those of no other
+  pub another : (taken : Command) → result ≡ Some taken → (command : Command) → (taken ≡ command → ⊥) → IsCommand command words → ⊥
+  another taken e command other w = other (same_command taken command e w)
+
+  pub same_topic : (taken topic : Topic) → result ≡ Some (Command.Help taken) → IsHelp topic words → taken ≡ topic
+  same_topic taken topic e w =
+      let same : Command.Help taken ≡ Command.Help topic = same_command (Command.Help taken) (Command.Help topic) e w in
       cc
 
   -- a command that is read isn't none
@@ -52,6 +62,8 @@ module _ (words : List (List ℕ)) (result : Option Command) (reads : (command :
     not_show = λ settings w. let same : Command.Send taken ≡ Command.Show settings = same_command (Command.Send taken) (Command.Show settings) e w in cc;
     not_replay = λ w. let same : Command.Send taken ≡ Command.Replay = same_command (Command.Send taken) Command.Replay e w in cc;
     not_pair = λ settings w. let same : Command.Send taken ≡ Command.Pair settings = same_command (Command.Send taken) (Command.Pair settings) e w in cc;
+    not_help = λ topic w. let same : Command.Send taken ≡ Command.Help topic = same_command (Command.Send taken) (Command.Help topic) e w in cc;
+    not_version = λ w. let same : Command.Send taken ≡ Command.Version = same_command (Command.Send taken) Command.Version e w in cc;
   }
 
   pub listens : (taken : EndSettings) → result ≡ Some (Command.Listen taken) → IsOfEnd words
@@ -60,6 +72,8 @@ module _ (words : List (List ℕ)) (result : Option Command) (reads : (command :
     not_show = λ settings w. let same : Command.Listen taken ≡ Command.Show settings = same_command (Command.Listen taken) (Command.Show settings) e w in cc;
     not_replay = λ w. let same : Command.Listen taken ≡ Command.Replay = same_command (Command.Listen taken) Command.Replay e w in cc;
     not_pair = λ settings w. let same : Command.Listen taken ≡ Command.Pair settings = same_command (Command.Listen taken) (Command.Pair settings) e w in cc;
+    not_help = λ topic w. let same : Command.Listen taken ≡ Command.Help topic = same_command (Command.Listen taken) (Command.Help topic) e w in cc;
+    not_version = λ w. let same : Command.Listen taken ≡ Command.Version = same_command (Command.Listen taken) Command.Version e w in cc;
   }
 
   -- words of the other commands aren't `send`, nor `listen`
@@ -108,3 +122,8 @@ pub not_unlinked : (words : List (List ℕ)) → IsOfEnd words → (settings : S
 not_unlinked words o settings (inl w) = o.not_show settings w
 not_unlinked words o settings (inr (inl w)) = o.not_replay w
 not_unlinked words o settings (inr (inr w)) = o.some w
+
+-- words that ask nothing
+pub not_asked : (words : List (List ℕ)) → ((topic : Topic) → IsHelp topic words → ⊥) → (IsVersion words → ⊥) → (topic : Topic) → IsHelp topic words ⊎ IsVersion words → ⊥
+not_asked words help version topic (inl w) = help topic w
+not_asked words help version topic (inr w) = version w

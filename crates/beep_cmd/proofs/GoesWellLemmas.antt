@@ -34,7 +34,7 @@ module _ (role : Role) (settings : Settings) (link : Link) (well : LinkGoesWell 
       well.unbroken _ (ap (λ (p : Past). p.fault) (sym same) ∙ fault.broken.fault_is) refl
 
   not_failed : EndsIn role settings Ended.WireFault link → ⊥
-  not_failed e = let some : 0 < link.faults = e.0.because in omega (arith, some, well.unfailed)
+  not_failed e = let one : link.faults ≡ 1 = e.0.because in omega (arith, one, well.unfailed)
 
   not_refused : (code : ℕ) → EndsIn role settings (Ended.Refused code) link → ⊥
   not_refused code e =

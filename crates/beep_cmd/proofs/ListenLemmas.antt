@@ -1,5 +1,5 @@
 -- What a run of `listen` wrote: session after session, and then its last line.
-use Rattle.std.proofs.Common.{◌≡◌, ◌⊎◌, inl, inr, ℕ, ◌+◌, ◌≤◌, Bool, true, false, if◌then◌else◌, List, [], ◌∷◌, Option, Some, None, refl, sym, ap, ◌∙◌, subst, arith}
+use Rattle.std.proofs.Common.{◌≡◌, ◌⊎◌, inl, inr, ℕ, ◌+◌, ◌<◌, ◌≤◌, Bool, true, false, if◌then◌else◌, List, [], ◌∷◌, Option, Some, None, refl, sym, ap, ◌∙◌, subst, arith}
 use Rattle.std.specs.Io.KnownBytes.{Appends}
 use Rattle.std.proofs.KnownBytes.{Appends-nil, Appends-trans}
 use Rattle.beep_runs.specs.beep_wires.specs.Counts.{Rose}
@@ -72,6 +72,15 @@ module _ (settings : Settings) (cause : Ended) (before used after : Seen) (link 
     pub session_lines : Grows old new → WritesSession settings cause before after old new
     session_lines grew = session_with grew (used.state link).log refl
 
+-- what was written between two states of an output was written between any that equal them
+pub text_between : (P : List Entry → List ℕ → Type 0) (log : Option (List Entry)) (a b c d : Option (List ℕ)) → a ≡ b → c ≡ d → WhereKnown (λ l. WithText a c (P l)) log → WhereKnown (λ l. WithText b d (P l)) log
+text_between P log a b c d first last w =
+    subst (λ (x : Option (List ℕ)). WhereKnown (λ l. WithText x d (P l)) log) first (subst (λ (x : Option (List ℕ)). WhereKnown (λ l. WithText a x (P l)) log) last w)
+
+pub session_between : (settings : Settings) (cause : Ended) (before after : Seen) (a b c d : Option (List ℕ)) → a ≡ b → c ≡ d → WritesSession settings cause before after a c → WritesSession settings cause before after b d
+session_between settings cause before after a b c d first last w =
+    subst (λ (x : Option (List ℕ)). WritesSession settings cause before after x d) first (subst (λ (x : Option (List ℕ)). WritesSession settings cause before after a x) last w)
+
 -- ---- session after session
 
 if_so : (b : Bool) (x y : Ended) → b ≡ true → x ≡ (if b then x else y)
@@ -125,7 +134,7 @@ module _ (settings : Settings) (before mid after : Seen) (first ended : Ended) (
 
   -- no link was given
   pub lines_unlinked : after.counts.given ≡ mid.counts.given → new ≡ now → (cause : Ended)
-      → (cause ≡ Ended.WireFault) × Rose before.counts.accepts after.counts.accepts ⊎ (cause ≡ Ended.NoMemory) → WritesSessions settings before after (EndsBy settings before after cause) old new
+      → (cause ≡ Ended.WireFault) × Rose before.counts.accepts after.counts.accepts ⊎ (cause ≡ Ended.NoMemory) × ((after.counts.given < before.counts.given + settings.sessions) ⊎ (after ≡ before)) → WritesSessions settings before after (EndsBy settings before after cause) old new
   lines_unlinked none same cause why = record {
     sessions = w.sessions;
     over = subst (SessionsOver settings after.state before.counts.given w.sessions) (sym none)
@@ -156,7 +165,7 @@ none_written settings before old = record {
   sessions = [];
   over = refl;
   cause = Ended.NoMemory;
-  ends = inr (refl, inr refl);
+  ends = inr (refl, inr (refl, inr refl));
   middle = old;
   kept = omega arith;
   lines = Appends-nil old.written;

@@ -136,13 +136,13 @@ module _ (settings : Settings) (before after : Seen) (told : EachOf before after
   zero_cause cause line status old new z (whole_line is appended) = released_is cause (sym is ∙ z)
   zero_cause cause line status old new z (line_begun is some rose prefix) = absurd (omega (arith, is, z))
 
-  other_end : (cause : Ended) (P : Type 0) → cause ≡ Ended.Released → (cause ≡ Ended.WireFault) × P ⊎ (cause ≡ Ended.NoMemory) → ⊥
-  other_end cause P is = elim [ inl w ↦ (let two : Ended.Released ≡ Ended.WireFault = sym is ∙ w.0 in absurd (cc)) | inr w ↦ (let two : Ended.Released ≡ Ended.NoMemory = sym is ∙ w in absurd (cc)) ]
+  other_end : (cause : Ended) (P Q : Type 0) → cause ≡ Ended.Released → (cause ≡ Ended.WireFault) × P ⊎ (cause ≡ Ended.NoMemory) × Q → ⊥
+  other_end cause P Q is = elim [ inl w ↦ (let two : Ended.Released ≡ Ended.WireFault = sym is ∙ w.0 in absurd (cc)) | inr w ↦ (let two : Ended.Released ≡ Ended.NoMemory = sym is ∙ w.0 in absurd (cc)) ]
 
   links_met : (cause : Ended) (sessions : List Session) → cause ≡ Ended.Released → SessionsOver settings after.state before.counts.given sessions after.counts.given → EndsBy settings before after cause sessions → EachOf before after (LinkGoesWell Role.Listener settings)
   links_met cause sessions is done = elim [
     | inl w ↦ λ link least less. each_met link least less sessions after.counts.given (sym is ∙ w.0) (omega arith) less done
-    | inr w ↦ absurd (other_end cause _ is w.1)
+    | inr w ↦ absurd (other_end cause _ _ is w.1)
   ]
 
   module _ (status : ℕ) (old new : SinkState) (z : status ≡ 0) (no_write : Rose old.faults new.faults → ⊥) (no_accept : Rose before.counts.accepts after.counts.accepts → ⊥) where

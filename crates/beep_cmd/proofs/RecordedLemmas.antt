@@ -1,5 +1,5 @@
 -- How a run that is recorded ends.
-use Rattle.std.proofs.Common.{◌≡◌, ◌≢◌, inl, inr, ⊎_elim, ℕ, ◌+◌, ◌≤◌, true, false, List, [], ◌∷◌, ◌++◌, codes, refl, sym, ap, ◌∙◌, subst, arith, append_assoc}
+use Rattle.std.proofs.Common.{◌≡◌, ◌≢◌, inl, inr, ⊎_elim, ℕ, ◌+◌, ◌≤◌, true, false, List, [], ◌∷◌, ◌++◌, chars, codes, refl, sym, ap, ◌∙◌, subst, arith, append_assoc}
 use Rattle.std.proofs.lemmas.List.{append-nil}
 use Rattle.std.specs.Fmt.{decimal}
 use Rattle.std.specs.Io.KnownBytes.{Appends, Consumes}
@@ -26,7 +26,7 @@ use Rattle.beep_show.specs.beep_input.specs.Lines.{AreLines}
 use Rattle.beep_show.specs.Show.{Run, run_of}
 use Rattle.beep_cmd.specs.Recorded.{IsEnding, lined, recorded}
 use Rattle.beep_cmd.specs.Recording.{EndsRecorded, KeepsListening, ListenRecorded, SendRecorded, record_written, record_starved, TellsRecord, TellsWhole, whole_record, no_record}
-use Rattle.beep_cmd.specs.Ends.{AcceptsAtMost, AsksOnly, DialsOnce, EachOf, ended_line, ended_status, IsAcceptOf, IsDialOf, ListenCause, Listened, listen_starved, listen_written, listen_unwritten, over, SendCause, SendsLines, Sent, send_starved, session, SessionCause, WritesLast, whole_line, line_begun, WritesLawfully}
+use Rattle.beep_cmd.specs.Ends.{AcceptsAtMost, AsksOnly, DialsOnce, EachOf, ended_line, ended_status, IsAcceptOf, IsDialOf, ListenCause, Listened, listen_starved, listen_written, listen_unwritten, open_of, over, SendCause, SendsLines, Sent, send_starved, session, SessionCause, WritesLast, whole_line, line_begun, WritesLawfully}
 use Rattle.beep_cmd.proofs.EndsLemmas.{sent}
 use Rattle.beep_cmd.proofs.ServingLemmas.{asks_once, each_none, each_of_it, each_one, session_cause}
 
@@ -91,12 +91,14 @@ module _ (role : Role) (settings : Settings) (cause : Ended) (before after : See
 pub not_given_lawful : (role : Role) (settings : Settings) (cause : Ended) (old new : ℕ) (before after : Seen) → NotGiven cause old new before after → WritesLawfully role settings before after
 not_given_lawful role settings cause old new before after n = each_none (λ link. WhereKnown (IsLawfulOn (terms_by role settings)) link.log) before after n.given
 
-pub send_asks : (settings : Settings) (before after : Seen) (host : List ℕ) → (is : IsDialOf settings (dial host settings.port)) → AsksThis (dial host settings.port) before after → DialsOnce settings before after
-send_asks settings before after host is a = asks_once (IsDialOf settings) (dial host settings.port) is a.0 before.asked after.asked a.1
+pub send_asks : (settings : Settings) (before after : Seen) (host : List ℕ) → chars host ≡ settings.host → AsksThis (dial host settings.port) before after → DialsOnce settings before after
+send_asks settings before after host is a =
+    asks_once (IsDialOf settings (open_of before)) (dial host settings.port) (open_of before) (λ link. (host, is, refl, refl)) a.0 before.asked after.asked a.1
 
-pub listen_asks : (settings : Settings) (before after : Seen) → settings.sessions ≡ 1 → AsksThis (accept settings.port) before after → AcceptsAtMost settings before after
-listen_asks settings before after one a =
-    subst (λ (n : ℕ). AsksOnly (IsAcceptOf settings) n before.asked after.asked) (sym one) (asks_once (IsAcceptOf settings) (accept settings.port) refl a.0 before.asked after.asked a.1)
+pub listen_asks : (settings : Settings) (before after : Seen) (bind : List ℕ) → chars bind ≡ settings.bind → settings.sessions ≡ 1 → AsksThis (accept bind settings.port) before after → AcceptsAtMost settings before after
+listen_asks settings before after bind is one a =
+    subst (λ (n : ℕ). AsksOnly (IsAcceptOf settings (open_of before)) n before.asked after.asked) (sym one)
+    (asks_once (IsAcceptOf settings (open_of before)) (accept bind settings.port) (open_of before) (λ link. (bind, is, refl, refl)) a.0 before.asked after.asked a.1)
 
 -- ---- how it ends
 

@@ -1,13 +1,12 @@
 -- What ended a session shows in its link, and still shows after further ones.
-use Rattle.std.proofs.Common.{◌≡◌, ℕ, ◌+◌, ◌*◌, ◌<◌, ◌≤◌, Bool, true, false, nat_le, Option, Some, None, List, [], ◌∷◌, ◌++◌, inl, inr, refl, ap, sym, ◌∙◌, subst, arith, append_assoc, length-append}
+use Rattle.std.proofs.Common.{◌≡◌, ℕ, zero, suc, if◌then◌else◌, ◌-◌, ap₂, ◌+◌, ◌*◌, ◌<◌, ◌≤◌, Bool, true, false, nat_le, Option, Some, None, List, [], ◌∷◌, ◌++◌, inl, inr, refl, ap, sym, ◌∙◌, subst, arith, append_assoc, length-append}
 use Rattle.std.specs.List.{AllByRecursion}
 use Rattle.std.proofs.lemmas.Bool.Decides.{nat_tests}
 use Rattle.std.specs.declared.result.Result.{Result}
 use Rattle.std.specs.declared.result.Result.TheVariants.{Ok, Err}
 use Rattle.beep_runs.specs.beep_wires.specs.declared.count.TheConstants.{COUNT_MAX}
 use Rattle.beep_runs.specs.beep_wires.specs.declared.links.WireError.{WireError}
-use Rattle.beep_runs.specs.beep_wires.specs.Counts.{Rose}
-use Rattle.beep_runs.specs.beep_wires.specs.Links.{Link, Ask, Asked, IsFresh, Asks, asked_by}
+use Rattle.beep_runs.specs.beep_wires.specs.Links.{Link, Ask, Asked, IsFresh, Asks, asked_by, open_among}
 use Rattle.beep_runs.specs.beep_link.specs.declared.buffers.TheConstants.{BUFFER}
 use Rattle.beep_runs.specs.beep_link.specs.declared.ended.Ended.{Ended}
 use Rattle.beep_runs.specs.beep_link.specs.Causes.{IsCaused, IsUnused, LinkShows, ReadsGive, RoseBy, Seen, WhereKnown}
@@ -15,21 +14,18 @@ use Rattle.beep_runs.specs.beep_journal.specs.declared.role.Role.{Role}
 use Rattle.beep_runs.specs.beep_steps.specs.Ends.{reads_of}
 use Rattle.beep_runs.specs.beep_steps.specs.Logs.{Shows, terms_by}
 use Rattle.beep_runs.specs.beep_settings.specs.declared.settings.Settings.{Settings}
-use Rattle.beep_cmd.specs.Ends.{HasCause, LinkTells, OneOf, EachOf, EndsIn, SessionCause, AreShut, AsksOnly, ends_run, GaveBefore, GaveLink, most_reads, ReadsWithin}
+use Rattle.beep_cmd.specs.Ends.{HasCause, LinkTells, OneOf, EachOf, EndsIn, SessionCause, AreShut, AsksOnly, ends_run, GaveBefore, GaveLink, IsAcceptOf, most_reads, open_of, ReadsWithin}
 use Rattle.beep_cmd.specs.Listening.{first_of}
 use Rattle.beep_cmd.specs.Serving.{AsksGave, GoesOn}
 
 -- ---- a link that was given
 
 pub unused : (link : Link) → IsFresh link → IsUnused link
-unused link f = record { unread = f.unread; is_open = f.is_open; going = f.going }
+unused link f = record { unread = f.unread; is_open = f.is_open; going = f.going; no_faults = f.no_faults }
 
 -- a count that rose by so many since then rose by as many since before
 risen : (most a b c d : ℕ) → a ≤ b → c ≤ d → RoseBy most b c → RoseBy most a d
 risen most a b c d k l = elim [ inl w ↦ inl (omega (arith, k, l, w)) | inr w ↦ inr (omega (arith, l, w)) ]
-
-faulted : (a b : ℕ) → a ≡ 0 → Rose a b → 0 < b
-faulted a b e = elim [ inl w ↦ omega (arith, e, w) | inr w ↦ omega (arith, w) ]
 
 -- a count that was 0 and never stood at its greatest value
 from-none : (most old new : ℕ) → old ≡ 0 → new < COUNT_MAX → RoseBy most old new → most ≤ new
@@ -44,7 +40,7 @@ module _ (settings : Settings) (fresh last : Link) (quiets later : ℕ) (f : IsF
   link_tells Ended.Released c = tt
   link_tells (Ended.Broken rule place) c = tt
   link_tells Ended.WriteFault c = tt
-  link_tells Ended.WireFault c = faulted fresh.faults last.faults f.no_faults c
+  link_tells Ended.WireFault c = c
   link_tells Ended.NoMemory c = tt
   link_tells (Ended.Refused code) c = tt
   link_tells (Ended.Cut left) c = tt
@@ -163,12 +159,12 @@ all_append : (Q : Asked → Type 0) (more others : List Asked) → AllByRecursio
 all_append Q [] others p q = q
 all_append Q (a ∷ more) others p q = (p.0, all_append Q more others p.1 q)
 
-module _ (P : Ask → Type 0) where
-  all_asked : (more : List Asked) → AllByRecursion (λ a. P a.ask × GaveLink a) more → AllByRecursion (λ a. P a.ask) more
+module _ (P : Asked → Type 0) where
+  all_asked : (more : List Asked) → AllByRecursion (λ a. P a × GaveLink a) more → AllByRecursion P more
   all_asked [] p = tt
   all_asked (a ∷ more) p = (p.0.0, all_asked more p.1)
 
-  all_gave : (more : List Asked) → AllByRecursion (λ a. P a.ask × GaveLink a) more → AllByRecursion GaveLink more
+  all_gave : (more : List Asked) → AllByRecursion (λ a. P a × GaveLink a) more → AllByRecursion GaveLink more
   all_gave [] p = tt
   all_gave (a ∷ more) p = (p.0.1, all_gave more p.1)
 
@@ -190,11 +186,11 @@ module _ (P : Ask → Type 0) where
     q.0 ++ p.0,
     q.1 ∙ ap (λ xs. q.0 ++ xs) p.1 ∙ sym (append_assoc q.0 p.0 a),
     omega (arith, length-append q.0 p.0, p.2, q.2),
-    all_append (λ a. P a.ask × GaveLink a) q.0 p.0 q.3 p.3,
+    all_append (λ a. P a × GaveLink a) q.0 p.0 q.3 p.3,
   )
 
   -- those that gave a link, and then perhaps one that didn't
-  gave_before : (more others : List Asked) → GaveBefore more → AllByRecursion (λ a. P a.ask × GaveLink a) others → GaveBefore (more ++ others)
+  gave_before : (more others : List Asked) → GaveBefore more → AllByRecursion (λ a. P a × GaveLink a) others → GaveBefore (more ++ others)
   gave_before [] [] g p = tt
   gave_before [] (a ∷ others) g p = all_gave others p.1
   gave_before (a ∷ more) others g p = all_append GaveLink more others g (all_gave others p)
@@ -209,7 +205,7 @@ module _ (P : Ask → Type 0) where
     q.0 ++ p.0,
     q.1 ∙ ap (λ xs. q.0 ++ xs) p.1 ∙ sym (append_assoc q.0 p.0 a),
     omega (arith, length-append q.0 p.0, p.2, q.2),
-    all_append (λ a. P a.ask) q.0 p.0 q.3 (all_asked p.0 p.3),
+    all_append P q.0 p.0 q.3 (all_asked p.0 p.3),
     gave_before q.0 p.0 q.4 p.3,
   )
 
@@ -226,22 +222,48 @@ module _ (P : Ask → Type 0) where
   asks_fewer m n (Some a) (Some b) h p = (p.0, p.1, omega (arith, h, p.2), p.3, p.4)
 
   -- a call that asked for a link asked this, once
-  asked_once : (ask : Ask) → P ask → (r : Result ℕ WireError) (a b : List Asked) → b ≡ asked_by ask r ++ a → AsksOnly P 1 (Some a) (Some b)
-  asked_once ask is (Ok link) a b e = (asked_by ask (Ok link), e, omega arith, (is, tt), tt)
-  asked_once ask is (Err WireError.Failed) a b e = (asked_by ask (Err WireError.Failed), e, omega arith, (is, tt), tt)
-  asked_once ask is (Err WireError.NoMemory) a b e = ([], e, omega arith, tt, tt)
+  module _ (ask : Ask) (beside : ℕ) (is : (link : Option ℕ) → P (record { ask = ask; beside = beside; link = link })) where
+    asked_once : (r : Result ℕ WireError) (a b : List Asked) → b ≡ asked_by ask beside r ++ a → AsksOnly P 1 (Some a) (Some b)
+    asked_once (Ok link) a b e = (asked_by ask beside (Ok link), e, omega arith, (is (Some link), tt), tt)
+    asked_once (Err WireError.Failed) a b e = (asked_by ask beside (Err WireError.Failed), e, omega arith, (is None, tt), tt)
+    asked_once (Err WireError.NoMemory) a b e = ([], e, omega arith, tt, tt)
 
-  pub asks_once : (ask : Ask) → P ask → (r : Result ℕ WireError) (a b : Option (List Asked)) → Asks a b (asked_by ask r) → AsksOnly P 1 a b
-  asks_once ask is r None None p = tt
-  asks_once ask is r None (Some b) p = absurd p
-  asks_once ask is r (Some a) None p = absurd p
-  asks_once ask is r (Some a) (Some b) p = asked_once ask is r a b p
+    pub asks_once : (r : Result ℕ WireError) (a b : Option (List Asked)) → Asks a b (asked_by ask beside r) → AsksOnly P 1 a b
+    asks_once r None None p = tt
+    asks_once r None (Some b) p = absurd p
+    asks_once r (Some a) None p = absurd p
+    asks_once r (Some a) (Some b) p = asked_once r a b p
 
-  pub gave_once : (ask : Ask) → P ask → (link : ℕ) (a b : Option (List Asked)) → Asks a b (asked_by ask (Ok link)) → AsksGave P 1 a b
-  gave_once ask is link None None p = tt
-  gave_once ask is link None (Some b) p = absurd p
-  gave_once ask is link (Some a) None p = absurd p
-  gave_once ask is link (Some a) (Some b) p = (asked_by ask (Ok link), p, omega arith, ((is, (link, refl)), tt))
+    pub gave_once : (link : ℕ) (a b : Option (List Asked)) → Asks a b (asked_by ask beside (Ok link)) → AsksGave P 1 a b
+    gave_once link None None p = tt
+    gave_once link None (Some b) p = absurd p
+    gave_once link (Some a) None p = absurd p
+    gave_once link (Some a) (Some b) p = (asked_by ask beside (Ok link), p, omega arith, ((is (Some link), (link, refl)), tt))
+
+-- ---- what is open
+
+open-same : (one other : ℕ → Link) (count : ℕ) → ((link : ℕ) → link < count → one link ≡ other link) → open_among one count ≡ open_among other count
+open-same one other zero same = refl
+open-same one other (suc count) same =
+    ap₂ (λ n b. n + (if b then 1 else 0)) (open-same one other count (λ link less. same link (omega (arith, less)))) (ap (λ (l : Link). l.is_open) (same count (omega arith)))
+
+-- further links that are shut are none that are open
+open-shut : (state : ℕ → Link) (given more : ℕ) → ((link : ℕ) → given ≤ link → link < given + more → (state link).is_open ≡ false) → open_among state (given + more) ≡ open_among state given
+open-shut state given zero shut = ap (open_among state) (omega arith)
+open-shut state given (suc more) shut =
+    let next : given + suc more ≡ suc (given + more) = omega arith in
+    ap (open_among state) next
+    ∙ ap₂ (λ n b. n + (if b then 1 else 0)) (open-shut state given more (λ link least less. shut link least (omega (arith, less)))) (shut (given + more) (omega arith) (omega arith))
+    ∙ (omega arith)
+
+-- a run that has shut its links has as many open as there were before it
+pub open-alone : (before mid : Seen) → GoesOn before mid → AreShut before mid → open_of mid ≡ open_of before
+open-alone before mid goes shut =
+    let more : ℕ = mid.counts.given - before.counts.given in
+    let sum : mid.counts.given ≡ before.counts.given + more = omega (arith, goes.given) in
+    ap (open_among mid.state) sum
+    ∙ open-shut mid.state before.counts.given more (λ link least less. shut link least (omega (arith, less, sum)))
+    ∙ open-same mid.state before.state before.counts.given goes.same
 
 -- ---- which end is answered
 

@@ -12,6 +12,8 @@ use Rattle.beep_cmd.specs.Replay as replay
 use Rattle.beep_cmd.specs.Replay.{Replayed, IsReplayReport, IsJudgement}
 use Rattle.beep_cmd.specs.Pair as pair
 use Rattle.beep_cmd.specs.Pair.{IsPairing, ReadsSchedule, IsPairReport, Paired}
+use Rattle.beep_cmd.specs.Told as told
+use Rattle.beep_cmd.specs.Told.{Told}
 use Rattle.beep_cmd.specs.Ends as ends
 use Rattle.beep_cmd.specs.Ends.{ended_status, IsSendReport, Sent, Listened}
 
@@ -87,3 +89,7 @@ pub paired_not : (settings : PairSettings) (status : ℕ) (run : Run) → Paired
 paired_not settings status run (pair.reported s) f = pair_not settings run.source run.source_after s.octets s.text status s.holds f
 paired_not settings status run (pair.cut_short e r s) f = absurd (omega (arith, e, f))
 paired_not settings status run (pair.starved e s) f = absurd (omega (arith, e, f))
+
+pub told_not : (text : List ℕ) (status : ℕ) (run : Run) → Told text status run → status ≡ 1 → ⊥
+told_not text status run (told.told e a) f = absurd (omega (arith, e, f))
+told_not text status run (told.write_fault e r a) f = absurd (omega (arith, e, f))

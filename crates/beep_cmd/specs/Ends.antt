@@ -23,23 +23,12 @@ use Rattle.beep_show.specs.beep_input.specs.Lines.{AreLines, IsBad}
 use Rattle.beep_show.specs.Texts.{bad_line, broken_line, cut_line, idle_line, read_fault_line, refused_line, spent_line, wire_fault_line}
 use Rattle.beep_show.specs.Show.{Run, Saw}
 use Rattle.beep_cmd.specs.Recorded.{IsEnding}
-pub use Rattle.beep_runs.specs.Runs.{most_reads, seen_of}
+pub use Rattle.beep_runs.specs.Runs.{most_reads, open_of, seen_of}
+pub use Rattle.beep_runs.specs.beep_link.specs.Status.{ended_status}
 
 -- ---- what ends a session
 
--- the status of what ended a session
-abbrev pub ended_status : Ended → ℕ
-ended_status Ended.Released = 0
-ended_status (Ended.Broken rule place) = 3
-ended_status Ended.WriteFault = 5
-ended_status Ended.WireFault = 6
-ended_status Ended.NoMemory = 7
-ended_status (Ended.Refused code) = 8
-ended_status (Ended.Cut left) = 9
-ended_status (Ended.Idle reads) = 10
-ended_status (Ended.Spent octets) = 11
-
--- its last line, or none
+-- the last line of what ended a session, or none
 abbrev pub ended_line : Ended → List ℕ
 ended_line Ended.Released = []
 ended_line (Ended.Broken rule place) = broken_line rule place
@@ -63,14 +52,14 @@ abbrev pub EachOf : Seen → Seen → (Link → Type 0) → Type 0
 EachOf before after P = (link : ℕ) → before.counts.given ≤ link → link < after.counts.given
     → P (after.state link)
 
--- what else a link shows of what ended its session: a fault, so many quiet reads at its end and
--- reads in all, or so many octets and as many reads as these need, of which each gives `BUFFER` at
--- most
+-- what else a link shows of what ended its session: one call that failed, after which nothing was
+-- called on it, so many quiet reads at its end and reads in all, or so many octets and as many reads
+-- as these need, of which each gives `BUFFER` at most
 abbrev pub LinkTells : Settings → Ended → Link → Type 0
 LinkTells settings Ended.Released link = Unit {0}
 LinkTells settings (Ended.Broken rule place) link = Unit {0}
 LinkTells settings Ended.WriteFault link = Unit {0}
-LinkTells settings Ended.WireFault link = 0 < link.faults
+LinkTells settings Ended.WireFault link = link.faults ≡ 1
 LinkTells settings Ended.NoMemory link = Unit {0}
 LinkTells settings (Ended.Refused code) link = Unit {0}
 LinkTells settings (Ended.Cut left) link = Unit {0}
@@ -195,31 +184,34 @@ GaveBefore (latest ∷ earlier) = AllByRecursion GaveLink earlier
 
 -- where the accepts and dials are known, there were no more than so many, of each this holds, and
 -- none came after one that failed
-abbrev pub AsksOnly : (Ask → Type 0) → ℕ → Option (List Asked) → Option (List Asked) → Type 0
+abbrev pub AsksOnly : (Asked → Type 0) → ℕ → Option (List Asked) → Option (List Asked) → Type 0
 AsksOnly P most None None = Unit {0}
 AsksOnly P most None (Some new) = ⊥
 AsksOnly P most (Some old) None = ⊥
 AsksOnly P most (Some old) (Some new) = (more : List Asked) × (new ≡ more ++ old)
-    × (length more ≤ most) × AllByRecursion (λ asked. P asked.ask) more × GaveBefore more
+    × (length more ≤ most) × AllByRecursion P more × GaveBefore more
 
--- a dial of the host and the port of these settings
-abbrev pub IsDialOf : Settings → Ask → Type 0
-IsDialOf settings ask = (host : List ℕ) × (chars host ≡ settings.host)
-    × (ask ≡ dial host settings.port)
+-- a dial of the host and the port of these settings, beside so many open links
+abbrev pub IsDialOf : Settings → ℕ → Asked → Type 0
+IsDialOf settings open_links asked = (host : List ℕ) × (chars host ≡ settings.host)
+    × (asked.ask ≡ dial host settings.port) × (asked.beside ≡ open_links)
 
--- an accept on the port of these settings
-abbrev pub IsAcceptOf : Settings → Ask → Type 0
-IsAcceptOf settings ask = ask ≡ accept settings.port
+-- an accept on the address and the port of these settings, beside so many open links
+abbrev pub IsAcceptOf : Settings → ℕ → Asked → Type 0
+IsAcceptOf settings open_links asked = (bind : List ℕ) × (chars bind ≡ settings.bind)
+    × (asked.ask ≡ accept bind settings.port) × (asked.beside ≡ open_links)
 
 -- `send` dials the host and the port of its settings, at most once
 abbrev pub DialsOnce : Settings → Seen → Seen → Type 0
-DialsOnce settings before after = AsksOnly (IsDialOf settings) 1 before.asked after.asked
+DialsOnce settings before after =
+    AsksOnly (IsDialOf settings (open_of before)) 1 before.asked after.asked
 
--- `listen` accepts on the port of its settings, at most as often as these say, and never after an
--- accept that failed
+-- `listen` accepts on the address and the port of its settings, at most as often as these say, and
+-- never after an accept that failed; beside no more open links than before the run: it has shut
+-- each link before it accepts the next
 abbrev pub AcceptsAtMost : Settings → Seen → Seen → Type 0
 AcceptsAtMost settings before after =
-    AsksOnly (IsAcceptOf settings) settings.sessions before.asked after.asked
+    AsksOnly (IsAcceptOf settings (open_of before)) settings.sessions before.asked after.asked
 
 -- ---- `send`
 

@@ -2,7 +2,7 @@
 -- 3195, section 3).
 -- The code writes as it hears, and keeps no text; here each link's log is gone over when all are
 -- shut.
-use Rattle.std.specs.Prelude.{◌≡◌, ◌⊎◌, ℕ, ◌+◌, ◌≤◌, false, if◌then◌else◌, List, [], ◌∷◌, ◌++◌}
+use Rattle.std.specs.Prelude.{◌≡◌, ◌⊎◌, ℕ, ◌+◌, ◌≤◌, ◌<◌, false, if◌then◌else◌, List, [], ◌∷◌, ◌++◌}
 use Rattle.std.specs.Io.KnownBytes.{Appends}
 use Rattle.beep_runs.specs.beep_wires.specs.Counts.{Rose}
 use Rattle.beep_runs.specs.beep_wires.specs.Log.{Entry}
@@ -81,13 +81,15 @@ text_of [] = []
 text_of (session ∷ earlier) = text_of earlier ++ session.text
 
 -- what ends the run is what its sessions say, and all of them were where none ended the run; or an
--- accept that gave no link, since it failed or was out of memory
+-- accept that gave no link, since it failed, or was out of memory where more links were still to be
+-- accepted; or the run was out of memory before it did anything
 abbrev pub EndsBy : Settings → Seen → Seen → Ended → List Session → Type 0
 EndsBy settings before after cause sessions = (cause ≡ run_cause sessions)
     × (ends_run cause ≡ false → after.counts.given ≡ before.counts.given + settings.sessions)
     ⊎ (ends_run (run_cause sessions) ≡ false)
     × ((cause ≡ Ended.WireFault) × Rose before.counts.accepts after.counts.accepts
-    ⊎ (cause ≡ Ended.NoMemory))
+    ⊎ (cause ≡ Ended.NoMemory)
+    × ((after.counts.given < before.counts.given + settings.sessions) ⊎ (after ≡ before)))
 
 -- a run of so many sessions wrote what each of them did, one after another, of which the log of its
 -- link shows the lines where it is known, and then the last line of what ended the run; or where a

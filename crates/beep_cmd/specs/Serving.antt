@@ -4,14 +4,14 @@ use Rattle.std.specs.Prelude.{◌≡◌, ℕ, ◌+◌, ◌<◌, ◌≤◌, ◌�
 use Rattle.std.specs.List.{AllByRecursion}
 use Rattle.std.specs.Io.KnownBytes.{Appends}
 use Rattle.beep_runs.specs.beep_wires.specs.Counts.{Rose}
-use Rattle.beep_runs.specs.beep_wires.specs.Links.{Ask, Asked}
+use Rattle.beep_runs.specs.beep_wires.specs.Links.{Asked}
 use Rattle.beep_runs.specs.beep_link.specs.declared.ended.Ended.{Ended}
 use Rattle.beep_runs.specs.beep_link.specs.Causes.{Seen, WhereKnown}
 use Rattle.beep_runs.specs.beep_settings.specs.declared.settings.Settings.{Settings}
 use Rattle.beep_show.specs.beep_input.specs.declared.lines.Unlisted.{Unlisted}
 use Rattle.beep_runs.specs.beep_journal.specs.declared.role.Role.{Role}
 use Rattle.beep_show.specs.Texts.{bad_line, read_fault_line}
-use Rattle.beep_cmd.specs.Ends.{AsksOnly, GaveLink, HasCause, IsAcceptOf, SessionCause}
+use Rattle.beep_cmd.specs.Ends.{AsksOnly, GaveLink, HasCause, IsAcceptOf, open_of, SessionCause}
 use Rattle.beep_cmd.specs.Listening.{Session, SessionsOver, text_of, WritesOf}
 
 -- the status and the last line where there are no lines to send
@@ -34,19 +34,19 @@ pub record GoesOn (before after : Seen) : Type 0 where
 
 -- where the accepts and dials are known, there were no more than so many, of each this holds, and
 -- each gave a link
-abbrev pub AsksGave : (Ask → Type 0) → ℕ → Option (List Asked) → Option (List Asked) → Type 0
+abbrev pub AsksGave : (Asked → Type 0) → ℕ → Option (List Asked) → Option (List Asked) → Type 0
 AsksGave P most None None = Unit {0}
 AsksGave P most None (Some new) = ⊥
 AsksGave P most (Some old) None = ⊥
 AsksGave P most (Some old) (Some new) = (more : List Asked) × (new ≡ more ++ old)
-    × (length more ≤ most) × AllByRecursion (λ asked. P asked.ask × GaveLink asked) more
+    × (length more ≤ most) × AllByRecursion (λ asked. P asked × GaveLink asked) more
 
 -- a link was accepted, and its session ended by this
 pub record Served (cause : Ended) (settings : Settings) (before after : Seen) : Type 0 where
   pub goes_on : GoesOn before after
   pub one : after.counts.given ≡ before.counts.given + 1
   pub cause_is : SessionCause cause Role.Listener settings before after
-  pub asks : AsksGave (IsAcceptOf settings) 1 before.asked after.asked
+  pub asks : AsksGave (IsAcceptOf settings (open_of before)) 1 before.asked after.asked
 
 -- no link was given
 pub record NotAccepted (cause : Ended) (settings : Settings) (before after : Seen) : Type 0 where
@@ -54,7 +54,7 @@ pub record NotAccepted (cause : Ended) (settings : Settings) (before after : See
   pub none : after.counts.given ≡ before.counts.given
   pub failed : (cause ≡ Ended.WireFault) × Rose before.counts.accepts after.counts.accepts
       ⊎ (cause ≡ Ended.NoMemory)
-  pub asks : AsksOnly (IsAcceptOf settings) 1 before.asked after.asked
+  pub asks : AsksOnly (IsAcceptOf settings (open_of before)) 1 before.asked after.asked
 
 -- ---- what is written
 

@@ -20,8 +20,8 @@ pub(crate) fn finish<O: Sink>(last: &mut Octets, ended: Ended, output: &mut O) -
         × ((O.state output.new).faults ≡ (O.state output.old).faults) }
     ensures kept { (O.state output.old).faults ≤ (O.state output.new).faults }
 {
-    let status = append_ended(last, ended);
-    tell(last, status, output)
+    append_ended(last, ended);
+    tell(last, ended.status(), output)
 }
 
 /// Writes the last line of why there are no lines to send, likewise.
@@ -70,39 +70,18 @@ fn append_unlisted(out: &mut Octets, why: Unlisted) -> u8
     }
 }
 
-/// Appends the last line of what ended a session, where it finds room, and answers its status.
-fn append_ended(out: &mut Octets, ended: Ended) -> u8
-    ensures status { result ≡ ended_status ended }
-    ensures appended { LAST_ROOM ≤ out.old.spare
+/// Appends the last line of what ended a session, where it finds room.
+fn append_ended(out: &mut Octets, ended: Ended)
+    ensures { LAST_ROOM ≤ out.old.spare
         → out.new.octets ≡ out.old.octets ++ ended_line ended }
 {
     match ended {
-        Ended::Released => status::FINE,
-        Ended::Broken(rule, place) => {
-            append_broken(out, rule, place);
-            status::BROKEN
-        }
-        Ended::WriteFault => status::WRITE_FAULT,
-        Ended::WireFault => {
-            out.extend_within(b"! wire fault\n");
-            status::WIRE_FAULT
-        }
-        Ended::NoMemory => status::NO_MEMORY,
-        Ended::Refused(code) => {
-            append_refused(out, code);
-            status::REFUSED
-        }
-        Ended::Cut(left) => {
-            append_numbered(out, b"! cut ", left);
-            status::CUT
-        }
-        Ended::Idle(reads) => {
-            append_idle(out, reads);
-            status::IDLE
-        }
-        Ended::Spent(octets) => {
-            append_numbered(out, b"! spent ", octets);
-            status::SPENT
-        }
+        Ended::Released | Ended::WriteFault | Ended::NoMemory => {}
+        Ended::Broken(rule, place) => append_broken(out, rule, place),
+        Ended::WireFault => out.extend_within(b"! wire fault\n"),
+        Ended::Refused(code) => append_refused(out, code),
+        Ended::Cut(left) => append_numbered(out, b"! cut ", left),
+        Ended::Idle(reads) => append_idle(out, reads),
+        Ended::Spent(octets) => append_numbered(out, b"! spent ", octets),
     }
 }

@@ -2,6 +2,7 @@
 #![tactic(auto)]
 
 mod closing;
+mod counting;
 mod listen;
 mod pair;
 mod recorded;
@@ -13,4 +14,4 @@ pub use run::beep_run;
 
 // Crates below, which are named through this one.
 pub use beep_runs::{beep_memory, beep_octets, beep_wires};
-pub use beep_show::{beep_input, status};
+pub use beep_show::{beep_input, beep_words, status};

@@ -12,13 +12,16 @@ ghost use Rattle.beep_cmd.specs.Recording.{ListenRecorded};
 ghost use Rattle.beep_show.specs.Show.{run_of};
 
 use crate::closing::finish;
+use crate::counting::listen_counted;
 use crate::recorded::record_listen;
-use beep_runs::beep_listener::{Ended, listen_end};
+use beep_runs::beep_listener::{CountedSink, Ended};
 use beep_runs::beep_octets::Octets;
 use beep_runs::beep_settings::Settings;
 use beep_runs::beep_wires::{Sink, WireError, Wires};
+use beep_runs::tell_session;
 use beep_show::{LAST_ROOM, status};
 use std::alloc::Global;
+use std::marker::Brand;
 
 /// Runs `listen`: it accepts links one after another, as many as the settings say.
 pub(crate) fn listen<O: Sink, W: Wires>(
@@ -130,12 +133,16 @@ fn listen_once<O: Sink, W: Wires>(
     ensures grew { Grows (O.state output.old).written (O.state output.new).written }
     ensures kept { (O.state output.old).faults ≤ (O.state output.new).faults }
 {
-    let link = match wires.accept(settings.port) {
+    let link = match wires.accept(settings.bind.as_str(), settings.port) {
         Ok(link) => link,
         Err(WireError::Failed) => return Err(Ended::WireFault),
         Err(WireError::NoMemory) => return Err(Ended::NoMemory),
     };
-    let ended = listen_end(alloc, wires, link, settings, output);
+    let sink = CountedSink::new(output);
+    let (ended, sink) = listen_counted::<O, W, Brand>(alloc, wires, link, settings, sink);
+    let lines = sink.lines();
+    let _output = sink.into_output();
+    tell_session(wires, link, settings, ended, lines);
     wires.shut(link);
     Ok(ended)
 }

@@ -1,6 +1,9 @@
 //! The one call of the program.
 ghost use Rattle.std.specs.Prelude.{◌≡◌, ◌⊎◌, ◌+◌, ◌≤◌, ℕ, List, Some, None, true, false, map, string_bytes};
-ghost use Rattle.beep_show.specs.beep_words.specs.CommandSet.{IsShow, IsReplay, IsSend, IsListen, IsPair, IsNoCommand};
+ghost use Rattle.beep_show.specs.beep_words.specs.CommandSet.{IsShow, IsReplay, IsSend, IsListen, IsPair, IsHelp, IsVersion, IsNoCommand};
+ghost use Rattle.beep_show.specs.beep_words.specs.Helps.{help_of};
+ghost use Rattle.beep_show.specs.beep_words.specs.declared.command.Topic.{Topic as topic_type};
+ghost use Rattle.beep_show.specs.beep_words.specs.declared.texts.TheConstants.{VERSION_TEXT as version_text};
 ghost use Rattle.beep_show.specs.beep_words.specs.declared.command.ShowSettings.{ShowSettings as settings_type};
 ghost use Rattle.beep_show.specs.beep_words.specs.declared.command.PairSettings.{PairSettings as pair_settings};
 ghost use Rattle.beep_runs.specs.beep_settings.specs.declared.settings.Settings.{Settings as end_settings};
@@ -15,6 +18,7 @@ ghost use Rattle.beep_cmd.specs.Ends.{AcceptsAtMost, AreShut, DialsOnce, GivesAt
 ghost use Rattle.beep_cmd.specs.Complete.{ListenGoesWell, SendGoesWell};
 ghost use Rattle.beep_cmd.specs.Listening.{WritesLines};
 ghost use Rattle.beep_cmd.specs.Recording.{ListenRecorded};
+ghost use Rattle.beep_cmd.specs.Told.{Told};
 
 use crate::listen::listen;
 use crate::pair::pair;
@@ -22,7 +26,7 @@ use crate::replay::replay;
 use crate::send::send;
 use beep_runs::beep_octets::NoMemory;
 use beep_runs::beep_wires::{Failed, Sink, Source, Wires, write_all};
-use beep_show::beep_words::{Command, command_of};
+use beep_show::beep_words::{Command, VERSION_TEXT, command_of, help_text};
 use beep_show::{show, status};
 use std::alloc::Global;
 
@@ -89,6 +93,11 @@ pub fn beep_run<I: Source, O: Sink, W: Wires>(
         → IsRunnable settings (I.state input.old).left
         → NoFault (run_by I.state O.state input.old output.old input.new output.new)
         → (result ≡ 0) ⊎ (result ≡ 7) }
+    ensures helped { let run = run_by I.state O.state input.old output.old input.new output.new in
+        (topic : topic_type) → IsHelp topic (map string_bytes words.now)
+        → Told (help_of topic) result run }
+    ensures versioned { let run = run_by I.state O.state input.old output.old input.new output.new in
+        IsVersion (map string_bytes words.now) → Told version_text.now result run }
     ensures usage { result ≡ 1 → IsNoCommand (map string_bytes words.now) }
 
     // What is written on each link that was given is lawful, where its log is known.
@@ -131,6 +140,10 @@ pub fn beep_run<I: Source, O: Sink, W: Wires>(
         → wires.new ≡ wires.old }
     ensures listen_unread { (settings : end_settings)
         → IsListen settings (map string_bytes words.now) → input.new ≡ input.old }
+    ensures asked_unread { (topic : topic_type) → IsHelp topic (map string_bytes words.now)
+        ⊎ IsVersion (map string_bytes words.now) → input.new ≡ input.old }
+    ensures asked_unlinked { (topic : topic_type) → IsHelp topic (map string_bytes words.now)
+        ⊎ IsVersion (map string_bytes words.now) → wires.new ≡ wires.old }
     ensures no_memory { (settings : settings_type) → IsShow settings (map string_bytes words.now)
         → result ≡ 7 → settings.elements ≡ false
         → (input.new ≡ input.old) × (output.new ≡ output.old) }
@@ -158,6 +171,8 @@ pub fn beep_run<I: Source, O: Sink, W: Wires>(
         Ok(Some(Command::Send(settings))) => send(alloc, &settings, input, output, wires),
         Ok(Some(Command::Listen(settings))) => listen(alloc, &settings, output, wires),
         Ok(Some(Command::Pair(settings))) => pair(alloc, settings, input, output),
+        Ok(Some(Command::Help(topic))) => tell(help_text(topic), output),
+        Ok(Some(Command::Version)) => tell(VERSION_TEXT, output),
         Ok(None) => refuse(output),
         Err(NoMemory) => status::NO_MEMORY,
     }
@@ -170,6 +185,17 @@ fn refuse<O: Sink>(output: &mut O) -> u8
 {
     match write_all(output, b"! usage\n") {
         Ok(()) => status::USAGE,
+        Err(Failed) => status::WRITE_FAULT,
+    }
+}
+
+/// Writes a text that was asked for.
+fn tell<O: Sink>(text: &str, output: &mut O) -> u8
+    ensures { (source : SourceState)
+        → Told text.now result (run_of source source (O.state output.old) (O.state output.new)) }
+{
+    match write_all(output, text.as_bytes()) {
+        Ok(()) => status::FINE,
         Err(Failed) => status::WRITE_FAULT,
     }
 }

@@ -16,6 +16,7 @@ use beep_runs::beep_sender::{Ended, send_end};
 use beep_runs::beep_settings::Settings;
 use beep_runs::beep_wires::{Sink, Source, WireError, Wires};
 use beep_runs::prof_raw::Entries;
+use beep_runs::{taken_lines, tell_session};
 use beep_show::beep_input::read_lines;
 use beep_show::{LAST_ROOM, status};
 use std::alloc::Global;
@@ -87,6 +88,7 @@ fn send_lines<W: Wires>(alloc: Global, settings: &Settings, lines: &Entries, wir
         Err(WireError::NoMemory) => return Ended::NoMemory,
     };
     let ended = send_end(alloc, wires, link, settings, lines);
+    tell_session(wires, link, settings, ended, taken_lines(ended, lines));
     wires.shut(link);
     ended
 }

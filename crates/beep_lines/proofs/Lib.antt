@@ -1,3 +1,4 @@
 -- Proofs.
 pub mod BodyLemmas
+pub mod CountLemmas
 pub mod LineLemmas

@@ -1,4 +1,5 @@
 -- What public clauses cite.
 pub mod Bodies
+pub mod Counting
 pub mod Lines
 pub mod Stops

@@ -3,7 +3,11 @@
 #![tactic(auto)]
 
 mod bodies;
+mod counted;
+mod counting;
 mod lines;
 
 pub use bodies::{Bodies, Body};
+pub use counted::CountedSink;
+pub use counting::Counting;
 pub use lines::Lines;

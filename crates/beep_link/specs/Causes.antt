@@ -51,11 +51,13 @@ abbrev pub IsQuiet : ℕ → Option (List Entry) → Type 0
 IsQuiet count None = Unit {0}
 IsQuiet count (Some log) = count ≤ quiet_reads log
 
--- the link was given and isn't shut, it hasn't ended, and its log is empty where it is known
+-- the link was given and isn't shut, it hasn't ended, none of its calls has failed, and its log is
+-- empty where it is known
 pub record IsUnused (link : Link) : Type 0 where
   pub unread : link.log ≡ None ⊎ link.log ≡ Some []
   pub is_open : link.is_open ≡ true
   pub going : link.has_ended ≡ false
+  pub no_faults : link.faults ≡ 0
 
 -- ---- causes
 
@@ -85,12 +87,13 @@ is_cut (Ended.Cut left) = true
 is_cut (Ended.Idle count) = false
 is_cut (Ended.Spent count) = false
 
--- what else each end that has its cause in the link shows there, by the link before and after
+-- what else each end that has its cause in the link shows there, by the link before and after; a
+-- call that failed was the only one, and nothing was called after it
 abbrev pub LinkShows : Ended → Reads → Look → Look → Type 0
 LinkShows Ended.Released reads old new = Unit {0}
 LinkShows (Ended.Broken rule place) reads old new = Unit {0}
 LinkShows Ended.WriteFault reads old new = Unit {0}
-LinkShows Ended.WireFault reads old new = Rose old.link.faults new.link.faults
+LinkShows Ended.WireFault reads old new = new.link.faults ≡ 1
 LinkShows Ended.NoMemory reads old new = Unit {0}
 LinkShows (Ended.Refused code) reads old new = Unit {0}
 LinkShows (Ended.Cut left) reads old new = Unit {0}

@@ -43,6 +43,7 @@ pub enum Ended {
 impl Ended {
     ghost use Rattle.std.specs.Prelude.{◌≡◌};
     ghost use Rattle.beep_link.specs.Causes.{ended_by};
+    ghost use Rattle.beep_link.specs.Status.{ended_status};
 
     /// What ends where an end is stopped by this.
     pub(crate) fn of(stop: Stop) -> Ended
@@ -54,6 +55,23 @@ impl Ended {
             Stop::WriteFault => Ended::WriteFault,
             Stop::NoMemory => Ended::NoMemory,
             Stop::Refused(code) => Ended::Refused(code),
+        }
+    }
+
+    /// The exit status that stands for it (docs/COMMANDS.md).
+    pub fn status(self) -> u8
+        ensures { result ≡ ended_status self }
+    {
+        match self {
+            Ended::Released => 0,
+            Ended::Broken(..) => 3,
+            Ended::WriteFault => 5,
+            Ended::WireFault => 6,
+            Ended::NoMemory => 7,
+            Ended::Refused(_) => 8,
+            Ended::Cut(_) => 9,
+            Ended::Idle(_) => 10,
+            Ended::Spent(_) => 11,
         }
     }
 }

@@ -1,6 +1,5 @@
 //! One read of a link.
 ghost use Rattle.std.specs.Prelude.{◌≡◌, ◌≤◌, ◌<◌, ◌+◌, ℕ, true, false, length, IfOk, OnOk, OnErr};
-ghost use Rattle.beep_wires.specs.Counts.{Rose};
 ghost use Rattle.beep_wires.specs.Got.{gives_end, read_entries};
 ghost use Rattle.beep_wires.specs.Log.{Logs};
 ghost use Rattle.beep_link.specs.Causes.{CountsQuiet, CountsReads, Keeps, Moves, fits_buffer};
@@ -20,6 +19,7 @@ pub(crate) fn read_once<W: Wires>(
 ) -> Result<Got, Failed>
     requires open { (W.state wires.old link).is_open ≡ true }
     requires going { (W.state wires.old link).has_ended ≡ false }
+    requires unfailed { (W.state wires.old link).faults ≡ 0 }
     requires buffer { length coming.old ≡ BUFFER }
     requires some { 0 < left.old.octets }
     requires few { left.old.quiets < reads.idle }
@@ -27,8 +27,7 @@ pub(crate) fn read_once<W: Wires>(
     ensures logged { Logs (W.state wires.old link).log (W.state wires.new link).log
         (read_entries result coming.new) }
     ensures end { (W.state wires.new link).has_ended ≡ gives_end result }
-    ensures failed { OnErr result
-        (Rose (W.state wires.old link).faults (W.state wires.new link).faults) }
+    ensures failed { OnErr result ((W.state wires.new link).faults ≡ 1) }
     ensures unfailed { OnOk result
         ((W.state wires.new link).faults ≡ (W.state wires.old link).faults) }
     ensures moves { IfOk result (λ got. Moves got reads left.old left.new

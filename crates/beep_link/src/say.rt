@@ -1,6 +1,5 @@
 //! Writing all that is due.
 ghost use Rattle.std.specs.Prelude.{◌≡◌, ◌⊎◌, [], ℕ, List, false, true, IfErr, IfOk, OnOk};
-ghost use Rattle.beep_wires.specs.Counts.{Rose};
 ghost use Rattle.beep_wires.specs.Log.{Entry};
 ghost use Rattle.beep_link.specs.Causes.{GrewByWrites, Keeps, SameReads, WhereKnown};
 ghost use Rattle.beep_link.specs.declared.ended.Ended.{Ended as EndedValue};
@@ -23,6 +22,7 @@ pub(crate) fn say<E: End, W: Wires>(
     link: u32,
 ) -> Result<(), Ended>
     requires open { (W.state wires.old link).is_open ≡ true }
+    requires unfailed { (W.state wires.old link).faults ≡ 0 }
     requires empty { going.old.octets ≡ [] }
     ensures said { (text : List ℕ)
         → WhereKnown (λ log. E.stands end.old log [] text) (W.state wires.old link).log
@@ -37,8 +37,7 @@ pub(crate) fn say<E: End, W: Wires>(
         (W.state wires.new link).log) }
     ensures failed { IfErr result (λ ended. ((ended ≡ EndedValue.NoMemory)
         × ((W.state wires.new link).faults ≡ (W.state wires.old link).faults))
-        ⊎ ((ended ≡ EndedValue.WireFault)
-        × Rose (W.state wires.old link).faults (W.state wires.new link).faults)) }
+        ⊎ ((ended ≡ EndedValue.WireFault) × ((W.state wires.new link).faults ≡ 1))) }
     ensures unfailed { OnOk result
         ((W.state wires.new link).faults ≡ (W.state wires.old link).faults) }
 

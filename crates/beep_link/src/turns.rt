@@ -89,6 +89,7 @@ pub fn turn<E: End, W: Wires, O: Sink>(
 ) -> Result<(), Ended>
     requires open { (W.state wires.old link).is_open ≡ true }
     requires going { (W.state wires.old link).has_ended ≡ false }
+    requires unfailed { (W.state wires.old link).faults ≡ 0 }
     requires shown { TellsLeft reads left.old (W.state wires.old link).log }
     requires between { IsBetween buffers.old }
     ensures stands { (text : List ℕ)

@@ -7,6 +7,7 @@ mod listener;
 mod listening;
 mod pruning;
 
+pub use beep_lines::{CountedSink, Counting};
 pub use beep_steps::are_fit;
 pub use beep_steps::beep_link::Ended;
 pub use listening::listen_end;

@@ -7,7 +7,7 @@ use Rattle.beep_wires.specs.declared.count.TheConstants.{COUNT_MAX}
 use Rattle.beep_wires.specs.declared.failed.Failed.{Failed}
 use Rattle.beep_wires.specs.declared.links.Got.{Got}
 use Rattle.beep_wires.specs.declared.links.WireError.{WireError}
-use Rattle.beep_wires.specs.Counts.{next_count, Rose}
+use Rattle.beep_wires.specs.Counts.{next_count}
 use Rattle.beep_wires.specs.Log.{Event, entries_of}
 use Rattle.beep_wires.specs.Links.{Ask, IsFresh, SameBeside, LeavesLinks}
 use Rattle.beep_wires.specs.Got.{gives_end}
@@ -17,12 +17,6 @@ use Rattle.beep_memory.specs.Answers.{Answers, Reads, Writes}
 use Rattle.beep_memory.proofs.EventLemmas.{entries-beside}
 use Rattle.beep_memory.proofs.PlaceLemmas.{get-changed, get-beside, get-pushed, get-before, length-changed}
 use Rattle.beep_memory.proofs.NeedLemmas.{open-peer, none-yet}
-
-pub rises : (count : ℕ) → Rose count (next_count count)
-rises count = elim (cases_lt count COUNT_MAX) as (λ _. Rose count (next_count count)) [
-  | inl less ↦ inl (omega arith)
-  | inr most ↦ inr (omega arith)
-]
 
 pub never_falls : (count : ℕ) → count ≤ COUNT_MAX → count ≤ next_count count
 never_falls count few = omega arith
@@ -109,11 +103,11 @@ module _ (w w2 : Wiring) (link : ℕ) (buf filled : List ℕ) (alive : (link_at 
       let p = open-peer w.peers link alive in
       end-is peer_unread w w2 link (ap (λ v. v.peers) reads.2) p.0 p.1
 
-  pub read-failed : (r : Result Got Failed) → Reads link r buf filled w w2 → OnErr r (Rose (link_at w link).faults (link_at w2 link).faults)
-  read-failed (Ok got) reads = tt
-  read-failed (Err e) reads =
+  pub read-failed : (link_at w link).faults ≡ 0 → (r : Result Got Failed) → Reads link r buf filled w w2 → OnErr r ((link_at w2 link).faults ≡ 1)
+  read-failed unfailed (Ok got) reads = tt
+  read-failed unfailed (Err e) reads =
       let p = open-peer w.peers link alive in
-      subst (λ (n : ℕ). Rose (link_at w link).faults n) (sym (faults-more peer_unread w w2 link (ap (λ v. v.peers) reads.2) p.0 p.1 refl)) (rises (link_at w link).faults)
+      faults-more peer_unread w w2 link (ap (λ v. v.peers) reads.2) p.0 p.1 refl ∙ ap next_count unfailed
 
   pub read-unfailed : (r : Result Got Failed) → Reads link r buf filled w w2 → OnOk r ((link_at w2 link).faults ≡ (link_at w link).faults)
   read-unfailed (Ok got) reads = faults-kept (λ p. peer_read p (length buf)) w w2 link (ap (λ v. v.peers) reads.3) (λ p. refl)
@@ -155,11 +149,11 @@ module _ (w w2 : Wiring) (link : ℕ) (bytes : List ℕ) (alive : (link_at w lin
   write-end (Ok n) writes = end-kept (λ p. peer_written p (take n bytes)) w w2 link (ap (λ v. v.peers) writes.2) (λ p. refl)
   write-end (Err e) writes = end-kept peer_unwritten w w2 link (ap (λ v. v.peers) writes.1) (λ p. refl)
 
-  pub write-failed : (r : Result ℕ Failed) → Writes link r bytes w w2 → OnErr r (Rose (link_at w link).faults (link_at w2 link).faults)
-  write-failed (Ok n) writes = tt
-  write-failed (Err e) writes =
+  pub write-failed : (link_at w link).faults ≡ 0 → (r : Result ℕ Failed) → Writes link r bytes w w2 → OnErr r ((link_at w2 link).faults ≡ 1)
+  write-failed unfailed (Ok n) writes = tt
+  write-failed unfailed (Err e) writes =
       let p = open-peer w.peers link alive in
-      subst (λ (n : ℕ). Rose (link_at w link).faults n) (sym (faults-more peer_unwritten w w2 link (ap (λ v. v.peers) writes.1) p.0 p.1 refl)) (rises (link_at w link).faults)
+      faults-more peer_unwritten w w2 link (ap (λ v. v.peers) writes.1) p.0 p.1 refl ∙ ap next_count unfailed
 
   pub write-unfailed : (r : Result ℕ Failed) → Writes link r bytes w w2 → OnOk r ((link_at w2 link).faults ≡ (link_at w link).faults)
   write-unfailed (Ok n) writes = faults-kept (λ p. peer_written p (take n bytes)) w w2 link (ap (λ v. v.peers) writes.2) (λ p. refl)

@@ -11,8 +11,9 @@ pub record AskList : Type 0 where
 
 -- what a value in code stands for
 abbrev pub ask_of : AskKept → Ask
-ask_of (AskKept.Accept port) = accept port
+ask_of (AskKept.Accept bind port) = accept (string_bytes bind) port
 ask_of (AskKept.Dial host port) = dial (string_bytes host) port
 
 abbrev pub asked_of : List AskedKept → List Asked
-asked_of asks = fold (λ asked a. record { ask = ask_of a.ask; link = a.link } ∷ asked) [] asks
+asked_of asks = fold
+    (λ asked a. record { ask = ask_of a.ask; beside = a.beside; link = a.link } ∷ asked) [] asks

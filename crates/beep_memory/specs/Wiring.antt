@@ -6,7 +6,7 @@ use Rattle.std.specs.Borrow.{GName}
 use Rattle.beep_wires.specs.Counts.{next_count}
 use Rattle.beep_wires.specs.Planned.{is_planned}
 use Rattle.beep_wires.specs.Log.{Entry, wrote, Event, entries_of}
-use Rattle.beep_wires.specs.Links.{Link, Counts, Ask, accept, dial, Asked}
+use Rattle.beep_wires.specs.Links.{Link, Counts, Ask, accept, dial, Asked, open_among}
 use Rattle.beep_memory.specs.Gifts.{Gift, entry_from, is_silent, left_after, is_over, gifts_need}
 use Rattle.beep_memory.specs.declared.mem_wires.TheConstants.{LINKS_MAX}
 
@@ -145,6 +145,10 @@ link_of log p = record {
 abbrev pub link_at : Wiring → ℕ → Link
 link_at w link = link_of (entries_of link w.story) (slice_get w.peers link)
 
+-- how many links are open
+abbrev pub open_count : List Peer → ℕ
+open_count peers = open_among (λ link. link_of [] (slice_get peers link)) (length peers)
+
 -- what a link has still to give, and the room on it
 abbrev pub gifts_of : Option Peer → List Gift
 gifts_of None = []
@@ -194,17 +198,17 @@ opened peers [] = peers
 opened peers (stock ∷ waiting) = peers ++ peer_of stock ∷ []
 
 abbrev pub accepts_after : Ask → ℕ → ℕ
-accepts_after (accept port) count = next_count count
+accepts_after (accept bind port) count = next_count count
 accepts_after (dial host port) count = count
 
 abbrev pub dials_after : Ask → ℕ → ℕ
-dials_after (accept port) count = count
+dials_after (accept bind port) count = count
 dials_after (dial host port) count = next_count count
 
 -- after an accept or a dial that failed
 abbrev pub wiring_refused : Wiring → Ask → Wiring
 wiring_refused w ask = record w {
-  asked = record { ask = ask; link = None } ∷ w.asked;
+  asked = record { ask = ask; beside = open_count w.peers; link = None } ∷ w.asked;
   calls = next_count w.calls;
   accepts = accepts_after ask w.accepts;
   dials = dials_after ask w.dials;
@@ -215,7 +219,8 @@ abbrev pub wiring_given : Wiring → Ask → Wiring
 wiring_given w ask = record w {
   peers = opened w.peers w.waiting;
   waiting = drop 1 w.waiting;
-  asked = record { ask = ask; link = Some (length w.peers) } ∷ w.asked;
+  asked = record { ask = ask; beside = open_count w.peers; link = Some (length w.peers) }
+      ∷ w.asked;
   calls = next_count w.calls;
 }
 

@@ -8,14 +8,15 @@ use std::marker::Model;
 /// What asks for a link.
 #[derive(Debug, Drop)]
 pub(crate) enum Ask {
-    Accept(u16),
+    Accept(String, u16),
     Dial(String, u16),
 }
 
-/// What asked, and the number of the link that it got, if any.
+/// What asked, how many links were open then, and the number of the link that it got, if any.
 #[derive(Debug, Drop)]
 pub(crate) struct Asked {
     pub(crate) ask: Ask,
+    pub(crate) beside: usize,
     pub(crate) link: Option<u32>,
 }
 
@@ -58,11 +59,12 @@ impl Asks {
         Ok(())
     }
 
-    /// Adds what asked, as the latest.
-    pub(crate) fn note(&mut self, ask: Ask, link: Option<u32>)
+    /// Adds what asked beside so many open links, as the latest.
+    pub(crate) fn note(&mut self, ask: Ask, beside: usize, link: Option<u32>)
         requires { 0 < self.old.room }
-        ensures { self.new.asked ≡ record { ask = ask_of ask; link = link } ∷ self.old.asked }
+        ensures { self.new.asked
+            ≡ record { ask = ask_of ask; beside = beside; link = link } ∷ self.old.asked }
     {
-        self.list.push_reserved(Asked { ask, link });
+        self.list.push_reserved(Asked { ask, beside, link });
     }
 }

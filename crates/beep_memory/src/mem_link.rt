@@ -105,6 +105,13 @@ impl MemLink {
         self.written.as_slice()
     }
 
+    /// Whether it isn't shut.
+    pub(crate) fn is_open(&self) -> bool
+        ensures { result ≡ self.now.is_open }
+    {
+        self.is_open
+    }
+
     /// How many more octets find room.
     pub(crate) fn room(&self) -> usize
         ensures { result ≡ self.now.room }

@@ -1,17 +1,17 @@
 //! Links in memory.
 ghost use Rattle.std.specs.Prelude.{◌≡◌, ◌||◌, ◌++◌, ◌∷◌, [], ◌+◌, ◌<◌, ◌≤◌, nat_le, true, false, Some, length, drop, IfOk, IfSome, OnOk, OnErr, slice_get, vec_len, vec_capacity};
 ghost use Rattle.std.specs.List.{list_all};
-ghost use Rattle.beep_wires.specs.Counts.{next_count, Rose};
+ghost use Rattle.beep_wires.specs.Counts.{next_count};
 ghost use Rattle.beep_memory.specs.declared.mem_wires.TheConstants.{LINKS_MAX};
 ghost use Rattle.beep_memory.specs.Gifts.{is_some, GotFits, entry_got, got_need, quiets_counted};
-ghost use Rattle.beep_memory.specs.Wiring.{has_none, opened, written_of};
+ghost use Rattle.beep_memory.specs.Wiring.{has_none, open_count, opened, written_of};
 
 use crate::asks::{Ask, Asks};
 use crate::events::{Deed, Events};
 use crate::gives::{Gives, sum_within};
 use crate::mem_link::*;
 use beep_octets::{NoMemory, Octets};
-use beep_wires::{Failed, Fails, Got, WireError, Wires, next_count};
+use beep_wires::{Account, Failed, Fails, Got, WireError, Wires, next_count};
 use std::alloc::Global;
 use std::marker::Model;
 
@@ -122,19 +122,20 @@ impl MemWires {
         if self.links.reserve(1).is_err() || self.asks.reserve().is_err() {
             return Err(WireError::NoMemory);
         }
+        let beside = open_count(&self.links);
         let is_planned = self.fails.has(self.calls);
         self.calls = next_count(self.calls);
         if is_refused(is_planned, &self.waiting, &self.links) {
             match ask {
-                Ask::Accept(_) => self.accept_faults = next_count(self.accept_faults),
+                Ask::Accept(_, _) => self.accept_faults = next_count(self.accept_faults),
                 Ask::Dial(_, _) => self.dial_faults = next_count(self.dial_faults),
             }
-            self.asks.note(ask, None);
+            self.asks.note(ask, beside, None);
             return Err(WireError::Failed);
         }
         let link = self.links.len() as u32;
         open_first(&mut self.waiting, &mut self.links);
-        self.asks.note(ask, Some(link));
+        self.asks.note(ask, beside, Some(link));
         Ok(link)
     }
 
@@ -198,6 +199,21 @@ fn is_refused(is_planned: bool, waiting: &Vec<MemStock>, links: &Vec<MemLink>) -
     is_planned || waiting.as_slice().is_empty() || links.as_slice().len() >= LINKS_MAX as usize
 }
 
+/// How many links are open.
+fn open_count(links: &Vec<MemLink>) -> usize
+    ensures { result ≡ open_count links.now.items }
+{
+    let mut count = 0;
+    let mut at = 0;
+    while at < links.len() {
+        if links[at].is_open() {
+            count += 1;
+        }
+        at += 1;
+    }
+    count
+}
+
 /// Moves the first link that waits to those that are given.
 fn open_first(waiting: &mut Vec<MemStock>, links: &mut Vec<MemLink>)
     requires some { has_none waiting.old.items ≡ false }
@@ -235,7 +251,7 @@ fn note_read(story: &mut Events, link: u32, got: Got, buf: &[u8])
 impl Wires for MemWires {
     ghost use Rattle.std.specs.Prelude.{refl};
     ghost use Rattle.beep_memory.specs.Wiring.{link_at, counts_of, no_lender, wiring_shut};
-    ghost use Rattle.beep_wires.specs.Links.{accept as accept_of, dial as dial_of, IsFresh, SameBeside, LeavesLinks, asked_by, Asks as Asked, given_after, Faults};
+    ghost use Rattle.beep_wires.specs.Links.{accept as accept_of, dial as dial_of, IsFresh, SameBeside, LeavesLinks, open_among, asked_by, Asks as Asked, given_after, Faults};
     ghost use Rattle.beep_wires.specs.Got.{GotWithin, read_entries, write_entries, gives_end, Quiets};
     ghost use Rattle.beep_wires.specs.Log.{Logs, Enters, entries_of};
     ghost use Rattle.beep_memory.specs.Answers.{Answers, Reads, Writes};
@@ -252,14 +268,15 @@ impl Wires for MemWires {
 
     ghost in_story = { λ w link. refl };
 
-    fn accept(&mut self, port: u16) -> Result<u32, WireError>
-        ensures answers { Answers (accept_of port) result self.old self.new }
+    fn accept(&mut self, bind: &str, port: u16) -> Result<u32, WireError>
+        ensures answers { Answers (accept_of bind.now port) result self.old self.new }
         // What all links ensure.
         ensures number { IfOk result (λ link. link ≡ (counts_of self.old).given) }
         ensures fresh { IfOk result (λ link. IsFresh (link_at self.new link)) }
         ensures others { LeavesLinks result (link_at self.old) (link_at self.new) }
         ensures asks { Asked (Some self.old.asked) (Some self.new.asked)
-            (asked_by (accept_of port) result) }
+            (asked_by (accept_of bind.now port)
+            (open_among (link_at self.old) (counts_of self.old).given) result) }
         ensures given { (counts_of self.new).given ≡ given_after (counts_of self.old).given result }
         ensures failed { Faults result (counts_of self.old).accepts (counts_of self.new).accepts }
         ensures dials { (counts_of self.new).dials ≡ (counts_of self.old).dials }
@@ -267,7 +284,10 @@ impl Wires for MemWires {
         ensures same_story { Some self.new.story ≡ Some self.old.story }
         ensures same_lent { no_lender ≡ no_lender }
     {
-        self.give(Ask::Accept(port))
+        match String::from_str(self.alloc, bind) {
+            Ok(bind) => self.give(Ask::Accept(bind, port)),
+            Err(_) => Err(WireError::NoMemory),
+        }
     }
 
     fn dial(&mut self, host: &str, port: u16) -> Result<u32, WireError>
@@ -277,7 +297,8 @@ impl Wires for MemWires {
         ensures fresh { IfOk result (λ link. IsFresh (link_at self.new link)) }
         ensures others { LeavesLinks result (link_at self.old) (link_at self.new) }
         ensures asks { Asked (Some self.old.asked) (Some self.new.asked)
-            (asked_by (dial_of host.now port) result) }
+            (asked_by (dial_of host.now port)
+            (open_among (link_at self.old) (counts_of self.old).given) result) }
         ensures given { (counts_of self.new).given ≡ given_after (counts_of self.old).given result }
         ensures failed { Faults result (counts_of self.old).dials (counts_of self.new).dials }
         ensures accepts { (counts_of self.new).accepts ≡ (counts_of self.old).accepts }
@@ -295,6 +316,7 @@ impl Wires for MemWires {
         requires room { 0 < length buf.old }
         requires alive { (link_at self.old link).is_open ≡ true }
         requires going { (link_at self.old link).has_ended ≡ false }
+        requires unfailed { (link_at self.old link).faults ≡ 0 }
         ensures reads { Reads link result buf.old buf.new self.old self.new }
         // What all links ensure.
         ensures within { GotWithin result buf.new }
@@ -304,8 +326,7 @@ impl Wires for MemWires {
             (read_entries result buf.new) }
         ensures still_open { (link_at self.new link).is_open ≡ true }
         ensures end { (link_at self.new link).has_ended ≡ gives_end result }
-        ensures failed { OnErr result
-            (Rose (link_at self.old link).faults (link_at self.new link).faults) }
+        ensures failed { OnErr result ((link_at self.new link).faults ≡ 1) }
         ensures unfailed { OnOk result
             ((link_at self.new link).faults ≡ (link_at self.old link).faults) }
         ensures kept { (link_at self.old link).faults ≤ (link_at self.new link).faults }
@@ -323,6 +344,7 @@ impl Wires for MemWires {
     fn write(&mut self, link: u32, bytes: &[u8]) -> Result<usize, Failed>
         requires some { 0 < length bytes.now }
         requires alive { (link_at self.old link).is_open ≡ true }
+        requires unfailed { (link_at self.old link).faults ≡ 0 }
         ensures writes { Writes link result bytes.now self.old self.new }
         // What all links ensure.
         ensures within { IfOk result (λ n. (0 < n) × (n ≤ length bytes.now)) }
@@ -332,8 +354,7 @@ impl Wires for MemWires {
             (write_entries result bytes.now) }
         ensures still_open { (link_at self.new link).is_open ≡ true }
         ensures end { (link_at self.new link).has_ended ≡ (link_at self.old link).has_ended }
-        ensures failed { OnErr result
-            (Rose (link_at self.old link).faults (link_at self.new link).faults) }
+        ensures failed { OnErr result ((link_at self.new link).faults ≡ 1) }
         ensures unfailed { OnOk result
             ((link_at self.new link).faults ≡ (link_at self.old link).faults) }
         ensures kept { (link_at self.old link).faults ≤ (link_at self.new link).faults }
@@ -345,6 +366,8 @@ impl Wires for MemWires {
     {
         self.write_link(link, bytes)
     }
+
+    fn tell(&self, _link: u32, _account: Account) {}
 
     fn shut(&mut self, link: u32)
         requires alive { (link_at self.old link).is_open ≡ true }

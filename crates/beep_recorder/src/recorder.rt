@@ -8,7 +8,7 @@ use crate::keep::{first_given, is_recorded, keep_read, keep_write};
 use crate::known::Known;
 use beep_octets::{NoMemory, Octets};
 use beep_record::{Log, LogEntries, Role, write_record};
-use beep_wires::{Failed, Got, WireError, Wires};
+use beep_wires::{Account, Failed, Got, WireError, Wires};
 use std::alloc::Global;
 use std::marker::{Brand, PhantomData};
 
@@ -138,10 +138,10 @@ impl<'w, W: Wires, K: Known> Wires for Recorder<'w, W, K> {
 
     ghost in_story = { λ r link. W.in_story r.wires.now link };
 
-    fn accept(&mut self, port: u16) -> Result<u32, WireError> {
+    fn accept(&mut self, bind: &str, port: u16) -> Result<u32, WireError> {
         let was_short = self.short;
         self.short = true;
-        let answer = self.wires.accept(port);
+        let answer = self.wires.accept(bind, port);
         self.link = first_given(self.link, answer);
         self.short = was_short;
         answer
@@ -174,6 +174,10 @@ impl<'w, W: Wires, K: Known> Wires for Recorder<'w, W, K> {
         let answer = self.wires.write(link, bytes);
         self.short = !keep_write(&mut self.log.entries, self.alloc, answer, bytes);
         answer
+    }
+
+    fn tell(&self, link: u32, account: Account) {
+        self.wires.tell(link, account);
     }
 
     fn shut(&mut self, link: u32) {

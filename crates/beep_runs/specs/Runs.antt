@@ -6,7 +6,7 @@ use Rattle.std.specs.Borrow.{GName}
 use Rattle.beep_listener.specs.beep_wires.specs.declared.links.WireError.{WireError}
 use Rattle.beep_listener.specs.beep_wires.specs.declared.count.TheConstants.{COUNT_MAX}
 use Rattle.beep_listener.specs.beep_wires.specs.Counts.{Rose}
-use Rattle.beep_listener.specs.beep_wires.specs.Links.{Link, Counts, Ask, accept, dial, Asked, Asks, asked_by, IsFresh, SameBeside}
+use Rattle.beep_listener.specs.beep_wires.specs.Links.{Link, Counts, Ask, accept, dial, Asked, Asks, asked_by, open_among, IsFresh, SameBeside}
 use Rattle.beep_listener.specs.beep_journal.specs.declared.role.Role.{Role}
 use Rattle.beep_listener.specs.beep_session.specs.beep_octets.specs.Held.{Held}
 use Rattle.beep_listener.specs.beep_settings.specs.declared.settings.Settings.{Settings}
@@ -96,10 +96,14 @@ pub record NotGiven (cause : Ended) (old new : ℕ) (before after : Seen) : Type
   pub given : after.counts.given ≡ before.counts.given
   pub same : (link : ℕ) → after.state link ≡ before.state link
 
+-- how many links are open of those that were given
+abbrev pub open_of : Seen → ℕ
+open_of seen = open_among seen.state seen.counts.given
+
 -- this was asked, once, where it is known what was asked
 abbrev pub AsksThis : Ask → Seen → Seen → Type 0
 AsksThis ask before after =
-    (r : Result ℕ WireError) × Asks before.asked after.asked (asked_by ask r)
+    (r : Result ℕ WireError) × Asks before.asked after.asked (asked_by ask (open_of before) r)
 
 -- where memory sufficed the octets gained are the record of the link that was given; else none were
 -- gained
@@ -147,7 +151,8 @@ pub record ListensOver (settings : Settings) (result : Result Ended Ended) (befo
       NotGiven ended before.counts.accepts after.counts.accepts before after)
   -- where none was, nothing is gained, and the room stays
   pub same_out : IfErr result (λ ended. new ≡ old)
-  -- what was asked for: a link on the port that is set
-  pub asks : AsksThis (accept settings.port) before after
+  -- what was asked for: a link on the address and the port that are set
+  pub asks : (bind : List ℕ) × (chars bind ≡ settings.bind)
+      × AsksThis (accept bind settings.port) before after
   -- no output is the cause of an end
   pub unwritten : IfOk result (λ ended. ended ≢ Ended.WriteFault)

@@ -4,8 +4,10 @@
 
 pub mod laws;
 mod recorded;
+mod told;
 
 pub use recorded::{listen_recorded, send_recorded};
+pub use told::{taken_lines, tell_session};
 
 // Crates below, which are named through this one.
 pub use beep_listener;

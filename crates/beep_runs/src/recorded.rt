@@ -6,11 +6,12 @@ ghost use Rattle.beep_listener.specs.beep_steps.specs.Ends.{AreFit};
 ghost use Rattle.beep_recorder.specs.Kept.{Recording, RecordsKnown};
 ghost use Rattle.beep_runs.specs.Runs.{ListensOver, seen_by, SendsOver};
 
+use crate::told::{taken_lines, tell_session};
 use beep_listener::beep_octets::{NoMemory, Octets};
 use beep_listener::beep_settings::Settings;
 use beep_listener::beep_wires::{NullSink, WireError, Wires};
 use beep_listener::prof_raw::Entries;
-use beep_listener::{Ended, listen_end};
+use beep_listener::{CountedSink, Ended, listen_end};
 use beep_recorder::beep_record::Role;
 use beep_recorder::{Known, Recorder};
 use beep_sender::send_end;
@@ -78,6 +79,7 @@ fn send_through<W: Wires, K: Known>(
         Err(WireError::NoMemory) => return Err(Ended::NoMemory),
     };
     let ended = send_end(alloc, recorder, link, settings, lines);
+    tell_session(recorder, link, settings, ended, taken_lines(ended, lines));
     recorder.shut(link);
     Ok(put_record(recorder, ended, out))
 }
@@ -134,13 +136,15 @@ fn listen_through<W: Wires, K: Known>(
         ListensOver settings.now result (seen recorder.old.wires.now)
         (seen recorder.new.wires.now) out.old out.new }
 {
-    let link = match recorder.accept(settings.port) {
+    let link = match recorder.accept(settings.bind.as_str(), settings.port) {
         Ok(link) => link,
         Err(WireError::Failed) => return Err(Ended::WireFault),
         Err(WireError::NoMemory) => return Err(Ended::NoMemory),
     };
     let mut none = NullSink;
-    let ended = listen_end(alloc, recorder, link, settings, &mut none);
+    let mut counted = CountedSink::new(&mut none);
+    let ended = listen_end(alloc, recorder, link, settings, &mut counted);
+    tell_session(recorder, link, settings, ended, counted.lines());
     recorder.shut(link);
     Ok(put_record(recorder, ended, out))
 }

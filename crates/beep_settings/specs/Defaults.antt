@@ -3,12 +3,13 @@
 use Rattle.std.specs.Prelude.{false, chars, codes}
 use Rattle.beep_settings.specs.declared.settings.Settings.{Settings}
 use Rattle.beep_seq.specs.declared.limits.TheConstants.{INITIAL_WINDOW}
-use Rattle.beep_settings.specs.declared.settings.TheConstants.{HOST, RAW_URI, PORT, PIECE, IDLE, OCTETS, SESSIONS}
+use Rattle.beep_settings.specs.declared.settings.TheConstants.{HOST, BIND, RAW_URI, PORT, PIECE, IDLE, OCTETS, SESSIONS}
 
 -- the settings without options
 abbrev pub default_settings : Settings
 default_settings = record {
   host = chars HOST.now;
+  bind = chars BIND.now;
   port = PORT;
   raw_uri = chars RAW_URI.now;
   window = INITIAL_WINDOW;
@@ -17,4 +18,5 @@ default_settings = record {
   octets = OCTETS;
   sessions = SESSIONS;
   recording = false;
+  quiet = false;
 }

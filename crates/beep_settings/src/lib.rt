@@ -6,4 +6,4 @@ mod limits;
 mod settings;
 
 pub use limits::MAX_PIECE;
-pub use settings::{HOST, IDLE, OCTETS, PIECE, PORT, RAW_URI, SESSIONS, Settings};
+pub use settings::{BIND, HOST, IDLE, OCTETS, PIECE, PORT, RAW_URI, SESSIONS, Settings};

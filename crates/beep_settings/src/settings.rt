@@ -10,6 +10,9 @@ use std::alloc::Global;
 /// The host that is dialled where nothing else is set.
 pub const HOST: &str = "localhost";
 
+/// The address on which links are accepted where nothing else is set: each IPv4 address of the host.
+pub const BIND: &str = "0.0.0.0";
+
 /// The URI of the profile RAW where nothing else is set (RFC 3195, section 6.2).
 pub const RAW_URI: &str = "http://xml.resource.org/profiles/syslog/RAW";
 
@@ -34,6 +37,8 @@ pub const SESSIONS: u32 = 1;
 pub struct Settings {
     /// The host that is dialled, 1 to 253 octets.
     pub host: Text,
+    /// The IPv4 or IPv6 address on which links are accepted, at most 45 octets.
+    pub bind: Text,
     /// The port that is dialled, or on which links are accepted, from 1.
     pub port: u16,
     /// The URI of the profile RAW, 1 to 255 printable characters of ASCII.
@@ -51,6 +56,8 @@ pub struct Settings {
     pub sessions: u32,
     /// Whether the record of the one link is written in place of other output.
     pub recording: bool,
+    /// Whether nothing is told of a session that ended.
+    pub quiet: bool,
 }
 
 impl Settings {
@@ -60,6 +67,7 @@ impl Settings {
     {
         Ok(Settings {
             host: Text::of(alloc, HOST)?,
+            bind: Text::of(alloc, BIND)?,
             port: PORT,
             raw_uri: Text::of(alloc, RAW_URI)?,
             window: INITIAL_WINDOW,
@@ -68,6 +76,7 @@ impl Settings {
             octets: OCTETS,
             sessions: SESSIONS,
             recording: false,
+            quiet: false,
         })
     }
 }

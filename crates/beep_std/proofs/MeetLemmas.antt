@@ -1,22 +1,14 @@
 -- What links over TCP do is what all links ensure.
-use Rattle.std.proofs.Common.{◌≡◌, ℕ, ◌≤◌, true, false, length, Option, Some, None, option_map, Result, Ok, Err, inl, inr, refl, sym, ap, ap₂, subst, ◌∙◌, arith}
+use Rattle.std.proofs.Common.{◌≡◌, ℕ, ◌≤◌, true, false, length, Option, Some, None, option_map, Result, Ok, Err, refl, sym, ap, ap₂, ◌∙◌, arith}
 use Rattle.std.specs.List.{slice_get}
 use Rattle.std.specs.Result.{OnOk, OnErr}
-use Rattle.std.proofs.lemmas.Bool.{cases_lt}
-use Rattle.beep_wires.specs.declared.count.TheConstants.{COUNT_MAX}
 use Rattle.beep_wires.specs.declared.failed.Failed.{Failed}
 use Rattle.beep_wires.specs.declared.links.Got.{Got}
-use Rattle.beep_wires.specs.Counts.{next_count, Rose}
+use Rattle.beep_wires.specs.Counts.{next_count}
 use Rattle.beep_wires.specs.Links.{SameBeside}
 use Rattle.beep_wires.specs.Got.{gives_end}
 use Rattle.beep_std.specs.Sockets.{Socket, Sockets, link_of, link_at, counts_of, socket_read, socket_written, socket_shut, changed, faults_after, sockets_read, sockets_written, sockets_shut}
 use Rattle.beep_std.proofs.PlaceLemmas.{length-changed, get-changed, get-beside, open-socket}
-
-rises : (count : ℕ) → Rose count (next_count count)
-rises count = elim (cases_lt count COUNT_MAX) as (λ _. Rose count (next_count count)) [
-  | inl less ↦ inl (omega arith)
-  | inr most ↦ inr (omega arith)
-]
 
 -- ---- one link changed
 
@@ -35,17 +27,13 @@ module _ (f : Socket → Socket) (w w2 : Sockets) (link : ℕ) (links : w2.links
 
 -- ---- counts
 
-failed-more : {A : Type 0} (r : Result A Failed) (old new : ℕ) → new ≡ faults_after r old → OnErr r (Rose old new)
-failed-more (Ok value) old new is = tt
-failed-more (Err e) old new is = subst (λ (n : ℕ). Rose old n) (sym is) (rises old)
+first-failed : {A : Type 0} (r : Result A Failed) (old new : ℕ) → new ≡ faults_after r old → old ≡ 0 → OnErr r (new ≡ 1)
+first-failed (Ok value) old new is none = tt
+first-failed (Err e) old new is none = is ∙ ap next_count none
 
 kept-count : {A : Type 0} (r : Result A Failed) (old new : ℕ) → new ≡ faults_after r old → OnOk r (new ≡ old)
 kept-count (Ok value) old new is = is
 kept-count (Err e) old new is = tt
-
-never-fewer : {A : Type 0} (r : Result A Failed) (old new : ℕ) → new ≡ faults_after r old → OnErr r (old ≤ COUNT_MAX) → old ≤ new
-never-fewer (Ok value) old new is few = omega (arith, is)
-never-fewer (Err e) old new is few = omega (arith, is, few)
 
 -- ---- a read
 
@@ -68,14 +56,14 @@ module _ (w w2 : Sockets) (link : ℕ) (alive : (link_at w link).is_open ≡ tru
   pub read-end : (link_at w2 link).has_ended ≡ gives_end r
   read-end = ap (λ o. (link_of o).has_ended) read-now
 
-  pub read-failed : OnErr r (Rose (link_at w link).faults (link_at w2 link).faults)
-  read-failed = failed-more r _ _ read-faults
+  pub read-failed : (link_at w link).faults ≡ 0 → OnErr r ((link_at w2 link).faults ≡ 1)
+  read-failed none = first-failed r _ _ read-faults none
 
   pub read-unfailed : OnOk r ((link_at w2 link).faults ≡ (link_at w link).faults)
   read-unfailed = kept-count r _ _ read-faults
 
-  pub read-kept : OnErr r ((link_at w link).faults ≤ COUNT_MAX) → (link_at w link).faults ≤ (link_at w2 link).faults
-  read-kept few = never-fewer r _ _ read-faults few
+  pub read-kept : (link_at w link).faults ≡ 0 → (link_at w link).faults ≤ (link_at w2 link).faults
+  read-kept none = omega (arith, none)
 
   pub read-counted : (link_at w2 link).reads ≡ next_count (link_at w link).reads
   read-counted = ap (λ o. (link_of o).reads) read-now ∙ ap (λ l. next_count l.reads) (sym read-before)
@@ -107,14 +95,14 @@ module _ (w w2 : Sockets) (link : ℕ) (alive : (link_at w link).is_open ≡ tru
   pub write-end : (link_at w2 link).has_ended ≡ (link_at w link).has_ended
   write-end = ap (λ o. (link_of o).has_ended) write-now ∙ ap (λ l. l.has_ended) (sym write-before)
 
-  pub write-failed : OnErr r (Rose (link_at w link).faults (link_at w2 link).faults)
-  write-failed = failed-more r _ _ write-faults
+  pub write-failed : (link_at w link).faults ≡ 0 → OnErr r ((link_at w2 link).faults ≡ 1)
+  write-failed none = first-failed r _ _ write-faults none
 
   pub write-unfailed : OnOk r ((link_at w2 link).faults ≡ (link_at w link).faults)
   write-unfailed = kept-count r _ _ write-faults
 
-  pub write-kept : OnErr r ((link_at w link).faults ≤ COUNT_MAX) → (link_at w link).faults ≤ (link_at w2 link).faults
-  write-kept few = never-fewer r _ _ write-faults few
+  pub write-kept : (link_at w link).faults ≡ 0 → (link_at w link).faults ≤ (link_at w2 link).faults
+  write-kept none = omega (arith, none)
 
   pub write-counted : (link_at w2 link).reads ≡ (link_at w link).reads
   write-counted = ap (λ o. (link_of o).reads) write-now ∙ ap (λ l. l.reads) (sym write-before)

@@ -1,7 +1,6 @@
 -- A list with one link changed, or one more, and the link at a place.
-use Rattle.std.proofs.Common.{◌≡◌, ℕ, zero, suc, ◌<◌, ◌≤◌, true, List, [], ◌∷◌, ◌++◌, length, get_or, set, Some, option_map, Result, Ok, Err, refl, ap, subst, ◌∙◌, arith}
+use Rattle.std.proofs.Common.{◌≡◌, ℕ, zero, suc, ◌<◌, true, List, [], ◌∷◌, ◌++◌, length, get_or, set, Some, option_map, refl, ap, ◌∙◌, arith}
 use Rattle.std.specs.List.{slice_get}
-use Rattle.std.specs.Result.{OnErr}
 use Rattle.beep_std.specs.Sockets.{Socket, changed, link_of}
 
 pub set-changed : (f : Socket → Socket) (xs : List Socket) (i : ℕ) (old new : Socket) → i < length xs → old ≡ get_or xs i old → new ≡ f old → set xs i new ≡ changed f xs i
@@ -46,13 +45,3 @@ pub open-within : (links : List Socket) (link : ℕ) → (link_of (slice_get lin
 open-within [] link alive = absurd (cc alive)
 open-within (s ∷ links) zero alive = omega arith
 open-within (s ∷ links) (suc link) alive = omega (arith, open-within links link alive)
-
-pub faults-at : (xs : List Socket) (i : ℕ) (s : Socket) (most : ℕ) → i < length xs → s ≡ get_or xs i s → s.faults ≤ most → (link_of (slice_get xs i)).faults ≤ most
-faults-at [] i s most within is few = absurd (omega arith)
-faults-at (x ∷ xs) zero s most within is few = subst (λ (y : Socket). y.faults ≤ most) is few
-faults-at (x ∷ xs) (suc i) s most within is few = faults-at xs i s most (omega arith) is few
-
-pub faults-where : {A E : Type 0} (r : Result A E) (xs : List Socket) (i : ℕ) (s : Socket) (most : ℕ) → i < length xs → s ≡ get_or xs i s
-    → OnErr r (s.faults ≤ most) → OnErr r ((link_of (slice_get xs i)).faults ≤ most)
-faults-where (Ok value) xs i s most within is few = tt
-faults-where (Err e) xs i s most within is few = faults-at xs i s most within is few

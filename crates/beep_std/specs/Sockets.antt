@@ -96,7 +96,7 @@ changed f (s ∷ links) (suc link) = s ∷ changed f links link
 
 -- an accept or a dial that failed
 abbrev pub refused : Ask → Sockets → Sockets
-refused (accept port) w = record w { accepts = next_count w.accepts }
+refused (accept bind port) w = record w { accepts = next_count w.accepts }
 refused (dial host port) w = record w { dials = next_count w.dials }
 
 -- an accept or a dial

@@ -1,15 +1,16 @@
 //! The ports on which peers are waited for.
 ghost use Rattle.std.specs.Prelude.{◌<◌, ◌≤◌, length, IfOk};
 
-use crate::tries::TRIES;
-use beep_wires::WireError;
+use crate::accepts::accept_one;
+use crate::fault::{Call, Unlinked};
 use std::alloc::Global;
-use std::io::ErrorKind;
-use std::net::{Ipv4Addr, Net, TcpListener, TcpStream};
+use std::net::{Net, SocketAddr, TcpListener, TcpStream};
+use std::time::Clock;
 
-/// A port, and the socket that waits on it.
+/// A port of an address, and the socket that waits on it.
 #[derive(Drop)]
 struct Listening {
+    bind: String,
     port: u16,
     listener: TcpListener,
 }
@@ -18,6 +19,7 @@ struct Listening {
 /// accepts waits for the second.
 #[derive(Drop)]
 pub(crate) struct Listeners {
+    alloc: Global,
     list: Vec<Listening>,
 }
 
@@ -25,61 +27,68 @@ impl Listeners {
     /// No port. It takes no memory.
     pub(crate) fn new(alloc: Global) -> Listeners {
         Listeners {
+            alloc,
             list: Vec::new(alloc),
         }
     }
 
-    /// Waits for a peer on this port.
-    pub(crate) fn accept<R>(&mut self, net: &R, port: u16) -> Result<TcpStream, WireError>
+    /// Waits for a peer on this port of this address, and gives its address too.
+    pub(crate) fn accept<R>(
+        &mut self,
+        net: &R,
+        bind: &str,
+        port: u16,
+    ) -> Result<(TcpStream, SocketAddr), Unlinked>
     where
-        R: Net<Listener = TcpListener, Stream = TcpStream>,
+        R: Net<Listener = TcpListener, Stream = TcpStream> + Clock,
     {
-        let at = self.listen(net, port)?;
-        accept_once(&self.list[at].listener)
+        let at = self.listen(net, bind, port)?;
+        match accept_one(net, &self.list[at].listener) {
+            Ok(given) => Ok(given),
+            Err(why) => Err(Unlinked::Failed(Call::Accept, why)),
+        }
     }
 
     /// The place of the port among those that are waited on, after which it is.
-    fn listen<R>(&mut self, net: &R, port: u16) -> Result<usize, WireError>
+    fn listen<R>(&mut self, net: &R, bind: &str, port: u16) -> Result<usize, Unlinked>
     where
         R: Net<Listener = TcpListener, Stream = TcpStream>,
         ensures { IfOk result (λ at. at < length self.new.list.items) }
     {
-        let at = place_of(&self.list, port);
+        let at = place_of(&self.list, bind, port);
         if at == self.list.len() {
             if self.list.reserve(1).is_err() {
-                return Err(WireError::NoMemory);
+                return Err(Unlinked::NoMemory);
             }
-            let Ok(listener) = TcpListener::bind(net, (Ipv4Addr::UNSPECIFIED, port)) else {
-                return Err(WireError::Failed);
+            let Ok(name) = String::from_str(self.alloc, bind) else {
+                return Err(Unlinked::NoMemory);
             };
-            self.list.push_reserved(Listening { port, listener });
+            let listener = match TcpListener::bind(net, (bind, port)) {
+                Ok(listener) => listener,
+                Err(why) => return Err(Unlinked::Failed(Call::Listen, why)),
+            };
+            self.list.push_reserved(Listening {
+                bind: name,
+                port,
+                listener,
+            });
         }
         Ok(at)
     }
 }
 
-/// The place of a port, or where it comes.
-fn place_of(list: &Vec<Listening>, port: u16) -> usize
+/// The place of a port of an address, or where it comes.
+fn place_of(list: &Vec<Listening>, bind: &str, port: u16) -> usize
     ensures { result ≤ length list.now.items }
 {
     let mut at = 0;
-    while at < list.len() && list[at].port != port {
+    while at < list.len() && !is_at(&list[at], bind, port) {
         at += 1;
     }
     at
 }
 
-/// Accepts one peer. One that was gone before it was accepted is passed over, up to [`TRIES`] in
-/// all.
-fn accept_once(listener: &TcpListener) -> Result<TcpStream, WireError> {
-    for _ in 0..TRIES {
-        match listener.accept() {
-            Ok((stream, _)) => return Ok(stream),
-            Err(e) => match e.kind() {
-                ErrorKind::ConnectionAborted | ErrorKind::Interrupted => {}
-                _ => return Err(WireError::Failed),
-            },
-        }
-    }
-    Err(WireError::Failed)
+/// Whether it is of this port and this address.
+fn is_at(one: &Listening, bind: &str, port: u16) -> bool {
+    one.port == port && one.bind.as_str() == bind
 }

@@ -5,8 +5,11 @@ ghost use Rattle.beep_wires.specs.Counts.{next_count, Rose};
 
 use crate::tries::write_once;
 use beep_wires::{Failed, Sink, next_count};
-use std::io::Stdout;
+use std::io::{self, Stdout};
 use std::marker::Model;
+
+/// How many of the last octets that were written are kept: more than a last line has.
+const TAIL: usize = 64;
 
 /// Standard output. Each write hands its octets to the system, and keeps no buffer of its own, so
 /// there is nothing to flush: the caller gathers.
@@ -14,6 +17,9 @@ use std::marker::Model;
 pub struct StdSink {
     stdout: Stdout,
     faults: u64,
+    why: Option<io::Error>,
+    tail: [u8; TAIL],
+    kept: usize,
 }
 
 impl Model for StdSink {
@@ -29,7 +35,32 @@ impl StdSink {
     pub fn new(stdout: Stdout) -> StdSink
         ensures { result ≡ 0 }
     {
-        StdSink { stdout, faults: 0 }
+        StdSink {
+            stdout,
+            faults: 0,
+            why: None,
+            tail: [0; TAIL],
+            kept: 0,
+        }
+    }
+
+    /// Why the last write that failed did, for people.
+    pub fn why(&self) -> Option<io::Error> {
+        self.why
+    }
+
+    /// The end of what the last write wrote, at most 64 octets, for people.
+    pub fn tail(&self) -> &[u8] {
+        &self.tail[..self.kept.min(TAIL)]
+    }
+
+    /// Keeps the end of what was written.
+    fn keep(&mut self, written: &[u8])
+        ensures { self.new ≡ self.old }
+    {
+        let kept = written.len().min(TAIL);
+        self.tail[..kept].copy_from_slice(&written[written.len() - kept..]);
+        self.kept = kept;
     }
 }
 
@@ -46,10 +77,16 @@ impl Sink for StdSink {
         ensures failed { OnErr result (Rose self.old self.new) }
         ensures kept { self.old ≤ self.new }
     {
-        let answer = write_once(&mut self.stdout, bytes);
-        if let Err(Failed) = answer {
-            self.faults = next_count(self.faults);
+        match write_once(&mut self.stdout, bytes) {
+            Ok(n) => {
+                self.keep(&bytes[..n]);
+                Ok(n)
+            }
+            Err(why) => {
+                self.faults = next_count(self.faults);
+                self.why = Some(why);
+                Err(Failed)
+            }
         }
-        answer
     }
 }

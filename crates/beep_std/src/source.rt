@@ -8,7 +8,7 @@ ghost use Rattle.beep_std.specs.Counts.{at_start};
 
 use crate::tries::read_once;
 use beep_wires::{Failed, Source, next_count};
-use std::io::Stdin;
+use std::io::{self, Stdin};
 use std::marker::Model;
 
 /// Standard input. Each read asks the system for as much as the buffer holds, and keeps no buffer
@@ -19,6 +19,7 @@ pub struct StdSource {
     ended: bool,
     faults: u64,
     reads: u64,
+    why: Option<io::Error>,
 }
 
 impl Model for StdSource {
@@ -39,7 +40,13 @@ impl StdSource {
             ended: false,
             faults: 0,
             reads: 0,
+            why: None,
         }
+    }
+
+    /// Why the last read that failed did, for people.
+    pub fn why(&self) -> Option<io::Error> {
+        self.why
     }
 }
 
@@ -65,11 +72,16 @@ impl Source for StdSource {
         ensures counted { self.new.reads ≡ next_count self.old.reads }
     {
         self.reads = next_count(self.reads);
-        let answer = read_once(&mut self.stdin, buf);
-        match answer {
-            Ok(n) => self.ended = n == 0,
-            Err(Failed) => self.faults = next_count(self.faults),
+        match read_once(&mut self.stdin, buf) {
+            Ok(n) => {
+                self.ended = n == 0;
+                Ok(n)
+            }
+            Err(why) => {
+                self.faults = next_count(self.faults);
+                self.why = Some(why);
+                Err(Failed)
+            }
         }
-        answer
     }
 }

@@ -1,20 +1,25 @@
-//! One read or write of the system, which a signal may interrupt.
+//! One read or write of the system, which a signal may interrupt. A failure is answered as the system
+//! has it.
 ghost use Rattle.std.specs.Prelude.{◌<◌, ◌≤◌, length, IfOk};
 ghost use Rattle.std.specs.Io.{ReadsAtMost};
 ghost use Rattle.std.specs.Io.KnownBytes.{ReadConsumes, WriteAppends};
 ghost use Rattle.beep_wires.specs.Got.{GotWithin};
 ghost use Rattle.beep_std.specs.Octets.{GotConsumes};
 
-use beep_wires::{Failed, Got};
-use std::io::{ErrorKind, Read, Write};
+use beep_wires::Got;
+use std::io::{self, ErrorKind, Read, Write};
 
 /// How many times in a row the system is asked in one call where a signal interrupts it each time:
 /// a guard against a call that never returns.
 pub const TRIES: u32 = 16;
 
+/// How long a write of a link waits while nothing is taken, in seconds. It has failed then: a peer
+/// that lets octets come and reads none would hold an end for ever.
+pub const WRITE_SECONDS: u64 = 10;
+
 /// Reads once. An interrupted read is asked again, up to [`TRIES`] times in all, and then has
 /// failed.
-pub(crate) fn read_once<R: Read>(from: &mut R, buf: &mut [u8]) -> Result<usize, Failed>
+pub(crate) fn read_once<R: Read>(from: &mut R, buf: &mut [u8]) -> io::Result<usize>
     ensures within { ReadsAtMost result buf.new }
     ensures octets { ReadConsumes (R.remaining from.old) (R.remaining from.new) result buf.new }
 {
@@ -23,16 +28,18 @@ pub(crate) fn read_once<R: Read>(from: &mut R, buf: &mut [u8]) -> Result<usize, 
             Ok(n) => return Ok(n),
             Err(e) => {
                 if e.kind() != ErrorKind::Interrupted {
-                    return Err(Failed);
+                    return Err(e);
                 }
             }
         }
     }
-    Err(Failed)
+    Err(io::Error::from(ErrorKind::Interrupted))
 }
 
-/// Reads a link once, likewise. A read that had to wait too long was quiet.
-pub(crate) fn got_once<R: Read>(from: &mut R, buf: &mut [u8]) -> Result<Got, Failed>
+/// Reads a link once, likewise. A read that waited in vain for as long as it may was quiet: the
+/// system says so by `EAGAIN`, `EWOULDBLOCK`, and by no other error. `ETIMEDOUT` is that of a peer
+/// which is gone.
+pub(crate) fn got_once<R: Read>(from: &mut R, buf: &mut [u8]) -> io::Result<Got>
     ensures within { GotWithin result buf.new }
     ensures octets { GotConsumes (R.remaining from.old) (R.remaining from.new) result buf.new }
 {
@@ -42,86 +49,37 @@ pub(crate) fn got_once<R: Read>(from: &mut R, buf: &mut [u8]) -> Result<Got, Fai
             Ok(n) => return Ok(Got::Bytes(n)),
             Err(e) => match e.kind() {
                 ErrorKind::Interrupted => {}
-                ErrorKind::WouldBlock | ErrorKind::TimedOut => return Ok(Got::Quiet),
-                _ => return Err(Failed),
+                ErrorKind::WouldBlock => return Ok(Got::Quiet),
+                _ => return Err(e),
             },
         }
     }
-    Err(Failed)
+    Err(io::Error::from(ErrorKind::Interrupted))
 }
 
-/// Writes once, likewise. Taking nothing is a failure.
-pub(crate) fn write_once<W: Write>(to: &mut W, bytes: &[u8]) -> Result<usize, Failed>
+/// Writes once, likewise. Taking nothing is a failure, also where a write may wait no longer.
+pub(crate) fn write_once<W: Write>(to: &mut W, bytes: &[u8]) -> io::Result<usize>
     ensures within { IfOk result (λ n. (0 < n) × (n ≤ length bytes.now)) }
     ensures octets { WriteAppends (W.contents to.old) (W.contents to.new) result bytes.now }
 {
     for _ in 0..TRIES {
         match to.write(bytes) {
-            Ok(0) => return Err(Failed),
+            Ok(0) => return Err(io::Error::from(ErrorKind::WriteZero)),
             Ok(n) => return Ok(n),
-            Err(e) => {
-                if e.kind() != ErrorKind::Interrupted {
-                    return Err(Failed);
-                }
-            }
+            Err(e) => match e.kind() {
+                ErrorKind::Interrupted => {}
+                ErrorKind::WouldBlock => return Err(waited()),
+                _ => return Err(e),
+            },
         }
     }
-    Err(Failed)
+    Err(io::Error::from(ErrorKind::Interrupted))
+}
+
+/// Why a write that took nothing in its time failed.
+fn waited() -> io::Error {
+    io::Error::new(ErrorKind::TimedOut, "the peer took nothing for 10 seconds")
 }
 
 #[cfg(test)]
-mod tests {
-    use super::*;
-    use std::io;
-
-    /// Interrupts `left` calls, and then reads one octet and takes all.
-    #[derive(Drop)]
-    struct Stutter {
-        left: u32,
-    }
-
-    impl Stutter {
-        fn stutter(&mut self) -> io::Result<()> {
-            if self.left == 0 {
-                return Ok(());
-            }
-            self.left -= 1;
-            Err(io::Error::from(ErrorKind::Interrupted))
-        }
-    }
-
-    impl Read for Stutter {
-        fn read(&mut self, buf: &mut [u8]) -> io::Result<usize> {
-            self.stutter()?;
-            Ok(buf.len().min(1))
-        }
-    }
-
-    impl Write for Stutter {
-        fn write(&mut self, buf: &[u8]) -> io::Result<usize> {
-            self.stutter()?;
-            Ok(buf.len())
-        }
-
-        fn flush(&mut self) -> io::Result<()> {
-            Ok(())
-        }
-    }
-
-    // The interrupted calls, what a read into two octets answers, and what a write of two does.
-    #[test]
-    fn an_interrupted_call_is_asked_again(rt: HostRuntime) {
-        let rows = [
-            (0, Ok(1), Ok(2)),
-            (15, Ok(1), Ok(2)),
-            (16, Err(Failed), Err(Failed)),
-        ];
-        for (left, read, written) in rows {
-            let mut from = Stutter { left };
-            assert_eq!(rt; read_once(&mut from, &mut [0; 2]), read, "at {left}");
-            let mut to = Stutter { left };
-            assert_eq!(rt; write_once(&mut to, b"ok"), written, "at {left}");
-            assert_eq!(rt; write_once(&mut Stutter { left: 0 }, b""), Err(Failed));
-        }
-    }
-}
+mod tests;

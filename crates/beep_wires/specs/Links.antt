@@ -1,7 +1,7 @@
 -- What links are to a contract: of each link its log and what came of its calls, and of all of them
 -- the counts that belong to none.
 -- The code of some may keep more, or nothing.
-use Rattle.std.specs.Prelude.{◌≡◌, ℕ, ◌+◌, ◌≤◌, ◌⊎◌, Bool, true, false, Option, Some, None, List, [], ◌∷◌, ◌++◌, Result, Ok, Err}
+use Rattle.std.specs.Prelude.{◌≡◌, ℕ, zero, suc, if◌then◌else◌, ◌+◌, ◌≤◌, ◌⊎◌, Bool, true, false, Option, Some, None, List, [], ◌∷◌, ◌++◌, Result, Ok, Err}
 use Rattle.beep_wires.specs.declared.links.WireError.{WireError}
 use Rattle.beep_wires.specs.Counts.{Rose}
 use Rattle.beep_wires.specs.Log.{Entry}
@@ -22,14 +22,16 @@ pub record Counts : Type 0 where
   pub dials : ℕ
   pub quiets : ℕ
 
--- what asks for a link: an accept on a port, or a dial of a host and a port
+-- what asks for a link: an accept on an address and a port, or a dial of a host and a port
 pub data Ask : Type 0 where
-  accept : ℕ → Ask
+  accept : List ℕ → ℕ → Ask
   dial : List ℕ → ℕ → Ask
 
--- a call that asked for a link, and the link that it gave, or none where it failed
+-- a call that asked for a link, how many links were open then, and the link that it gave, or none
+-- where it failed
 pub record Asked : Type 0 where
   pub ask : Ask
+  pub beside : ℕ
   pub link : Option ℕ
 
 -- ---- a link that was given
@@ -51,11 +53,18 @@ abbrev pub LeavesLinks : Result ℕ WireError → (ℕ → Link) → (ℕ → Li
 LeavesLinks (Ok link) old new = SameBeside link old new
 LeavesLinks (Err e) old new = (link : ℕ) → new link ≡ old link
 
--- what a call that asked for a link adds to the list of these: nothing because memory ran out
-abbrev pub asked_by : Ask → Result ℕ WireError → List Asked
-asked_by ask (Ok link) = record { ask = ask; link = Some link } ∷ []
-asked_by ask (Err WireError.Failed) = record { ask = ask; link = None } ∷ []
-asked_by ask (Err WireError.NoMemory) = []
+-- how many of the first links, so many, are open
+abbrev pub open_among : (ℕ → Link) → ℕ → ℕ
+open_among state zero = 0
+open_among state (suc count) = open_among state count + (if (state count).is_open then 1 else 0)
+
+-- what a call that asked for a link beside so many that were open adds to the list of these:
+-- nothing because memory ran out
+abbrev pub asked_by : Ask → ℕ → Result ℕ WireError → List Asked
+asked_by ask beside (Ok link) = record { ask = ask; beside = beside; link = Some link } ∷ []
+asked_by ask beside (Err WireError.Failed) =
+    record { ask = ask; beside = beside; link = None } ∷ []
+asked_by ask beside (Err WireError.NoMemory) = []
 
 -- the list of these, where it is known, grew by so much; one that isn't known stays so
 abbrev pub Asks : Option (List Asked) → Option (List Asked) → List Asked → Type 0

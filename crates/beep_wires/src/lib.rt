@@ -21,7 +21,7 @@ pub use count::{COUNT_MAX, next_count};
 pub use failed::Failed;
 pub use fails::Fails;
 pub use link_transfer::write_link;
-pub use links::{Got, WireError, Wires};
+pub use links::{Account, Got, WireError, Wires};
 pub use mem_sink::MemSink;
 pub use mem_source::MemSource;
 pub use null_sink::NullSink;

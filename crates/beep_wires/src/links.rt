@@ -1,7 +1,7 @@
 //! What links are made, read and written by.
 ghost use Rattle.std.specs.Prelude.{◌≡◌, ◌<◌, ◌≤◌, ℕ, Option, true, false, List, length, IfOk, OnOk, OnErr};
 ghost use Rattle.std.specs.Borrow.{GName};
-ghost use Rattle.beep_wires.specs.Counts.{next_count, Rose};
+ghost use Rattle.beep_wires.specs.Counts.{next_count};
 ghost use Rattle.beep_wires.specs.Log.{Event, Logs, Enters, IsPart};
 
 use crate::failed::Failed;
@@ -26,10 +26,19 @@ pub enum WireError {
     NoMemory,
 }
 
+/// What is told of a session when its link is let go.
+#[derive(Clone, Copy, Debug, PartialEq, Eq)]
+pub struct Account {
+    /// How many lines were written, or how many of those that were sent the peer acknowledged.
+    pub lines: u64,
+    /// The exit status that stands for what ended it.
+    pub status: u8,
+}
+
 /// Links, numbered from 0 in the order in which they were given. One that ended or failed stays
 /// open until it is shut.
 pub trait Wires {
-    ghost use Rattle.beep_wires.specs.Links.{Link, Counts, Asked, accept as accept_of, dial as dial_of, IsFresh, SameBeside, LeavesLinks, asked_by, Asks, given_after, Faults};
+    ghost use Rattle.beep_wires.specs.Links.{Link, Counts, Asked, accept as accept_of, dial as dial_of, IsFresh, SameBeside, LeavesLinks, open_among, asked_by, Asks, given_after, Faults};
     ghost use Rattle.beep_wires.specs.Got.{GotWithin, read_entries, write_entries, gives_end, Quiets};
 
     /// What is known of each link, by its number.
@@ -47,12 +56,14 @@ pub trait Wires {
     /// The reference that the calls are passed on to, if they are.
     ghost lent: { Self → Option GName };
 
-    /// Waits for a peer on this port, and gives the link to it.
-    fn accept(&mut self, port: u16) -> Result<u32, WireError>
+    /// Waits for a peer on this port of this address, and gives the link to it.
+    fn accept(&mut self, bind: &str, port: u16) -> Result<u32, WireError>
         ensures number { IfOk result (λ link. link ≡ (counts self.old).given) }
         ensures fresh { IfOk result (λ link. IsFresh (state self.new link)) }
         ensures others { LeavesLinks result (state self.old) (state self.new) }
-        ensures asks { Asks (asked self.old) (asked self.new) (asked_by (accept_of port) result) }
+        ensures asks { Asks (asked self.old) (asked self.new) (asked_by
+            (accept_of bind.now port) (open_among (state self.old) (counts self.old).given)
+            result) }
         ensures given { (counts self.new).given ≡ given_after (counts self.old).given result }
         ensures failed { Faults result (counts self.old).accepts (counts self.new).accepts }
         ensures dials { (counts self.new).dials ≡ (counts self.old).dials }
@@ -65,8 +76,9 @@ pub trait Wires {
         ensures number { IfOk result (λ link. link ≡ (counts self.old).given) }
         ensures fresh { IfOk result (λ link. IsFresh (state self.new link)) }
         ensures others { LeavesLinks result (state self.old) (state self.new) }
-        ensures asks { Asks (asked self.old) (asked self.new)
-            (asked_by (dial_of host.now port) result) }
+        ensures asks { Asks (asked self.old) (asked self.new) (asked_by
+            (dial_of host.now port) (open_among (state self.old) (counts self.old).given)
+            result) }
         ensures given { (counts self.new).given ≡ given_after (counts self.old).given result }
         ensures failed { Faults result (counts self.old).dials (counts self.new).dials }
         ensures accepts { (counts self.new).accepts ≡ (counts self.old).accepts }
@@ -74,11 +86,12 @@ pub trait Wires {
         ensures same_story { story self.new ≡ story self.old }
         ensures same_lent { lent self.new ≡ lent self.old };
 
-    /// Reads a link into the front of `buf`.
+    /// Reads a link, of which no call has failed, into the front of `buf`.
     fn read(&mut self, link: u32, buf: &mut [u8]) -> Result<Got, Failed>
         requires room { 0 < length buf.old }
         requires alive { (state self.old link).is_open ≡ true }
         requires going { (state self.old link).has_ended ≡ false }
+        requires unfailed { (state self.old link).faults ≡ 0 }
         ensures within { GotWithin result buf.new }
         ensures logged { Logs (state self.old link).log (state self.new link).log
             (read_entries result buf.new) }
@@ -86,8 +99,7 @@ pub trait Wires {
             (read_entries result buf.new) }
         ensures still_open { (state self.new link).is_open ≡ true }
         ensures end { (state self.new link).has_ended ≡ gives_end result }
-        ensures failed { OnErr result
-            (Rose (state self.old link).faults (state self.new link).faults) }
+        ensures failed { OnErr result ((state self.new link).faults ≡ 1) }
         ensures unfailed { OnOk result
             ((state self.new link).faults ≡ (state self.old link).faults) }
         ensures kept { (state self.old link).faults ≤ (state self.new link).faults }
@@ -99,10 +111,12 @@ pub trait Wires {
         ensures same_asked { asked self.new ≡ asked self.old }
         ensures same_lent { lent self.new ≡ lent self.old };
 
-    /// Writes the front of `bytes` on a link, and answers how many octets. Taking none is a fault.
+    /// Writes the front of `bytes` on a link of which no call has failed, and answers how many
+    /// octets. Taking none is a fault.
     fn write(&mut self, link: u32, bytes: &[u8]) -> Result<usize, Failed>
         requires some { 0 < length bytes.now }
         requires alive { (state self.old link).is_open ≡ true }
+        requires unfailed { (state self.old link).faults ≡ 0 }
         ensures within { IfOk result (λ n. (0 < n) × (n ≤ length bytes.now)) }
         ensures logged { Logs (state self.old link).log (state self.new link).log
             (write_entries result bytes.now) }
@@ -110,8 +124,7 @@ pub trait Wires {
             (write_entries result bytes.now) }
         ensures still_open { (state self.new link).is_open ≡ true }
         ensures end { (state self.new link).has_ended ≡ (state self.old link).has_ended }
-        ensures failed { OnErr result
-            (Rose (state self.old link).faults (state self.new link).faults) }
+        ensures failed { OnErr result ((state self.new link).faults ≡ 1) }
         ensures unfailed { OnOk result
             ((state self.new link).faults ≡ (state self.old link).faults) }
         ensures kept { (state self.old link).faults ≤ (state self.new link).faults }
@@ -120,6 +133,9 @@ pub trait Wires {
         ensures same_counts { counts self.new ≡ counts self.old }
         ensures same_asked { asked self.new ≡ asked self.old }
         ensures same_lent { lent self.new ≡ lent self.old };
+
+    /// Tells of the session that was held on a link, to whom it may concern: nothing depends on it.
+    fn tell(&self, link: u32, account: Account);
 
     /// Lets a link go. It is neither read nor written any more.
     fn shut(&mut self, link: u32)

@@ -1,5 +1,6 @@
 -- Proofs.
 mod CommandLemmas
+mod FaultLemmas
 mod OptionLemmas
 pub mod UsableLemmas
 mod ValueLemmas

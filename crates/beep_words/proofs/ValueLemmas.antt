@@ -10,7 +10,7 @@ use Rattle.std.proofs.lemmas.Fmt.{parse-decimal, decimal_is_IsNumeral}
 use Rattle.std.proofs.lemmas.Slice.Eq.{bytes_eq-Decides}
 use Rattle.std.proofs.lemmas.Bool.Decides.{nat_tests}
 use Rattle.beep_words.specs.declared.form.Form.{Form}
-use Rattle.beep_words.specs.declared.options.TheConstants.{MAX_SETTING}
+use Rattle.beep_words.specs.declared.options.TheConstants.{MAX_ADDRESS, MAX_SETTING}
 use Rattle.beep_words.specs.CommandSet.{Value, choice, number, text, word_of, begins_with_dash, is_printable, IsText, IsOf, IsOfSome}
 use Rattle.beep_words.specs.Choosing.{number_in, within, is_text, value_of_word, is_of_some}
 
@@ -134,6 +134,8 @@ value_said (Form.Octets most) word value e =
 value_said (Form.Printable most) word value e =
     tested (Form.Printable most) (is_text most word && list_all is_printable word) (text word) value word (λ t. refl)
     (λ t. (text_said most word (and_left _ _ t), and_right _ _ t)) e
+value_said Form.Address word value e =
+    tested Form.Address (is_text MAX_ADDRESS word) (text word) value word (λ t. refl) (λ t. text_said MAX_ADDRESS word t) e
 value_said Form.Raw word value e =
     tested Form.Raw (bytes_eq word (codes "raw")) (text word) value word (λ t. refl) (λ t. (bytes_eq-Decides word (codes "raw")).0 t) e
 
@@ -143,6 +145,7 @@ IsReadable Form.Choice = Unit {0}
 IsReadable (Form.Number least most) = most ≤ MAX_SETTING
 IsReadable (Form.Octets most) = Unit {0}
 IsReadable (Form.Printable most) = Unit {0}
+IsReadable Form.Address = Unit {0}
 IsReadable Form.Raw = Unit {0}
 
 -- the word of a value is read as it
@@ -164,6 +167,9 @@ value_word (Form.Printable most) (choice b) r i = absurd i
 value_word (Form.Printable most) (number n) r i = absurd i
 value_word (Form.Printable most) (text octets) r i =
     ap (λ (b : Bool). cond b (Some (text octets)) None) (and_both _ _ (said_text most octets i.0) i.1)
+value_word Form.Address (choice b) r i = absurd i
+value_word Form.Address (number n) r i = absurd i
+value_word Form.Address (text octets) r i = ap (λ (b : Bool). cond b (Some (text octets)) None) (said_text MAX_ADDRESS octets i)
 value_word Form.Raw (choice b) r i = absurd i
 value_word Form.Raw (number n) r i = absurd i
 value_word Form.Raw (text octets) r i =

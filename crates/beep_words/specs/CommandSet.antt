@@ -1,19 +1,22 @@
 -- The words that the program takes: a command, then options with their values, in any order, each
--- once at most.
+-- once at most; or a question for its version or for help.
 -- Here the words are the texts of what is chosen; the code goes over the words that it is given.
-use Rattle.std.specs.Prelude.{◌≡◌, ℕ, ◌<◌, ◌≤◌, ◌⊎◌, ◌==◌, ◌&&◌, nat_le, Bool, true, false, Option, Some, None, List, [], ◌∷◌, length, codes, chars, bytes_eq, if◌then◌else◌}
+use Rattle.std.specs.Prelude.{◌≡◌, ℕ, ◌<◌, ◌≤◌, ◌⊎◌, ◌==◌, ◌&&◌, nat_le, Bool, true, false, Option, Some, None, List, [], ◌∷◌, ◌++◌, length, codes, chars, bytes_eq, if◌then◌else◌}
 use Rattle.std.specs.Fmt.{decimal}
 use Rattle.std.specs.List.{flat_map, list_all, AllByRecursion}
+use Rattle.std.specs.Net.Grammar.{IsIpText}
+use Rattle.std.specs.declared.net.ip_addr.IpAddr.{IpAddr}
 use Rattle.beep_settings.specs.declared.settings.Settings.{Settings}
-use Rattle.beep_settings.specs.declared.settings.TheConstants.{HOST, RAW_URI, PORT, PIECE, IDLE, OCTETS, SESSIONS}
+use Rattle.beep_settings.specs.declared.settings.TheConstants.{HOST, BIND, RAW_URI, PORT, PIECE, IDLE, OCTETS, SESSIONS}
 use Rattle.beep_words.specs.declared.form.Form.{Form}
 use Rattle.beep_words.specs.declared.command.Command.{Command}
+use Rattle.beep_words.specs.declared.command.Topic.{Topic}
 use Rattle.beep_words.specs.declared.command.ShowSettings.{ShowSettings}
 use Rattle.beep_words.specs.declared.command.PairSettings.{PairSettings}
 use Rattle.beep_settings.specs.declared.limits.TheConstants.{MAX_PIECE}
 use Rattle.beep_seq.specs.declared.limits.TheConstants.{INITIAL_WINDOW, MIN_WINDOW, MAX_WINDOW}
 use Rattle.beep_chars.specs.declared.limits.TheConstants.{MAX_URI}
-use Rattle.beep_words.specs.declared.options.TheConstants.{MAX_HOST, MAX_PORT, MAX_IDLE, MAX_SETTING, MAX_SESSIONS}
+use Rattle.beep_words.specs.declared.options.TheConstants.{MAX_HOST, MAX_ADDRESS, MAX_PORT, MAX_IDLE, MAX_SETTING, MAX_SESSIONS}
 
 -- ---- values
 
@@ -45,7 +48,11 @@ pub record IsText (most : ℕ) (octets : List ℕ) : Type 0 where
   pub few : length octets ≤ most
   pub plain : begins_with_dash octets ≡ false
 
--- the value is of this form
+-- the text is that of an IPv4 or IPv6 address
+abbrev pub IsAddress : List ℕ → Type 0
+IsAddress octets = (address : IpAddr) × IsIpText octets address
+
+-- the value is of this form; that one of `--bind` is an address is said of `listen` (IsListen)
 abbrev pub IsOf : Form → Value → Type 0
 IsOf Form.Choice (choice chosen) = Unit {0}
 IsOf Form.Choice (number n) = ⊥
@@ -60,6 +67,9 @@ IsOf (Form.Printable most) (choice chosen) = ⊥
 IsOf (Form.Printable most) (number n) = ⊥
 IsOf (Form.Printable most) (text octets) =
     IsText most octets × (list_all is_printable octets ≡ true)
+IsOf Form.Address (choice chosen) = ⊥
+IsOf Form.Address (number n) = ⊥
+IsOf Form.Address (text octets) = IsText MAX_ADDRESS octets
 IsOf Form.Raw (choice chosen) = ⊥
 IsOf Form.Raw (number n) = ⊥
 IsOf Form.Raw (text octets) = octets ≡ codes "raw"
@@ -149,6 +159,7 @@ end_options = option (codes "--port") (Form.Number 1 MAX_PORT)
     ∷ option (codes "--idle") (Form.Number 1 MAX_IDLE)
     ∷ option (codes "--octets") (Form.Number 1 MAX_SETTING)
     ∷ option (codes "--record") Form.Choice
+    ∷ option (codes "--quiet") Form.Choice
     ∷ []
 
 abbrev pub send_options : List OptionRow
@@ -157,7 +168,8 @@ send_options = option (codes "--host") (Form.Octets MAX_HOST)
     ∷ end_options
 
 abbrev pub listen_options : List OptionRow
-listen_options = option (codes "--offer") Form.Raw
+listen_options = option (codes "--bind") Form.Address
+    ∷ option (codes "--offer") Form.Raw
     ∷ option (codes "--sessions") (Form.Number 1 MAX_SESSIONS)
     ∷ end_options
 
@@ -188,6 +200,12 @@ IsTextOf characters (choice chosen) = ⊥
 IsTextOf characters (number n) = ⊥
 IsTextOf characters (text octets) = characters ≡ chars octets
 
+-- a value is the text of an address
+abbrev pub IsAddressValue : Value → Type 0
+IsAddressValue (choice chosen) = ⊥
+IsAddressValue (number n) = ⊥
+IsAddressValue (text octets) = IsAddress octets
+
 -- the words are `send` or `listen` with these settings: of an option that it hasn't the settings
 -- have what holds where it isn't set
 pub record IsEnd (command : List ℕ) (rows : List OptionRow) (settings : Settings)
@@ -195,6 +213,7 @@ pub record IsEnd (command : List ℕ) (rows : List OptionRow) (settings : Settin
   pub chosen : List Chosen
   pub are_words : AreWords command rows chosen words
   pub host : IsTextOf settings.host (value_in (codes "--host") (text HOST.now) chosen)
+  pub bind : IsTextOf settings.bind (value_in (codes "--bind") (text BIND.now) chosen)
   pub port : number settings.port ≡ value_in (codes "--port") (number PORT) chosen
   pub raw_uri : IsTextOf settings.raw_uri
       (value_in (codes "--raw-uri") (text RAW_URI.now) chosen)
@@ -206,13 +225,16 @@ pub record IsEnd (command : List ℕ) (rows : List OptionRow) (settings : Settin
       ≡ value_in (codes "--sessions") (number SESSIONS) chosen
   pub recording : choice settings.recording
       ≡ value_in (codes "--record") (choice false) chosen
+  pub quiet : choice settings.quiet ≡ value_in (codes "--quiet") (choice false) chosen
 
 abbrev pub IsSend : Settings → List (List ℕ) → Type 0
 IsSend settings words = IsEnd (codes "send") send_options settings words
 
--- the words are `listen` with these settings; a run that is recorded accepts one link
+-- the words are `listen` with these settings: links are accepted on an address, and a run that is
+-- recorded accepts one link
 pub record IsListen (settings : Settings) (words : List (List ℕ)) : Type 0 where
   pub is_end : IsEnd (codes "listen") listen_options settings words
+  pub address : IsAddressValue (value_in (codes "--bind") (text BIND.now) is_end.chosen)
   pub lone : settings.recording ≡ true → settings.sessions ≡ 1
 
 -- the words are `pair` with these settings
@@ -223,6 +245,23 @@ pub record IsPair (settings : PairSettings) (words : List (List ℕ)) : Type 0 w
   pub piece : number settings.piece ≡ value_in (codes "--piece") (number PIECE) chosen
   pub seed : settings.seed ≡ number_set (codes "--seed") chosen
 
+-- the word of the command that help is asked for, and none where it is asked for the program
+abbrev pub topic_words : Topic → List (List ℕ)
+topic_words Topic.Program = []
+topic_words Topic.Show = codes "show" ∷ []
+topic_words Topic.Replay = codes "replay" ∷ []
+topic_words Topic.Send = codes "send" ∷ []
+topic_words Topic.Listen = codes "listen" ∷ []
+topic_words Topic.Pair = codes "pair" ∷ []
+
+-- the words ask for help on this
+abbrev pub IsHelp : Topic → List (List ℕ) → Type 0
+IsHelp topic words = words ≡ topic_words topic ++ codes "--help" ∷ []
+
+-- the words ask for the version
+abbrev pub IsVersion : List (List ℕ) → Type 0
+IsVersion words = words ≡ codes "--version" ∷ []
+
 -- the words are this command
 abbrev pub IsCommand : Command → List (List ℕ) → Type 0
 IsCommand (Command.Show settings) words = IsShow settings words
@@ -230,6 +269,8 @@ IsCommand Command.Replay words = IsReplay words
 IsCommand (Command.Send settings) words = IsSend settings words
 IsCommand (Command.Listen settings) words = IsListen settings words
 IsCommand (Command.Pair settings) words = IsPair settings words
+IsCommand (Command.Help topic) words = IsHelp topic words
+IsCommand Command.Version words = IsVersion words
 
 -- the words are no command
 abbrev pub IsNoCommand : List (List ℕ) → Type 0
@@ -241,3 +282,5 @@ pub record IsOfEnd (words : List (List ℕ)) : Type 0 where
   pub not_show : (settings : ShowSettings) → IsShow settings words → ⊥
   pub not_replay : IsReplay words → ⊥
   pub not_pair : (settings : PairSettings) → IsPair settings words → ⊥
+  pub not_help : (topic : Topic) → IsHelp topic words → ⊥
+  pub not_version : IsVersion words → ⊥

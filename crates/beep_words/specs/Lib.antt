@@ -1,6 +1,9 @@
 -- What public clauses cite.
 pub mod CommandSet
 pub mod Usable
--- What proofs alone need: how words are gone over.
+pub mod Faults
+pub mod Helps
+-- How words are gone over: of it Faults cites the tests of one option.
 pub mod Choosing
+-- What proofs alone need.
 pub mod Rows

@@ -1,10 +1,12 @@
 //! What a value of an option may be.
-ghost use Rattle.std.specs.Prelude.{◌≡◌, is_some, length};
+ghost use Rattle.std.specs.Prelude.{◌≡◌, ◌↔◌, true, is_some, length};
 ghost use Rattle.std.specs.List.{list_all};
-ghost use Rattle.beep_words.specs.CommandSet.{begins_with_dash, is_printable};
+ghost use Rattle.beep_words.specs.CommandSet.{begins_with_dash, is_printable, IsAddress};
 ghost use Rattle.beep_words.specs.Choosing.{value_of_word, within, number_in, is_text};
 
+use crate::options::MAX_ADDRESS;
 use itoa::Buffer;
+use std::net::IpAddr;
 
 /// The form of the values of an option.
 #[derive(Clone, Copy, Debug, PartialEq, Eq)]
@@ -17,6 +19,8 @@ pub enum Form {
     Octets(usize),
     /// The same, all of them printable characters of ASCII.
     Printable(usize),
+    /// An IPv4 or IPv6 address, of 1 to 45 octets.
+    Address,
     /// The word `raw`.
     Raw,
 }
@@ -30,6 +34,7 @@ pub(crate) fn is_of(form: Form, word: &str) -> bool
         Form::Number(least, most) => is_within(number_in(word), least, most),
         Form::Octets(most) => is_text(word.as_bytes(), most),
         Form::Printable(most) => is_text(word.as_bytes(), most) && are_printable(word.as_bytes()),
+        Form::Address => is_text(word.as_bytes(), MAX_ADDRESS),
         Form::Raw => word == "raw",
     }
 }
@@ -76,4 +81,14 @@ pub(crate) fn number_in(word: &str) -> Option<u32>
         return None;
     }
     Some(number)
+}
+
+/// Whether a word is the text of an IPv4 or IPv6 address.
+pub(crate) fn is_address(word: &str) -> bool
+    ensures { (result ≡ true) ↔ IsAddress word.now }
+{
+    match word.parse::<IpAddr>() {
+        Ok(_) => true,
+        Err(_) => false,
+    }
 }

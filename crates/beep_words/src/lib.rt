@@ -2,9 +2,14 @@
 #![tactic(auto)]
 
 mod command;
+mod faults;
 mod form;
 pub mod laws;
 mod options;
 mod reading;
+mod texts;
 
-pub use command::{Command, PairSettings, ShowSettings, command_of};
+pub use command::{Command, PairSettings, ShowSettings, Topic, command_of};
+pub use faults::{Fault, fault_of};
+pub use form::Form;
+pub use texts::{VERSION_TEXT, help_text};

@@ -10,6 +10,10 @@ use beep_settings::MAX_PIECE;
 /// The most octets of the name of a host.
 pub const MAX_HOST: usize = 253;
 
+/// The most octets of the text of an address, those of an IPv6 address whose last 32 bits are
+/// written as an IPv4 address.
+pub const MAX_ADDRESS: usize = 45;
+
 /// The greatest number of a port.
 pub const MAX_PORT: u32 = 65535;
 
@@ -78,6 +82,7 @@ fn listen_form(name: &str) -> Option<Form>
     ensures { result ≡ form_in listen_options name.now }
 {
     match name {
+        "--bind" => Some(Form::Address),
         "--offer" => Some(Form::Raw),
         "--sessions" => Some(Form::Number(1, MAX_SESSIONS)),
         _ => end_form(name),
@@ -95,6 +100,7 @@ fn end_form(name: &str) -> Option<Form>
         "--idle" => Some(Form::Number(1, MAX_IDLE)),
         "--octets" => Some(Form::Number(1, MAX_SETTING)),
         "--record" => Some(Form::Choice),
+        "--quiet" => Some(Form::Choice),
         _ => None,
     }
 }

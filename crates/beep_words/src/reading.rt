@@ -1,17 +1,17 @@
 //! Going over the words of options.
-ghost use Rattle.std.specs.Prelude.{◌≡◌, ◌&&◌, ◌||◌, ◌==◌, not, map, string_bytes, chars, IfOk, OnOk, bytes_eq};
+ghost use Rattle.std.specs.Prelude.{◌≡◌, ◌↔◌, true, ◌&&◌, ◌||◌, ◌==◌, not, map, string_bytes, chars, IfOk, OnOk, bytes_eq};
 ghost use Rattle.std.specs.Option.{option_copied};
-ghost use Rattle.beep_words.specs.Choosing.{is_of_some, is_among, are_options, word_in, number_at, number_or, number_set_at, choice_at, choice_or, text_at, is_lone, are_listen_options, show_of, settings_of, pair_of};
-ghost use Rattle.beep_words.specs.CommandSet.{form_in};
+ghost use Rattle.beep_words.specs.Choosing.{is_of_some, is_among, are_options, word_in, number_at, number_or, number_set_at, choice_at, choice_or, text_at, is_lone, are_listen_options, bound_text, IsBound, show_of, settings_of, pair_of};
+ghost use Rattle.beep_words.specs.CommandSet.{form_in, IsAddress};
 ghost use Rattle.beep_words.specs.Rows.{rows_of};
 
 use crate::command::{PairSettings, ShowSettings};
-use crate::form::{is_of, number_in};
+use crate::form::{is_address, is_of, number_in};
 use crate::options::{MAX_PORT, Options};
 use beep_chars::Text;
 use beep_octets::NoMemory;
 use beep_seq::INITIAL_WINDOW;
-use beep_settings::{HOST, IDLE, OCTETS, PIECE, PORT, RAW_URI, SESSIONS, Settings};
+use beep_settings::{BIND, HOST, IDLE, OCTETS, PIECE, PORT, RAW_URI, SESSIONS, Settings};
 use std::alloc::Global;
 
 /// Whether the words are options of a command and their values, each option once at most.
@@ -45,7 +45,7 @@ fn is_option(options: Options, name: &str, word: &str) -> bool
 }
 
 /// Whether the option is one of those among these words.
-fn is_among(name: &str, words: &[String]) -> bool
+pub(crate) fn is_among(name: &str, words: &[String]) -> bool
     ensures { result ≡ is_among name.now (map string_bytes words.now) }
 {
     match words {
@@ -115,17 +115,37 @@ fn text_at(alloc: Global, name: &str, default: &str, words: &[String]) -> Result
 }
 
 /// Whether a run that is recorded accepts one link.
-fn is_lone(words: &[String]) -> bool
+pub(crate) fn is_lone(words: &[String]) -> bool
     ensures { result ≡ is_lone (map string_bytes words.now) }
 {
     !choice_at("--record", false, words) || number_at("--sessions", SESSIONS, words) == 1
 }
 
-/// Whether the words are options of `listen` that go together.
-pub(crate) fn are_listen_options(words: &[String]) -> bool
-    ensures { result ≡ are_listen_options (map string_bytes words.now) }
+/// Whether the words are options of `listen` that go together, where it is known whether links are
+/// accepted on an address.
+pub(crate) fn are_listen_options(bound: bool, words: &[String]) -> bool
+    ensures { result ≡ are_listen_options bound (map string_bytes words.now) }
 {
-    are_options(Options::Listen, words) && is_lone(words)
+    are_options(Options::Listen, words) && bound && is_lone(words)
+}
+
+/// Whether the words, of which the first is a command, have links accepted on an address.
+pub(crate) fn is_bound(words: &[String]) -> bool
+    ensures { (result ≡ true) ↔ IsBound (map string_bytes words.now) }
+{
+    match words {
+        [_, options @ ..] => is_bound_by(options),
+        [] => true,
+    }
+}
+
+fn is_bound_by(options: &[String]) -> bool
+    ensures { (result ≡ true) ↔ IsAddress (bound_text (map string_bytes options.now)) }
+{
+    match word_in("--bind", options) {
+        Some(word) => is_address(word),
+        None => is_address(BIND),
+    }
 }
 
 /// What the options of `show` say.
@@ -144,6 +164,7 @@ pub(crate) fn settings_in(alloc: Global, words: &[String]) -> Result<Settings, N
 {
     Ok(Settings {
         host: text_at(alloc, "--host", HOST, words)?,
+        bind: text_at(alloc, "--bind", BIND, words)?,
         port: number_at("--port", u32::from(PORT), words).min(MAX_PORT) as u16,
         raw_uri: text_at(alloc, "--raw-uri", RAW_URI, words)?,
         window: number_at("--window", INITIAL_WINDOW, words),
@@ -152,6 +173,7 @@ pub(crate) fn settings_in(alloc: Global, words: &[String]) -> Result<Settings, N
         octets: number_at("--octets", OCTETS, words),
         sessions: number_at("--sessions", SESSIONS, words),
         recording: choice_at("--record", false, words),
+        quiet: choice_at("--quiet", false, words),
     })
 }
 

@@ -36,12 +36,13 @@ pub fresh-goes : (link : Link) (reads : Reads) → IsFresh link → IsGoing link
 fresh-goes link reads fresh = record {
   is_open = fresh.is_open;
   going = fresh.going;
+  unfailed = fresh.no_faults;
   shown = unread-tells reads link.log fresh.unread;
 }
 
 -- it goes on after its turn
-pub going-on : (new : ℕ → Link) (at link : ℕ) (reads : Reads) (left : Left) → at ≡ link → (new at).is_open ≡ true → (new at).has_ended ≡ false → TellsLeft reads left (new at).log → IsGoing (new link) reads left
-going-on new at link reads left is is_open going shown = subst (λ (it : ℕ). IsGoing (new it) reads left) is (record { is_open = is_open; going = going; shown = shown })
+pub going-on : (new : ℕ → Link) (at link : ℕ) (reads : Reads) (left : Left) → at ≡ link → (new at).is_open ≡ true → (new at).has_ended ≡ false → (new at).faults ≡ 0 → TellsLeft reads left (new at).log → IsGoing (new link) reads left
+going-on new at link reads left is is_open going unfailed shown = subst (λ (it : ℕ). IsGoing (new it) reads left) is (record { is_open = is_open; going = going; unfailed = unfailed; shown = shown })
 
 -- it goes on after the turn of another
 pub going-beside : (old new : ℕ → Link) (at link here : ℕ) (reads : Reads) (left : Left) → at ≡ link → (here ≡ link → ⊥) → SameBeside at old new → IsGoing (old here) reads left → IsGoing (new here) reads left

@@ -1,5 +1,5 @@
 //! Links in memory.
-ghost use Rattle.std.specs.Prelude.{◌≡◌, true, false, IfOk};
+ghost use Rattle.std.specs.Prelude.{◌≡◌, true, false, IfOk, OnErr};
 ghost use Rattle.beep_wires.specs.Got.{GotWithin, gives_end};
 
 use crate::fails::fails_of;
@@ -45,16 +45,17 @@ pub(crate) fn hear(alloc: Global, fields: &mut Fields<'_>, out: &mut Octets) -> 
     let pieces = fields.next()?;
     let mut wires = MemWires::new(alloc, fails);
     add(alloc, &mut wires, pieces, 0)?;
-    match wires.accept(601) {
+    match wires.accept("0.0.0.0", 601) {
         Ok(link) => hear_link(&mut wires, link, out),
         Err(_) => Err(Bad::Field),
     }
 }
 
-/// Reads a link to its end, by at most nine reads of at most four octets.
+/// Reads a link to its end, or to a read that fails, by at most nine reads of at most four octets.
 pub(crate) fn hear_link<W: Wires>(wires: &mut W, link: u32, out: &mut Octets) -> Result<(), Bad>
     requires alive { (W.state wires.old link).is_open ≡ true }
     requires going { (W.state wires.old link).has_ended ≡ false }
+    requires unfailed { (W.state wires.old link).faults ≡ 0 }
 {
     for _ in 0..9 {
         let mut buf = [0; 4];
@@ -67,10 +68,10 @@ pub(crate) fn hear_link<W: Wires>(wires: &mut W, link: u32, out: &mut Octets) ->
 }
 
 /// Writes what a read gave, `~` where it was quiet and `!` where it failed, and answers whether
-/// that was the end.
+/// nothing more is read: that was the end, or failed.
 fn note(got: Result<Got, Failed>, buf: &[u8], out: &mut Octets) -> Result<bool, Bad>
     requires { GotWithin got buf.now }
-    ensures { IfOk result (λ over. over ≡ gives_end got) }
+    ensures { IfOk result (λ over. over ≡ false → (gives_end got ≡ false) × OnErr got ⊥) }
 {
     match got {
         Ok(Got::Bytes(n)) => put(&buf[..n], out)?,
@@ -79,7 +80,10 @@ fn note(got: Result<Got, Failed>, buf: &[u8], out: &mut Octets) -> Result<bool, 
             put(b".", out)?;
             return Ok(true);
         }
-        Err(Failed) => put(b"!", out)?,
+        Err(Failed) => {
+            put(b"!", out)?;
+            return Ok(true);
+        }
     }
     Ok(false)
 }
@@ -129,7 +133,7 @@ fn ask<W: Wires>(wires: &mut W, call: &str, out: &mut Octets) -> Result<(), Bad>
 }
 
 fn accept<W: Wires>(wires: &mut W, out: &mut Octets) -> Result<(), Bad> {
-    match wires.accept(601) {
+    match wires.accept("0.0.0.0", 601) {
         Ok(link) => greet(wires, link, out),
         Err(error) => put_error(error, out),
     }
@@ -151,6 +155,7 @@ fn put_error(error: WireError, out: &mut Octets) -> Result<(), Bad> {
 
 fn greet<W: Wires>(wires: &mut W, link: u32, out: &mut Octets) -> Result<(), Bad>
     requires alive { (W.state wires.old link).is_open ≡ true }
+    requires unfailed { (W.state wires.old link).faults ≡ 0 }
 {
     put_number(link as u64, out)?;
     match write_and_shut(wires, link) {
@@ -161,6 +166,7 @@ fn greet<W: Wires>(wires: &mut W, link: u32, out: &mut Octets) -> Result<(), Bad
 
 fn write_and_shut<W: Wires>(wires: &mut W, link: u32) -> Result<(), Failed>
     requires alive { (W.state wires.old link).is_open ≡ true }
+    requires unfailed { (W.state wires.old link).faults ≡ 0 }
 {
     let written = write_link(wires, link, b"greetings");
     wires.shut(link);

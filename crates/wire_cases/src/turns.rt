@@ -39,7 +39,7 @@ fn put_run(
 
 /// How a session over the first link ends.
 fn run<W: Wires>(alloc: Global, wires: &mut W, is_over: bool, reads: Reads) -> Result<Ended, Bad> {
-    let Ok(link) = wires.accept(601) else {
+    let Ok(link) = wires.accept("0.0.0.0", 601) else {
         return Err(Bad::Field);
     };
     let mut end = Echo { due: 1, is_over };

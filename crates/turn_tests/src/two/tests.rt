@@ -104,10 +104,10 @@ fn run<W: Wires, O: Sink>(
     wires: &mut W,
     output: &mut O,
 ) -> Result<Option<Which>, NoMemory> {
-    let Ok(link) = wires.accept(601) else {
+    let Ok(link) = wires.accept("0.0.0.0", 601) else {
         return Ok(None);
     };
-    let Ok(other_link) = wires.accept(601) else {
+    let Ok(other_link) = wires.accept("0.0.0.0", 601) else {
         return Ok(None);
     };
     let reads = Reads {

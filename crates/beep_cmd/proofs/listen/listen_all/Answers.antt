@@ -1,28 +1,37 @@
-use Rattle.std.proofs.Common.{◌≡◌, ◌+◌, ◌≤◌, false, inl, inr, sym, ap, ◌∙◌, subst, arith}
+use Rattle.std.proofs.Common.{◌≡◌, ℕ, ◌+◌, ◌≤◌, false, inl, inr, sym, ap, ◌∙◌, subst, arith}
 use Rattle.beep_runs.specs.beep_link.specs.declared.ended.Ended.{Ended}
 use Rattle.beep_runs.specs.beep_link.specs.Causes.{Seen, WhereKnown}
 use Rattle.beep_runs.specs.beep_link.proofs.StandLemmas.{grown-more}
 use Rattle.beep_runs.specs.beep_journal.specs.declared.role.Role.{Role}
 use Rattle.beep_runs.specs.beep_steps.specs.Logs.{IsLawfulOn, terms_by}
-use Rattle.beep_cmd.specs.Ends.{ends_run, IsAcceptOf, most_reads, SessionCause, seen_of}
+use Rattle.beep_cmd.specs.Ends.{AsksOnly, ends_run, IsAcceptOf, most_reads, open_of, SessionCause, seen_of}
+use Rattle.beep_cmd.specs.Serving.{AsksGave}
 use Rattle.beep_cmd.proofs.EndsLemmas.{rose_later}
 use Rattle.beep_cmd.proofs.ListenLemmas.{all_lines, lines_ended, lines_further, lines_unlinked}
-use Rattle.beep_cmd.proofs.ServingLemmas.{asks_fewer, asks_then, gave_more, gave_only, each_joined, joined_cause, first_goes, goes_further}
+use Rattle.beep_cmd.proofs.ServingLemmas.{asks_fewer, asks_then, gave_more, gave_only, each_joined, joined_cause, first_goes, goes_further, open-alone}
 use Rattle.beep_cmd.proofs.listen.listen_all.Goals as goal
 
 pub returns-then-ends_run-clause-asks : goal.returns-then-ends_run-clause-asks
 returns-then-ends_run-clause-asks g c =
-    let P = IsAcceptOf c.args.settings.now in
-    asks_fewer P (c.loop.counter + 1) c.args.settings.now.sessions _ _ (omega (arith, c.loop-test.true)) (gave_only P (c.loop.counter + 1) _ _ (gave_more P c.loop.counter 1 _ _ _ c.loop.invariant.asks c.in-Ok.ensures.served.asks))
+    let W = g.W.Wires in
+    let before : Seen = seen_of (W.state c.args.wires.now) (W.counts c.args.wires.now) (W.asked c.args.wires.now) (W.lent c.args.wires.now) in
+    let P = IsAcceptOf c.args.settings.now (open_of before) in
+    asks_fewer P (c.loop.counter + 1) c.args.settings.now.sessions _ _ (omega (arith, c.loop-test.true)) (gave_only P (c.loop.counter + 1) _ _ (gave_more P c.loop.counter 1 _ _ _ c.loop.invariant.asks
+    (subst (λ (n : ℕ). AsksGave (IsAcceptOf c.args.settings.now n) 1 (W.asked c.loop.wires) (W.asked c.listen_once.new.wires)) (open-alone before _ c.loop.invariant.goes_on c.loop.invariant.shut) c.in-Ok.ensures.served.asks)))
 
 pub returns-in-Err-clause-asks : goal.returns-in-Err-clause-asks
 returns-in-Err-clause-asks g c =
-    let P = IsAcceptOf c.args.settings.now in
-    asks_fewer P (c.loop.counter + 1) c.args.settings.now.sessions _ _ (omega (arith, c.loop-test.true)) (asks_then P c.loop.counter 1 _ _ _ c.loop.invariant.asks c.in-Err.ensures.failed.asks)
+    let W = g.W.Wires in
+    let before : Seen = seen_of (W.state c.args.wires.now) (W.counts c.args.wires.now) (W.asked c.args.wires.now) (W.lent c.args.wires.now) in
+    let P = IsAcceptOf c.args.settings.now (open_of before) in
+    asks_fewer P (c.loop.counter + 1) c.args.settings.now.sessions _ _ (omega (arith, c.loop-test.true)) (asks_then P c.loop.counter 1 _ _ _ c.loop.invariant.asks
+    (subst (λ (n : ℕ). AsksOnly (IsAcceptOf c.args.settings.now n) 1 (W.asked c.loop.wires) (W.asked c.listen_once.new.wires)) (open-alone before _ c.loop.invariant.goes_on c.loop.invariant.shut) c.in-Err.ensures.failed.asks))
 
 pub returns-clause-asks : goal.returns-clause-asks
 returns-clause-asks g c =
-    let P = IsAcceptOf c.args.settings.now in
+    let W = g.W.Wires in
+    let before : Seen = seen_of (W.state c.args.wires.now) (W.counts c.args.wires.now) (W.asked c.args.wires.now) (W.lent c.args.wires.now) in
+    let P = IsAcceptOf c.args.settings.now (open_of before) in
     asks_fewer P c.loop.counter c.args.settings.now.sessions _ _ (omega (arith, c.loop.invariant.given, c.loop-test.false)) (gave_only P c.loop.counter _ _ c.loop.invariant.asks)
 
 pub returns-then-ends_run-clause-grew : goal.returns-then-ends_run-clause-grew
@@ -56,7 +65,7 @@ returns-in-Err-clause-lines g c =
     let n = c.in-Err.ensures.failed in
     lines_unlinked settings before mid after c.loop.first c.in-Err.ended (O.state c.args.output.now).written (O.state c.loop.output).written (O.state c.listen_once.new.output).written i.goes n.goes_on
     i.lines n.none (ap (λ o. (O.state o).written) c.in-Err.ensures.same_output) c.in-Err.ended
-    (elim n.failed [ inl wire ↦ inl (wire.0, rose_later before.counts.accepts mid.counts.accepts after.counts.accepts i.goes_on.accepts wire.1) | inr short ↦ inr short ])
+    (elim n.failed [ inl wire ↦ inl (wire.0, rose_later before.counts.accepts mid.counts.accepts after.counts.accepts i.goes_on.accepts wire.1) | inr short ↦ inr (short, inl (omega (arith, n.none, i.given, c.loop-test.true))) ])
 
 pub returns-clause-lines : goal.returns-clause-lines
 returns-clause-lines g c =
@@ -88,7 +97,8 @@ loop-preserved g c =
       goes = ap ends_run c.first_of-first.ensures ∙ first_goes c.loop.first c.in-Ok.ended i.goes goes;
       lines = lines_further settings before mid after c.loop.first c.in-Ok.ended (g.O.Sink.state c.args.output.now).written (g.O.Sink.state c.loop.output).written (g.O.Sink.state c.listen_once.new.output).written i.goes s.goes_on
           i.lines s.one c.in-Ok.ensures.lines c.first_of-first.result c.first_of-first.ensures goes;
-      asks = gave_more (IsAcceptOf settings) c.loop.counter 1 before.asked mid.asked after.asked i.asks s.asks;
+      asks = gave_more (IsAcceptOf settings (open_of before)) c.loop.counter 1 before.asked mid.asked after.asked i.asks
+          (subst (λ (n : ℕ). AsksGave (IsAcceptOf settings n) 1 mid.asked after.asked) (open-alone before mid i.goes_on i.shut) s.asks);
       grew = grown-more _ (g.O.Sink.state c.loop.output).written _ i.grew c.in-Ok.ensures.grew;
       kept = omega (arith, i.kept, c.in-Ok.ensures.kept);
     }

@@ -1,7 +1,7 @@
 -- As many links were accepted as there were turns, and what ended the first session that wasn't
 -- released shows in its link.
 use Rattle.std.proofs.Common.{◌≡◌, ◌+◌, ◌≤◌, false, List}
-use Rattle.beep_cmd.specs.Ends.{AreShut, ends_run, IsAcceptOf, ReadsWithin, SessionCause, seen_of, WritesLawfully}
+use Rattle.beep_cmd.specs.Ends.{AreShut, ends_run, IsAcceptOf, open_of, ReadsWithin, SessionCause, seen_of, WritesLawfully}
 use Rattle.beep_runs.specs.beep_link.specs.Causes.{Grows}
 use Rattle.beep_runs.specs.beep_journal.specs.declared.role.Role.{Role}
 use Rattle.beep_cmd.specs.Listening.{run_cause, Session}
@@ -22,7 +22,7 @@ invariant-loop g l =
       reads : ReadsWithin l.settings before now;
       goes : ends_run l.first ≡ false;
       lines : WritesSessions l.settings before now (λ (sessions : List Session). l.first ≡ run_cause sessions) (g.O.Sink.state l.fn.output).written (g.O.Sink.state l.output).written;
-      asks : AsksGave (IsAcceptOf l.settings) l.counter before.asked now.asked;
+      asks : AsksGave (IsAcceptOf l.settings (open_of before)) l.counter before.asked now.asked;
       grew : Grows (g.O.Sink.state l.fn.output).written (g.O.Sink.state l.output).written;
       kept : (g.O.Sink.state l.fn.output).faults ≤ (g.O.Sink.state l.output).faults;
     }

@@ -35,4 +35,4 @@ returns-in-Ok-clause-asks g c =
     let W = g.W.Wires in
     let before : Seen = seen_of (W.state c.args.wires.now) (W.counts c.args.wires.now) (W.asked c.args.wires.now) (W.lent c.args.wires.now) in
     let after : Seen = seen_of (W.state c.send_recorded.new.wires) (W.counts c.send_recorded.new.wires) (W.asked c.send_recorded.new.wires) (W.lent c.send_recorded.new.wires) in
-    let a = c.in-Ok.ensures.asks in send_asks c.args.settings.now before after a.0 (a.0, a.1, refl) a.2
+    let a = c.in-Ok.ensures.asks in send_asks c.args.settings.now before after a.0 a.1 a.2

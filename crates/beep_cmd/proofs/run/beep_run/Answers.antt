@@ -1,11 +1,14 @@
-use Rattle.std.proofs.Common.{◌≡◌, ◌⊎◌, inr, true, false, Some, None, map, refl, ap, sym, ◌∙◌, subst, arith}
+use Rattle.std.proofs.Common.{◌≡◌, ◌⊎◌, ℕ, List, inr, true, false, Some, None, map, refl, ap, sym, ◌∙◌, subst, arith}
 use Rattle.std.specs.String.{string_bytes}
 use Rattle.std.proofs.KnownBytes.{Appends-nil}
 use Rattle.beep_show.specs.beep_words.specs.declared.command.ShowSettings.{ShowSettings as Settings}
 use Rattle.beep_show.specs.beep_words.specs.declared.command.PairSettings.{PairSettings}
 use Rattle.beep_runs.specs.beep_settings.specs.declared.settings.Settings.{Settings as EndSettings}
 use Rattle.beep_show.specs.beep_words.specs.declared.command.Command.{Command}
-use Rattle.beep_show.specs.beep_words.specs.CommandSet.{IsShow, IsReplay, IsSend, IsListen, IsPair, IsOfEnd}
+use Rattle.beep_show.specs.beep_words.specs.declared.command.Topic.{Topic}
+use Rattle.beep_show.specs.beep_words.specs.declared.texts.TheConstants.{VERSION_TEXT}
+use Rattle.beep_show.specs.beep_words.specs.Helps.{help_of}
+use Rattle.beep_show.specs.beep_words.specs.CommandSet.{IsShow, IsReplay, IsSend, IsListen, IsPair, IsHelp, IsVersion, IsOfEnd}
 use Rattle.beep_show.specs.beep_words.specs.Usable.{IsUsable}
 use Rattle.beep_show.specs.beep_words.proofs.UsableLemmas.{send_is_usable, listen_is_usable, pair_is_usable}
 use Rattle.beep_runs.specs.beep_link.specs.declared.ended.Ended.{Ended}
@@ -18,8 +21,9 @@ use Rattle.beep_runs.specs.beep_journal.specs.declared.role.Role.{Role}
 use Rattle.beep_runs.specs.beep_steps.specs.Logs.{IsLawfulOn, terms_by}
 use Rattle.beep_cmd.specs.Listening.{WritesLines}
 use Rattle.beep_cmd.specs.Recording.{ListenRecorded, record_starved}
+use Rattle.beep_cmd.specs.Told.{Told}
 use Rattle.beep_show.specs.Show.{Run, run_of}
-use Rattle.beep_cmd.proofs.CommandLemmas.{listens, no_command, none_listen, none_pair, none_replay, none_send, none_show, not_listen, not_pair, not_replay, not_send, not_show, not_unlinked, other_replay, other_show, same_listen, same_pair, same_send, same_show, sends, some_command}
+use Rattle.beep_cmd.proofs.CommandLemmas.{another, listens, no_command, none_listen, none_pair, none_replay, none_send, none_show, not_asked, not_listen, not_pair, not_replay, not_send, not_show, not_unlinked, other_replay, other_show, same_listen, same_pair, same_send, same_show, sends, some_command, same_topic}
 use Rattle.beep_cmd.proofs.CompleteLemmas.{complete, shown_as}
 use Rattle.beep_cmd.proofs.EndsLemmas.{starved_at_once}
 use Rattle.beep_cmd.proofs.GoesWellLemmas.{listen_well, send_well}
@@ -28,7 +32,7 @@ use Rattle.beep_cmd.proofs.ListenLemmas.{none_written}
 use Rattle.beep_cmd.proofs.PairLemmas.{runnable_complete, usable_limits}
 use Rattle.beep_cmd.proofs.RecordedLemmas.{unlinked_keeps}
 use Rattle.beep_cmd.proofs.ServingLemmas.{asks_none, each_none, none_read, none_shut}
-use Rattle.beep_cmd.proofs.StatusLemmas.{listened_not, paired_not, replayed_not, sent_not, shown_not}
+use Rattle.beep_cmd.proofs.StatusLemmas.{listened_not, paired_not, replayed_not, sent_not, shown_not, told_not}
 use Rattle.beep_cmd.proofs.run.beep_run.Goals as goal
 
 -- settings that words say are fit for a session
@@ -67,6 +71,8 @@ returns-in-Ok-Some-Show g c =
     let other_listen : (settings : EndSettings) → IsListen settings words → ⊥ = not_listen words a.field-0 a.ensures.ok _ is (λ settings e. cc) in
     let other_pair : (settings : PairSettings) → IsPair settings words → ⊥ = not_pair words a.field-0 a.ensures.ok _ is (λ settings e. cc) in
     let some = some_command words a.field-0 a.ensures.ok _ is in
+    let help : (topic : Topic) → IsHelp topic words → ⊥ = λ topic. another words a.field-0 a.ensures.ok _ is (Command.Help topic) (λ e. cc) in
+    let version : IsVersion words → ⊥ = another words a.field-0 a.ensures.ok _ is Command.Version (λ e. cc) in
     record {
       shown = λ settings w. shown_as _ settings _ _ (same settings is w) c.show.ensures.shown;
       replayed = λ w. absurd (other w);
@@ -81,6 +87,8 @@ returns-in-Ok-Some-Show g c =
       listen_complete = λ settings w goes_well. absurd (other_listen settings w);
       paired = λ settings w. absurd (other_pair settings w);
       pair_complete = λ settings w is_runnable no_fault. absurd (other_pair settings w);
+      helped = λ topic w. absurd (help topic w);
+      versioned = λ w. absurd (version w);
       usage = λ one. absurd (shown_not a.settings c.show.result _ c.show.ensures.shown one);
       send_lawful = λ settings w. absurd (other_send settings w);
       listen_lawful = λ settings w. absurd (other_listen settings w);
@@ -94,6 +102,8 @@ returns-in-Ok-Some-Show g c =
       unread = λ none. absurd (some none);
       unlinked = λ settings w. refl;
       listen_unread = λ settings w. absurd (other_listen settings w);
+      asked_unread = λ topic w. absurd (not_asked words help version topic w);
+      asked_unlinked = λ topic w. absurd (not_asked words help version topic w);
       no_memory = λ settings w e no_elements. c.show.ensures.no_memory e (ap (λ (s : Settings). s.elements) (same settings is w) ∙ no_elements);
       reads = λ settings w. rw (← same settings is w) c.show.ensures.reads;
       replay_no_memory = λ w. absurd (other w);
@@ -115,6 +125,8 @@ returns-in-Ok-Some-Replay g c =
     let other_listen : (settings : EndSettings) → IsListen settings words → ⊥ = not_listen words a.field-0 a.ensures.ok _ is (λ settings e. cc) in
     let other_pair : (settings : PairSettings) → IsPair settings words → ⊥ = not_pair words a.field-0 a.ensures.ok _ is (λ settings e. cc) in
     let some = some_command words a.field-0 a.ensures.ok _ is in
+    let help : (topic : Topic) → IsHelp topic words → ⊥ = λ topic. another words a.field-0 a.ensures.ok _ is (Command.Help topic) (λ e. cc) in
+    let version : IsVersion words → ⊥ = another words a.field-0 a.ensures.ok _ is Command.Version (λ e. cc) in
     record {
       shown = λ settings w. absurd (other settings w);
       replayed = λ w. c.replay.ensures.replayed;
@@ -129,6 +141,8 @@ returns-in-Ok-Some-Replay g c =
       listen_complete = λ settings w goes_well. absurd (other_listen settings w);
       paired = λ settings w. absurd (other_pair settings w);
       pair_complete = λ settings w is_runnable no_fault. absurd (other_pair settings w);
+      helped = λ topic w. absurd (help topic w);
+      versioned = λ w. absurd (version w);
       usage = λ one. absurd (replayed_not c.replay.result _ c.replay.ensures.replayed one);
       send_lawful = λ settings w. absurd (other_send settings w);
       listen_lawful = λ settings w. absurd (other_listen settings w);
@@ -142,6 +156,8 @@ returns-in-Ok-Some-Replay g c =
       unread = λ none. absurd (some none);
       unlinked = λ settings w. refl;
       listen_unread = λ settings w. absurd (other_listen settings w);
+      asked_unread = λ topic w. absurd (not_asked words help version topic w);
+      asked_unlinked = λ topic w. absurd (not_asked words help version topic w);
       no_memory = λ settings w e no_elements. absurd (other settings w);
       reads = λ settings w. absurd (other settings w);
       replay_no_memory = λ w. c.replay.ensures.unwritten;
@@ -178,6 +194,8 @@ returns-in-Ok-Some-Send g c =
       listen_complete = λ settings w goes_well. absurd (other settings w);
       paired = λ settings w. absurd (of.not_pair settings w);
       pair_complete = λ settings w is_runnable no_fault. absurd (of.not_pair settings w);
+      helped = λ topic w. absurd (of.not_help topic w);
+      versioned = λ w. absurd (of.not_version w);
       usage = λ one. absurd (sent_not a.settings before after c.send.result run c.send.ensures.sent one);
       send_lawful = λ settings w. subst (λ (s : EndSettings). WritesLawfully Role.Initiator s before after) (same settings is w) c.send.ensures.lawful;
       listen_lawful = λ settings w. absurd (other settings w);
@@ -191,6 +209,8 @@ returns-in-Ok-Some-Send g c =
       unread = λ none. absurd (of.some none);
       unlinked = λ settings w. absurd (not_unlinked words of settings w);
       listen_unread = λ settings w. absurd (other settings w);
+      asked_unread = λ topic w. absurd (not_asked words of.not_help of.not_version topic w);
+      asked_unlinked = λ topic w. absurd (not_asked words of.not_help of.not_version topic w);
       no_memory = λ settings w e no_elements. absurd (of.not_show settings w);
       reads = λ settings w. absurd (of.not_show settings w);
       replay_no_memory = λ w. absurd (of.not_replay w);
@@ -229,6 +249,8 @@ returns-in-Ok-Some-Listen g c =
       listen_complete = λ settings w goes_well. listen_well settings before after run c.listen.result goes_well (subst (λ (s : EndSettings). Listened s before after c.listen.result run) (same settings is w) (c.listen.ensures.listened (g.I.Source.state c.args.input.now)));
       paired = λ settings w. absurd (of.not_pair settings w);
       pair_complete = λ settings w is_runnable no_fault. absurd (of.not_pair settings w);
+      helped = λ topic w. absurd (of.not_help topic w);
+      versioned = λ w. absurd (of.not_version w);
       usage = λ one. absurd (listened_not a.settings before after c.listen.result run (c.listen.ensures.listened (g.I.Source.state c.args.input.now)) one);
       send_lawful = λ settings w. absurd (other settings w);
       listen_lawful = λ settings w. subst (λ (s : EndSettings). WritesLawfully Role.Listener s before after) (same settings is w) c.listen.ensures.lawful;
@@ -242,6 +264,8 @@ returns-in-Ok-Some-Listen g c =
       unread = λ none. absurd (of.some none);
       unlinked = λ settings w. absurd (not_unlinked words of settings w);
       listen_unread = λ settings w. refl;
+      asked_unread = λ topic w. absurd (not_asked words of.not_help of.not_version topic w);
+      asked_unlinked = λ topic w. absurd (not_asked words of.not_help of.not_version topic w);
       no_memory = λ settings w e no_elements. absurd (of.not_show settings w);
       reads = λ settings w. absurd (of.not_show settings w);
       replay_no_memory = λ w. absurd (of.not_replay w);
@@ -266,6 +290,8 @@ returns-in-Ok-Some-Pair g c =
     let some = some_command words a.field-0 a.ensures.ok _ is in
     let run : Run = run_of (g.I.Source.state c.args.input.now) (g.I.Source.state c.pair.new.input) (g.O.Sink.state c.args.output.now) (g.O.Sink.state c.pair.new.output) in
     let by : (settings : PairSettings) → IsPair settings words → Paired settings c.pair.result run = λ settings w. subst (λ (s : PairSettings). Paired s c.pair.result run) (same settings is w) c.pair.ensures.paired in
+    let help : (topic : Topic) → IsHelp topic words → ⊥ = λ topic. another words a.field-0 a.ensures.ok _ is (Command.Help topic) (λ e. cc) in
+    let version : IsVersion words → ⊥ = another words a.field-0 a.ensures.ok _ is Command.Version (λ e. cc) in
     record {
       shown = λ settings w. absurd (show settings w);
       replayed = λ w. absurd (replay w);
@@ -280,6 +306,8 @@ returns-in-Ok-Some-Pair g c =
       listen_complete = λ settings w goes_well. absurd (listen settings w);
       paired = by;
       pair_complete = λ settings w is_runnable no_fault. runnable_complete settings run c.pair.result is_runnable no_fault (by settings w);
+      helped = λ topic w. absurd (help topic w);
+      versioned = λ w. absurd (version w);
       usage = λ one. absurd (paired_not a.settings c.pair.result run c.pair.ensures.paired one);
       send_lawful = λ settings w. absurd (send settings w);
       listen_lawful = λ settings w. absurd (listen settings w);
@@ -293,6 +321,8 @@ returns-in-Ok-Some-Pair g c =
       unread = λ none. absurd (some none);
       unlinked = λ settings w. refl;
       listen_unread = λ settings w. absurd (listen settings w);
+      asked_unread = λ topic w. absurd (not_asked words help version topic w);
+      asked_unlinked = λ topic w. absurd (not_asked words help version topic w);
       no_memory = λ settings w e no_elements. absurd (show settings w);
       reads = λ settings w. absurd (show settings w);
       replay_no_memory = λ w. absurd (replay w);
@@ -302,6 +332,116 @@ returns-in-Ok-Some-Pair g c =
       pair_no_memory = λ settings w. c.pair.ensures.unwritten;
       pair_unread = λ settings w. subst (λ (s : PairSettings). (s.seed ≡ None) ⊎ (c.pair.new.input ≡ c.args.input.now)) (same settings is w) c.pair.ensures.unread;
       pair_reads = λ settings w. c.pair.ensures.reads;
+    }
+
+pub returns-in-Ok-Some-Help : goal.returns-in-Ok-Some-Help
+returns-in-Ok-Some-Help g c =
+    let words = map string_bytes c.args.words.now in
+    let a = c.in-Ok-Some-Help in
+    let is : a.field-0 ≡ Some (Command.Help a.topic) = a.field-0-is ∙ ap Some a.field-0-0-is in
+    let show : (settings : Settings) → IsShow settings words → ⊥ = λ settings. another words a.field-0 a.ensures.ok _ is (Command.Show settings) (λ e. cc) in
+    let replay : IsReplay words → ⊥ = another words a.field-0 a.ensures.ok _ is Command.Replay (λ e. cc) in
+    let send : (settings : EndSettings) → IsSend settings words → ⊥ = λ settings. another words a.field-0 a.ensures.ok _ is (Command.Send settings) (λ e. cc) in
+    let listen : (settings : EndSettings) → IsListen settings words → ⊥ = λ settings. another words a.field-0 a.ensures.ok _ is (Command.Listen settings) (λ e. cc) in
+    let pair : (settings : PairSettings) → IsPair settings words → ⊥ = λ settings. another words a.field-0 a.ensures.ok _ is (Command.Pair settings) (λ e. cc) in
+    let some = some_command words a.field-0 a.ensures.ok _ is in
+    let version : IsVersion words → ⊥ = another words a.field-0 a.ensures.ok _ is Command.Version (λ e. cc) in
+    let run : Run = run_of (g.I.Source.state c.args.input.now) (g.I.Source.state c.args.input.now) (g.O.Sink.state c.args.output.now) (g.O.Sink.state c.tell.new.output) in
+    let by : Told (help_of a.topic) c.tell.result run = subst (λ (t : List ℕ). Told t c.tell.result run) c.help_text.ensures (c.tell.ensures (g.I.Source.state c.args.input.now)) in
+    record {
+      shown = λ settings w. absurd (show settings w);
+      replayed = λ w. absurd (replay w);
+      refused = λ none. absurd (some none);
+      complete = λ settings octets w left plain no_fault. absurd (show settings w);
+      replay_complete = λ octets w left is_lawful no_fault. absurd (replay w);
+      sent = λ settings w. absurd (send settings w);
+      listened = λ settings w. absurd (listen settings w);
+      listen_recorded = λ settings w recording. absurd (listen settings w);
+      listen_lines = λ settings w recording. absurd (listen settings w);
+      send_complete = λ settings w goes_well. absurd (send settings w);
+      listen_complete = λ settings w goes_well. absurd (listen settings w);
+      paired = λ settings w. absurd (pair settings w);
+      pair_complete = λ settings w is_runnable no_fault. absurd (pair settings w);
+      helped = λ topic w. subst (λ (t : Topic). Told (help_of t) c.tell.result run) (same_topic words a.field-0 a.ensures.ok a.topic topic is w) by;
+      versioned = λ w. absurd (version w);
+      usage = λ one. absurd (told_not _ c.tell.result _ (c.tell.ensures (g.I.Source.state c.args.input.now)) one);
+      send_lawful = λ settings w. absurd (send settings w);
+      listen_lawful = λ settings w. absurd (listen settings w);
+      dials = λ settings w. absurd (send settings w);
+      accepts = λ settings w. absurd (listen settings w);
+      send_given = λ settings w. absurd (send settings w);
+      listen_given = λ settings w. absurd (listen settings w);
+      shut = none_shut (seen_of (g.W.Wires.state c.args.wires.now) (g.W.Wires.counts c.args.wires.now) (g.W.Wires.asked c.args.wires.now) (g.W.Wires.lent c.args.wires.now));
+      send_link_reads = λ settings w. absurd (send settings w);
+      listen_link_reads = λ settings w. absurd (listen settings w);
+      unread = λ none. absurd (some none);
+      unlinked = λ settings w. refl;
+      listen_unread = λ settings w. absurd (listen settings w);
+      asked_unread = λ topic w. refl;
+      asked_unlinked = λ topic w. refl;
+      no_memory = λ settings w e no_elements. absurd (show settings w);
+      reads = λ settings w. absurd (show settings w);
+      replay_no_memory = λ w. absurd (replay w);
+      send_reads = λ settings w. absurd (send settings w);
+      replay_reads = λ w. absurd (replay w);
+      pair_unlinked = λ settings w. absurd (pair settings w);
+      pair_no_memory = λ settings w. absurd (pair settings w);
+      pair_unread = λ settings w. absurd (pair settings w);
+      pair_reads = λ settings w. absurd (pair settings w);
+    }
+
+pub returns-in-Ok-Some-Version : goal.returns-in-Ok-Some-Version
+returns-in-Ok-Some-Version g c =
+    let words = map string_bytes c.args.words.now in
+    let a = c.in-Ok-Some-Version in
+    let is : a.field-0 ≡ Some Command.Version = a.field-0-is ∙ ap Some a.field-0-0-is in
+    let show : (settings : Settings) → IsShow settings words → ⊥ = λ settings. another words a.field-0 a.ensures.ok _ is (Command.Show settings) (λ e. cc) in
+    let replay : IsReplay words → ⊥ = another words a.field-0 a.ensures.ok _ is Command.Replay (λ e. cc) in
+    let send : (settings : EndSettings) → IsSend settings words → ⊥ = λ settings. another words a.field-0 a.ensures.ok _ is (Command.Send settings) (λ e. cc) in
+    let listen : (settings : EndSettings) → IsListen settings words → ⊥ = λ settings. another words a.field-0 a.ensures.ok _ is (Command.Listen settings) (λ e. cc) in
+    let pair : (settings : PairSettings) → IsPair settings words → ⊥ = λ settings. another words a.field-0 a.ensures.ok _ is (Command.Pair settings) (λ e. cc) in
+    let some = some_command words a.field-0 a.ensures.ok _ is in
+    let help : (topic : Topic) → IsHelp topic words → ⊥ = λ topic. another words a.field-0 a.ensures.ok _ is (Command.Help topic) (λ e. cc) in
+    record {
+      shown = λ settings w. absurd (show settings w);
+      replayed = λ w. absurd (replay w);
+      refused = λ none. absurd (some none);
+      complete = λ settings octets w left plain no_fault. absurd (show settings w);
+      replay_complete = λ octets w left is_lawful no_fault. absurd (replay w);
+      sent = λ settings w. absurd (send settings w);
+      listened = λ settings w. absurd (listen settings w);
+      listen_recorded = λ settings w recording. absurd (listen settings w);
+      listen_lines = λ settings w recording. absurd (listen settings w);
+      send_complete = λ settings w goes_well. absurd (send settings w);
+      listen_complete = λ settings w goes_well. absurd (listen settings w);
+      paired = λ settings w. absurd (pair settings w);
+      pair_complete = λ settings w is_runnable no_fault. absurd (pair settings w);
+      helped = λ topic w. absurd (help topic w);
+      versioned = λ w. c.tell-in-Ok-Some-Version.ensures (g.I.Source.state c.args.input.now);
+      usage = λ one. absurd (told_not _ c.tell-in-Ok-Some-Version.result _ (c.tell-in-Ok-Some-Version.ensures (g.I.Source.state c.args.input.now)) one);
+      send_lawful = λ settings w. absurd (send settings w);
+      listen_lawful = λ settings w. absurd (listen settings w);
+      dials = λ settings w. absurd (send settings w);
+      accepts = λ settings w. absurd (listen settings w);
+      send_given = λ settings w. absurd (send settings w);
+      listen_given = λ settings w. absurd (listen settings w);
+      shut = none_shut (seen_of (g.W.Wires.state c.args.wires.now) (g.W.Wires.counts c.args.wires.now) (g.W.Wires.asked c.args.wires.now) (g.W.Wires.lent c.args.wires.now));
+      send_link_reads = λ settings w. absurd (send settings w);
+      listen_link_reads = λ settings w. absurd (listen settings w);
+      unread = λ none. absurd (some none);
+      unlinked = λ settings w. refl;
+      listen_unread = λ settings w. absurd (listen settings w);
+      asked_unread = λ topic w. refl;
+      asked_unlinked = λ topic w. refl;
+      no_memory = λ settings w e no_elements. absurd (show settings w);
+      reads = λ settings w. absurd (show settings w);
+      replay_no_memory = λ w. absurd (replay w);
+      send_reads = λ settings w. absurd (send settings w);
+      replay_reads = λ w. absurd (replay w);
+      pair_unlinked = λ settings w. absurd (pair settings w);
+      pair_no_memory = λ settings w. absurd (pair settings w);
+      pair_unread = λ settings w. absurd (pair settings w);
+      pair_reads = λ settings w. absurd (pair settings w);
     }
 
 pub returns-in-Ok-None : goal.returns-in-Ok-None
@@ -315,6 +455,8 @@ returns-in-Ok-None g c =
     let listen : (settings : EndSettings) → IsListen settings words → ⊥ = none_listen words a.field-0 a.ensures.ok is in
     let pair : (settings : PairSettings) → IsPair settings words → ⊥ = none_pair words a.field-0 a.ensures.ok is in
     let none = no_command words a.field-0 a.ensures.ok is in
+    let help : (topic : Topic) → IsHelp topic words → ⊥ = λ topic w. none (Command.Help topic) w in
+    let version : IsVersion words → ⊥ = λ w. none Command.Version w in
     record {
       shown = λ settings w. absurd (show settings w);
       replayed = λ w. absurd (replay w);
@@ -329,6 +471,8 @@ returns-in-Ok-None g c =
       listen_complete = λ settings w goes_well. absurd (listen settings w);
       paired = λ settings w. absurd (pair settings w);
       pair_complete = λ settings w is_runnable no_fault. absurd (pair settings w);
+      helped = λ topic w. absurd (help topic w);
+      versioned = λ w. absurd (version w);
       usage = λ one command w. none command w;
       send_lawful = λ settings w. absurd (send settings w);
       listen_lawful = λ settings w. absurd (listen settings w);
@@ -342,6 +486,8 @@ returns-in-Ok-None g c =
       unread = λ no_command. refl;
       unlinked = λ settings w. refl;
       listen_unread = λ settings w. absurd (listen settings w);
+      asked_unread = λ topic w. absurd (not_asked words help version topic w);
+      asked_unlinked = λ topic w. absurd (not_asked words help version topic w);
       no_memory = λ settings w e no_elements. absurd (show settings w);
       reads = λ settings w. absurd (show settings w);
       replay_no_memory = λ w. absurd (replay w);
@@ -372,11 +518,13 @@ returns-in-Err g c =
       listen_complete = λ settings w goes_well. inr refl;
       paired = λ settings w. absurd (of.not_pair settings w);
       pair_complete = λ settings w is_runnable no_fault. absurd (of.not_pair settings w);
+      helped = λ topic w. absurd (of.not_help topic w);
+      versioned = λ w. absurd (of.not_version w);
       usage = λ one. absurd (omega (arith, one));
       send_lawful = λ settings w. each_none (λ link. WhereKnown (IsLawfulOn (terms_by Role.Initiator settings)) link.log) seen seen refl;
       listen_lawful = λ settings w. each_none (λ link. WhereKnown (IsLawfulOn (terms_by Role.Listener settings)) link.log) seen seen refl;
-      dials = λ settings w. asks_none (IsDialOf settings) 1 (g.W.Wires.asked c.args.wires.now);
-      accepts = λ settings w. asks_none (IsAcceptOf settings) settings.sessions (g.W.Wires.asked c.args.wires.now);
+      dials = λ settings w. asks_none (IsDialOf settings _) 1 (g.W.Wires.asked c.args.wires.now);
+      accepts = λ settings w. asks_none (IsAcceptOf settings _) settings.sessions (g.W.Wires.asked c.args.wires.now);
       send_given = λ settings w. omega arith;
       listen_given = λ settings w. omega arith;
       shut = none_shut (seen_of (g.W.Wires.state c.args.wires.now) (g.W.Wires.counts c.args.wires.now) (g.W.Wires.asked c.args.wires.now) (g.W.Wires.lent c.args.wires.now));
@@ -385,6 +533,8 @@ returns-in-Err g c =
       unread = λ none. absurd (of.some none);
       unlinked = λ settings w. absurd (not_unlinked words of settings w);
       listen_unread = λ settings w. refl;
+      asked_unread = λ topic w. absurd (not_asked words of.not_help of.not_version topic w);
+      asked_unlinked = λ topic w. absurd (not_asked words of.not_help of.not_version topic w);
       no_memory = λ settings w e no_elements. absurd (of.not_show settings w);
       reads = λ settings w. absurd (of.not_show settings w);
       replay_no_memory = λ w. absurd (of.not_replay w);

@@ -9,10 +9,10 @@ use Rattle.beep_cmd.proofs.ShortLemmas.{lines-short}
 use Rattle.beep_cmd.proofs.send.send.Goals as goal
 
 pub returns-in_default-clause-asks : goal.returns-in_default-clause-asks
-returns-in_default-clause-asks g c = asks_none (IsDialOf c.args.settings.now) 1 (g.W.Wires.asked c.args.wires.now)
+returns-in_default-clause-asks g c = asks_none (IsDialOf c.args.settings.now _) 1 (g.W.Wires.asked c.args.wires.now)
 
 pub returns-clause-asks : goal.returns-clause-asks
-returns-clause-asks g c = asks_none (IsDialOf c.args.settings.now) 1 (g.W.Wires.asked c.args.wires.now)
+returns-clause-asks g c = asks_none (IsDialOf c.args.settings.now _) 1 (g.W.Wires.asked c.args.wires.now)
 
 pub returns-in-Ok-read_lines-clause-sent : goal.returns-in-Ok-read_lines-clause-sent
 returns-in-Ok-read_lines-clause-sent g c =

@@ -1,12 +1,7 @@
-use Rattle.beep_wires.specs.declared.count.TheConstants.{COUNT_MAX}
 use Rattle.beep_std.specs.Sockets.{socket_written}
-use Rattle.beep_std.proofs.PlaceLemmas.{set-changed, faults-where}
+use Rattle.beep_std.proofs.PlaceLemmas.{set-changed}
 use Rattle.beep_std.proofs.socket.write_at.Goals as goal
 
 pub returns-clause-after : goal.returns-clause-after
 returns-clause-after c =
     set-changed (socket_written c.write.result) c.args.links.now.items c.args.at c.index_mut.result.now _ c.requires c.index_mut.ensures.value c.write.ensures.after
-
-pub returns-clause-counts : goal.returns-clause-counts
-returns-clause-counts c =
-    faults-where c.write.result c.args.links.now.items c.args.at c.index_mut.result.now COUNT_MAX c.requires c.index_mut.ensures.value c.write.ensures.counts

@@ -1,11 +1,12 @@
 -- A turn of one end says what it says of it, and leaves the other.
-use Rattle.std.proofs.Common.{List, ℕ, ◌++◌, ◌∙◌, sym, subst, []}
+use Rattle.std.proofs.Common.{List, ℕ, ◌++◌, ◌∙◌, ap, sym, subst, []}
+use Rattle.beep_wires.specs.Links.{Link}
 use Rattle.beep_link.specs.Causes.{IsBounded, IsCaused, WhereKnown}
 use Rattle.beep_link.specs.declared.left.Reads.{Reads}
 use Rattle.turn_tests.specs.Shared.{IsShared}
 use Rattle.turn_tests.specs.Since.{IsSince, look_at}
 use Rattle.turn_tests.specs.Waits.{IsToldIdle, Waits}
-use Rattle.turn_tests.proofs.SharedLemmas.{going-beside, going-on, shared-none, shared-one, shared-other}
+use Rattle.turn_tests.proofs.SharedLemmas.{beside, going-beside, going-on, shared-none, shared-one, shared-other}
 use Rattle.turn_tests.proofs.SinceLemmas.{bounded-beside, bounded-on, since-beside, since-caused, since-on}
 use Rattle.turn_tests.proofs.WaitLemmas.{stood-beside, stood-on, waits-beside, waits-on}
 use Rattle.turn_tests.proofs.two.take_turns.Goals as goal
@@ -183,8 +184,11 @@ loop-ended-preserved g c =
       one_link = i.one_link;
       other_link = i.other_link;
       one_going = going-beside (W.state c.turn.new.wires) (W.state c.turn-in-loop-ended.new.wires) c.loop-ended.other.link c.args.other.now.link c.args.one.now.link c.loop-ended.one.reads c.turn.new.left i.other_link (λ e. c.requires.apart (sym e)) second.others
-          (going-on (W.state c.turn.new.wires) c.loop-ended.one.link c.args.one.now.link c.loop-ended.one.reads c.turn.new.left i.one_link first.still_open c.in_default.ensures.going c.in_default.ensures.shown);
-      other_going = going-on (W.state c.turn-in-loop-ended.new.wires) c.loop-ended.other.link c.args.other.now.link c.loop-ended.other.reads c.turn-in-loop-ended.new.left i.other_link second.still_open c.in_default-turn.ensures.going c.in_default-turn.ensures.shown;
+          (going-on (W.state c.turn.new.wires) c.loop-ended.one.link c.args.one.now.link c.loop-ended.one.reads c.turn.new.left i.one_link first.still_open c.in_default.ensures.going
+          (c.in_default.ensures.unfailed ∙ ap (λ (n : ℕ). (W.state c.loop-ended.wires n).faults) i.one_link ∙ i.one_going.unfailed) c.in_default.ensures.shown);
+      other_going = going-on (W.state c.turn-in-loop-ended.new.wires) c.loop-ended.other.link c.args.other.now.link c.loop-ended.other.reads c.turn-in-loop-ended.new.left i.other_link second.still_open c.in_default-turn.ensures.going
+          (c.in_default-turn.ensures.unfailed ∙ ap (λ (n : ℕ). (W.state c.turn.new.wires n).faults) i.other_link
+          ∙ ap (λ (l : Link). l.faults) (beside (W.state c.loop-ended.wires) (W.state c.turn.new.wires) c.loop-ended.one.link c.args.one.now.link c.args.other.now.link i.one_link c.requires.apart first.others) ∙ i.other_going.unfailed) c.in_default-turn.ensures.shown;
       one_reads = i.one_reads;
       other_reads = i.other_reads;
       one_since = λ before s.

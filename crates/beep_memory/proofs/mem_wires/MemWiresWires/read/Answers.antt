@@ -11,7 +11,7 @@ returns-clause-end c =
 
 pub returns-clause-failed : goal.returns-clause-failed
 returns-clause-failed c =
-    read-failed c.args.self.now c.read_link.new.self c.args.link c.args.buf.now c.read_link.new.buf c.requires.alive c.read_link.result c.read_link.ensures.reads
+    read-failed c.args.self.now c.read_link.new.self c.args.link c.args.buf.now c.read_link.new.buf c.requires.alive c.requires.unfailed c.read_link.result c.read_link.ensures.reads
 
 pub returns-clause-unfailed : goal.returns-clause-unfailed
 returns-clause-unfailed c =

@@ -11,7 +11,7 @@ returns-clause-end c =
 
 pub returns-clause-failed : goal.returns-clause-failed
 returns-clause-failed c =
-    write-failed c.args.self.now c.write_link.new.self c.args.link c.args.bytes.now c.requires.alive c.write_link.result c.write_link.ensures.writes
+    write-failed c.args.self.now c.write_link.new.self c.args.link c.args.bytes.now c.requires.alive c.requires.unfailed c.write_link.result c.write_link.ensures.writes
 
 pub returns-clause-unfailed : goal.returns-clause-unfailed
 returns-clause-unfailed c =

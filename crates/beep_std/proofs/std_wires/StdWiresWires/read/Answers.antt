@@ -8,13 +8,13 @@ pub returns-clause-end : goal.returns-clause-end
 returns-clause-end g c = read-end c.args.self.now c.read_link.new.self c.args.link c.requires.alive c.read_link.result c.read_link.ensures.after
 
 pub returns-clause-failed : goal.returns-clause-failed
-returns-clause-failed g c = read-failed c.args.self.now c.read_link.new.self c.args.link c.requires.alive c.read_link.result c.read_link.ensures.after
+returns-clause-failed g c = read-failed c.args.self.now c.read_link.new.self c.args.link c.requires.alive c.read_link.result c.read_link.ensures.after c.requires.unfailed
 
 pub returns-clause-unfailed : goal.returns-clause-unfailed
 returns-clause-unfailed g c = read-unfailed c.args.self.now c.read_link.new.self c.args.link c.requires.alive c.read_link.result c.read_link.ensures.after
 
 pub returns-clause-kept : goal.returns-clause-kept
-returns-clause-kept g c = read-kept c.args.self.now c.read_link.new.self c.args.link c.requires.alive c.read_link.result c.read_link.ensures.after c.read_link.ensures.counts
+returns-clause-kept g c = read-kept c.args.self.now c.read_link.new.self c.args.link c.requires.alive c.read_link.result c.read_link.ensures.after c.requires.unfailed
 
 pub returns-clause-counted : goal.returns-clause-counted
 returns-clause-counted g c = read-counted c.args.self.now c.read_link.new.self c.args.link c.requires.alive c.read_link.result c.read_link.ensures.after

@@ -8,13 +8,13 @@ pub returns-clause-end : goal.returns-clause-end
 returns-clause-end g c = write-end c.args.self.now c.write_link.new.self c.args.link c.requires.alive c.write_link.result c.write_link.ensures.after
 
 pub returns-clause-failed : goal.returns-clause-failed
-returns-clause-failed g c = write-failed c.args.self.now c.write_link.new.self c.args.link c.requires.alive c.write_link.result c.write_link.ensures.after
+returns-clause-failed g c = write-failed c.args.self.now c.write_link.new.self c.args.link c.requires.alive c.write_link.result c.write_link.ensures.after c.requires.unfailed
 
 pub returns-clause-unfailed : goal.returns-clause-unfailed
 returns-clause-unfailed g c = write-unfailed c.args.self.now c.write_link.new.self c.args.link c.requires.alive c.write_link.result c.write_link.ensures.after
 
 pub returns-clause-kept : goal.returns-clause-kept
-returns-clause-kept g c = write-kept c.args.self.now c.write_link.new.self c.args.link c.requires.alive c.write_link.result c.write_link.ensures.after c.write_link.ensures.counts
+returns-clause-kept g c = write-kept c.args.self.now c.write_link.new.self c.args.link c.requires.alive c.write_link.result c.write_link.ensures.after c.requires.unfailed
 
 pub returns-clause-counted : goal.returns-clause-counted
 returns-clause-counted g c = write-counted c.args.self.now c.write_link.new.self c.args.link c.requires.alive c.write_link.result c.write_link.ensures.after
