@@ -14,11 +14,10 @@ import tempfile
 import time
 from pathlib import Path
 
-TOP = Path(__file__).resolve().parent.parent
-BUILDS = TOP / "beep"
+from timed import program
 
-# The program itself: ./beep sums up all sources before it runs it, which takes as long as some of these runs.
-BEEP = TOP / "crates/beep/out/beep"
+# The program itself: ./beep looks at all sources before it runs it, which takes as long as some of these runs.
+BEEP = program()
 
 # The requests and replies of the generated schedule, and the lengths in its terms.
 ROWS = 1000
@@ -98,7 +97,6 @@ def seed_row(events, rounds):
 
 def main():
     rounds = int(sys.argv[1]) if len(sys.argv) > 1 else 5
-    subprocess.run([str(BUILDS), "show"], stdin=subprocess.DEVNULL, stdout=subprocess.DEVNULL, check=True)
     print("schedule   events       ms     events/s  parsing")
     seed_row(len(list(schedule(ROWS))) - 1, rounds)
     with tempfile.TemporaryDirectory() as folder:

@@ -24,8 +24,10 @@ import tempfile
 import time
 from pathlib import Path
 
+from timed import program
+
 TOP = Path(__file__).resolve().parent.parent
-PROGRAM = TOP / "crates/beep/out/beep"
+PROGRAM = program()
 
 # The octets of an input, and of each of its lines with the LF.
 SIZE = 16_000_000
@@ -71,11 +73,12 @@ def measure(words, lines, before=((), ())):
     got = lines.with_suffix(".got")
     with open(got, "wb") as output, open(lines, "rb") as source:
         used = processor()
-        collector = subprocess.Popen([*before[0], *words[0]], stdout=output, preexec_fn=own_processor(0))
+        collector = subprocess.Popen([*before[0], *words[0]], stdout=output, stderr=subprocess.DEVNULL,
+                                     preexec_fn=own_processor(0))
         # Until it has its port a sender fails at once.
         time.sleep(0.5)
         start = time.perf_counter()
-        subprocess.run([*before[1], *words[1]], stdin=source, stdout=subprocess.DEVNULL, check=True,
+        subprocess.run([*before[1], *words[1]], stdin=source, stdout=subprocess.DEVNULL, stderr=subprocess.DEVNULL, check=True,
                        preexec_fn=own_processor(1))
         if collector.wait() != 0:
             sys.exit("the collector fails")
@@ -119,7 +122,6 @@ def each(folder):
 
 def main():
     rounds = int(sys.argv[1]) if len(sys.argv) > 1 else 5
-    subprocess.run([TOP / "beep", "show"], stdin=subprocess.DEVNULL, stdout=subprocess.DEVNULL, check=True)
     with tempfile.TemporaryDirectory() as folder:
         pair = Path(folder) / "raw"
         subprocess.run(["gcc", "-O2", "-o", pair, TOP / "bench/raw.c"], check=True)

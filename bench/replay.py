@@ -14,11 +14,10 @@ import tempfile
 import time
 from pathlib import Path
 
-TOP = Path(__file__).resolve().parent.parent
-BUILDS = TOP / "beep"
+from timed import program
 
-# The program itself: ./beep sums up all sources before it runs it, which takes as long as some of these runs.
-BEEP = TOP / "crates/beep/out/beep"
+# The program itself: ./beep looks at all sources before it runs it, which takes as long as some of these runs.
+BEEP = program()
 
 # The octets of a record at most, and of a line; what a SEQ of the recorded end says; and the aim: `replay` over `show`.
 MOST = 16777216
@@ -169,7 +168,6 @@ def seconds_of(words, path):
 
 def main():
     rounds = int(sys.argv[1] if len(sys.argv) > 1 else 5)
-    subprocess.run([BUILDS, "show"], stdin=subprocess.DEVNULL, stdout=subprocess.DEVNULL, check=True)
     print(f"medians of {rounds} runs each")
     with tempfile.TemporaryDirectory() as name:
         record, stream = Path(name) / "session.record", Path(name) / "read.beep"

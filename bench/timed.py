@@ -1,9 +1,16 @@
-"""What bench/channel.py and bench/session.py share: a run that is timed, and the C program to which they compare."""
+"""What the scripts share: the program itself, a run that is timed, and the C program to which some of them compare."""
+import os
 import subprocess
 import time
 from pathlib import Path
 
 TOP = Path(__file__).resolve().parent.parent
+
+
+def program():
+    """The path of the program of these sources, which `./beep` builds where it isn't built."""
+    told = subprocess.run([TOP / "beep"], env={**os.environ, "BEEP_WHICH": "yes"}, stdout=subprocess.PIPE, check=True)
+    return told.stdout.decode().strip()
 
 
 def run(words):
